@@ -1,0 +1,4 @@
+pub mod Tests
+pub mod Members
+pub mod Counts
+pub mod Fills

@@ -1,0 +1,1 @@
+// Specifications and laws of lists and tests; no code.
