@@ -9,7 +9,7 @@ use native.Mathlib.Omega.{arith}
 use lib.Dec.{T, eqb}
 use lib.ListN.{length}
 use borrow.Author.Tests.{eqb-true, eq-eqb}
-use Rattle.lists.specs.Lists.{from, range, filterb, anyb, allb, memb}
+use Rattle.lists.specs.Lists.{firstOf, from, range, filterb, anyb, allb, memb}
 use Rattle.lists.proofs.Tests.{and-true, and-intro, or-true, or-left, or-right}
 
 module _ {ℓ} {A : Type ℓ} where
@@ -146,3 +146,11 @@ memb-snoc v (x ∷ xs) r = go (eqb v x) (memb-snoc v xs r)
         → (b || anyb (λ y. eqb v y) (xs ++ (r ∷ []))) ≡ (b || anyb (λ y. eqb v y) xs || eqb v r)
     go true ih = refl
     go false ih = ih
+
+-- ---- the first condition that holds
+
+-- none held: not this one, and none of the rest
+pub first-zero : (b : Bool) (k : ℕ) (cs : List (Bool × ℕ)) → firstOf ((b, suc k) ∷ cs) ≡ 0 → (b ≡ false) × (firstOf cs ≡ 0)
+unfolding firstOf
+first-zero true k cs e = absurd (lt-irrefl 0 (omega arith))
+first-zero false k cs e = (refl, e)

@@ -1,0 +1,14 @@
+pub mod Walks
+pub mod Distances
+pub mod Layers
+pub mod Insertion
+pub mod Metric
+pub mod Round
+pub mod Rounds
+pub mod Right
+pub mod OpeningCases
+pub mod Charts
+pub mod Opened
+pub mod Connected
+pub mod Searched
+pub mod Theorems

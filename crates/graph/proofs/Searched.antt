@@ -1,0 +1,144 @@
+-- References, marks and cover after a reckoning and after an opening, over metric spaces, whatever figures were stored. Assumes nothing.
+use mathlib.Core.Path.{_≡_, refl, sym, ap, _∙_}
+use mathlib.Core.Bool.{Bool, true, false, cond, _||_}
+use mathlib.Core.List.{List, [], _∷_, List·Memᴰ, Memᴰ·cast}
+use Prim.Native.Nat.{ℕ, _+_, _≤_, _<_, min, zero-le}
+use native.Mathlib.Nat.{le-refl, le-of-lt, lt-irrefl}
+use native.Mathlib.Omega.{arith}
+use lib.Dec.{eqb, ltb}
+use lib.ListN.{length}
+use borrow.Author.Tests.{eqb-true}
+use Rattle.lists.specs.Lists.{anyb, maxOf, memb}
+use Rattle.lists.proofs.Counts.{max-le-of, count-le-length, IsCounted, counted-nil, counted-snoc}
+use Rattle.graph.specs.Distance.{unreached}
+use Rattle.graph.specs.Chart.{Chart, ecc, Pairs, ownPairs}
+use Rattle.graph.specs.Rounds.{Status, waiting, skipped, searched, isWaiting, State, round, rounds, start, reckon}
+use Rattle.graph.specs.Opening.{shrank, via, stayingPairs, anyPair, shrunkCandidate, searchedOnce, openCase, opening}
+use Rattle.graph.proofs.Metric.{IsMetric, ecc-small}
+use Rattle.graph.proofs.Round.{Fine, Invariant, round-keeps}
+use Rattle.graph.proofs.Rounds.{waitingCount, rounds-right, final-cover, start-fine}
+
+-- where a depot stands, against the references
+abbrev pub StandsIn : Chart → List ℕ → ℕ → Status → Type 0
+StandsIn C refs v (waiting b g) = memb v refs ≡ false
+StandsIn C refs v (skipped b g) = (memb v refs ≡ false) × (memb g refs ≡ true) × (b ≡ ecc C g + C .distance g v)
+StandsIn C refs v (searched e) = (memb v refs ≡ true) × (e ≡ ecc C v)
+
+pub record ReferencesIn (C : Chart) (S : State) : Type 0 where
+  pub inside : (v : ℕ) → memb v (S .references) ≡ true → List·Memᴰ v (C .depots)
+  pub stands : (v : ℕ) → List·Memᴰ v (C .depots) → StandsIn C (S .references) v (S .status v)
+  pub counted : IsCounted (S .references)
+
+abbrev pub CoveredIn : Chart → State → Type 0
+CoveredIn C S =
+    (v : ℕ) → List·Memᴰ v (C .depots) → memb v (S .references) ≡ false
+    → (g : ℕ) × (memb g (S .references) ≡ true) × (ecc C g + C .distance g v < S .candidate)
+
+no-reference : (r : ℕ) → memb r [] ≡ false
+unfolding memb anyb
+no-reference r = refl
+
+start-free : (c r : ℕ) → memb r (start c .references) ≡ false
+unfolding start
+start-free c r = no-reference r
+
+one-reference : (a v : ℕ) → memb v (a ∷ []) ≡ eqb v a
+unfolding memb anyb
+one-reference a v = go (eqb v a)
+  where
+    go : (b : Bool) → (b || false) ≡ b
+    go true = refl
+    go false = refl
+
+-- ---- what the rounds leave
+
+module _ (C : Chart) (metric : IsMetric C) where
+  most : (v : ℕ) → C .isDestination v ≡ true → ecc C v ≤ unreached
+  most v t = le-of-lt (ecc-small C metric v (metric .inside v t))
+
+  settled-references : (S : State) → Invariant C metric unreached S → ReferencesIn C S
+  settled-references S I = record { inside = I .searchedInside; stands = λ v m. go v (S .status v) (I .fine v m); counted = I .counted }
+    where
+      go : (v : ℕ) (s : Status) → Fine C metric (S .candidate) (S .references) v s → StandsIn C (S .references) v s
+      go v (waiting b g) f = f .0
+      go v (skipped b g) f = (f .0, f .2 .0, f .2 .1)
+      go v (searched e) f = (f .0, f .1)
+
+  settled-cover : (S : State) → Invariant C metric unreached S → waitingCount C metric S ≡ 0 → CoveredIn C S
+  settled-cover S I z v m h = final-cover C metric unreached most (le-refl unreached) S I z v m h
+
+  -- ---- the whole reckoning
+
+  reckon-settled : Invariant C metric unreached (reckon C) × (waitingCount C metric (reckon C) ≡ 0)
+  unfolding reckon waitingCount
+  reckon-settled =
+      rounds-right C metric unreached most (le-refl unreached) (length (C .depots)) (start 0)
+      (start-fine C metric unreached most (le-refl unreached) 0 zero-le) (count-le-length (λ v. isWaiting (start 0 .status v)) (C .depots))
+
+  pub reckon-references : ReferencesIn C (reckon C)
+  reckon-references = settled-references (reckon C) (reckon-settled .0)
+
+  pub reckon-cover : CoveredIn C (reckon C)
+  reckon-cover = settled-cover (reckon C) (reckon-settled .0) (reckon-settled .1)
+
+  -- ---- an opening
+
+  module _ (a : ℕ) (new : C .isDestination a ≡ true) (D : ℕ) (small : D ≤ unreached) (P : Pairs) where
+    in-a : List·Memᴰ a (C .depots)
+    in-a = metric .inside a new
+
+    candidate-small : shrunkCandidate C a D P ≤ unreached
+    unfolding shrunkCandidate
+    candidate-small =
+        max-le-of (λ u. maxOf (λ v. cond (P u v) (min D (via C a u v)) 0) (C .depots)) (C .depots) unreached
+        (λ u mu. max-le-of (λ v. cond (P u v) (min D (via C a u v)) 0) (C .depots) unreached (λ v mv. go u v (P u v)))
+      where
+        go : (u v : ℕ) (b : Bool) → cond b (min D (via C a u v)) 0 ≤ unreached
+        go u v false = zero-le
+        go u v true = omega (arith, small)
+
+    shrunk : State
+    shrunk = rounds C (length (C .depots)) (round C a (start (shrunkCandidate C a D P)))
+
+    shrunk-settled : Invariant C metric unreached shrunk × (waitingCount C metric shrunk ≡ 0)
+    unfolding shrunk waitingCount
+    shrunk-settled =
+        let S = start (shrunkCandidate C a D P) in
+        let I = start-fine C metric unreached most (le-refl unreached) (shrunkCandidate C a D P) candidate-small in
+        let J = round-keeps C metric S a in-a unreached I most (le-refl unreached) (start-free (shrunkCandidate C a D P) a) in
+        rounds-right C metric unreached most (le-refl unreached) (length (C .depots)) (round C a S) J (count-le-length (λ v. isWaiting (round C a S .status v)) (C .depots))
+
+    once-references : (c : ℕ) (Q : Pairs) → ReferencesIn C (searchedOnce C a c Q)
+    unfolding searchedOnce
+    once-references c Q = record {
+      inside = λ v h. Memᴰ·cast (eqb-true v a (sym (one-reference a v) ∙ h)) in-a;
+      stands = λ v m. go v (eqb v a) refl;
+      counted = counted-snoc [] a counted-nil (no-reference a);
+    }
+      where
+        go : (v : ℕ) (b : Bool) → eqb v a ≡ b → StandsIn C (a ∷ []) v (cond b (searched (ecc C a)) (waiting unreached 0))
+        go v true h = (one-reference a v ∙ h, ap (ecc C) (sym (eqb-true v a h)))
+        go v false h = one-reference a v ∙ h
+
+    pub opening-references : ReferencesIn C (opening C a D P .final)
+    unfolding opening openCase shrunk
+    opening-references = go (ltb D (ecc C a)) (eqb (ecc C a) D) (anyPair (C .depots) (stayingPairs C a D P))
+      where
+        go : (b s k : Bool) → ReferencesIn C (openCase b s k C a D P .final)
+        go true s k = once-references (ecc C a) (ownPairs C a (ecc C a))
+        go false true k = once-references D (λ u v. stayingPairs C a D P u v || ownPairs C a D u v)
+        go false false true = once-references D (stayingPairs C a D P)
+        go false false false = settled-references shrunk (shrunk-settled .0)
+
+    pub opening-cover : opening C a D P .change ≡ shrank → CoveredIn C (opening C a D P .final)
+    unfolding opening openCase shrunk
+    opening-cover = go (ltb D (ecc C a)) (eqb (ecc C a) D) (anyPair (C .depots) (stayingPairs C a D P))
+      where
+        never : {A : Type 0} → _≡_ {A = ℕ} 0 1 → A
+        never z = absurd (lt-irrefl 0 (omega arith))
+
+        go : (b s k : Bool) → openCase b s k C a D P .change ≡ shrank → CoveredIn C (openCase b s k C a D P .final)
+        go true s k q = never (cc)
+        go false true k q = never (cc)
+        go false false true q = never (cc)
+        go false false false q = settled-cover shrunk (shrunk-settled .0) (shrunk-settled .1)

@@ -1,0 +1,144 @@
+-- THE WORKED CASES of document 01 over networks, computed by the checker (`refl`): the empty map, the single map and the path of seven
+-- reckoned, and the seven stream lines. Assumes nothing.
+use mathlib.Core.Path.{_≡_, refl}
+use mathlib.Core.Bool.{false, cond, _&&_, _||_}
+use mathlib.Core.List.{List, [], _∷_, _++_}
+use Prim.Native.Nat.{ℕ, zero, suc}
+use lib.Dec.{eqb, ltb}
+use lib.ListN.{length}
+use Rattle.lists.specs.Lists.{mapl, firstOf}
+use Rattle.graph.specs.Network.{Network}
+use Rattle.graph.specs.Distance.{vertices}
+use Rattle.graph.specs.Chart.{chart, Pairs, countPairs}
+use Rattle.graph.specs.Rounds.{markOf, boundOf, State, reckon}
+use Rattle.graph.specs.Opening.{Notice, emptyNetwork, addDepot, noticeFaults, Change, grew, kept, shrank, Opened, opening}
+
+-- the pairs as a list
+unfoldable pub pairList : List ℕ → Pairs → List (ℕ × ℕ)
+pairList vs P = over vs
+  where
+    row : ℕ → List ℕ → List (ℕ × ℕ)
+    row u [] = []
+    row u (v ∷ ws) = let r = row u ws in cond (P u v) ((u, v) ∷ r) r
+
+    over : List ℕ → List (ℕ × ℕ)
+    over [] = []
+    over (u ∷ us) = row u vs ++ over us
+
+-- ---- the whole reckoning
+
+-- the path 0-1-..-(k - 1), among 256 codes
+unfoldable pub path : ℕ → Network
+path k = record { limit = 256; isOpen = λ c. ltb c k; linked = λ u v. ltb u k && ltb v k && (eqb (suc u) v || eqb u (suc v)) }
+
+-- references in order; marks and bounds of the open depots; chain; pairs
+pub record Reckoning : Type 0 where
+  pub references : List ℕ
+  pub marks : List ℕ
+  pub bounds : List ℕ
+  pub chain : ℕ
+  pub pairs : List (ℕ × ℕ)
+
+unfoldable pub reckoning : Network → Reckoning
+unfolding chart reckon mapl pairList vertices
+reckoning G =
+    let S = reckon (chart G) in
+    let vs = vertices G in
+    record {
+      references = S .references;
+      marks = mapl (λ v. markOf 256 257 (S .status v)) vs;
+      bounds = mapl (λ v. boundOf (S .status v)) vs;
+      chain = S .candidate;
+      pairs = pairList vs (S .pairs);
+    }
+
+-- ---- the seven stream lines
+
+-- letter (ASCII: G K S, or R) and refusal; depots open, chain, pair count, searches of the call; the pairs themselves
+pub record Line : Type 0 where
+  pub letter : ℕ
+  pub refusal : ℕ
+  pub number : ℕ
+  pub chain : ℕ
+  pub count : ℕ
+  pub searches : ℕ
+  pub pairs : List (ℕ × ℕ)
+
+unfoldable pub letterOf : Change → ℕ
+letterOf grew = 71
+letterOf kept = 75
+letterOf shrank = 83
+
+-- a map without words: the network with its figures
+pub record Figured : Type 0 where
+  pub net : Network
+  pub chain : ℕ
+  pub pairs : Pairs
+
+unfoldable pub lineFor : ℕ → ℕ → ℕ → Figured → Line
+unfolding vertices countPairs pairList
+lineFor l k s M =
+    let vs = vertices (M .net) in
+    record { letter = l; refusal = k; number = length vs; chain = M .chain; count = countPairs vs (M .pairs); searches = s; pairs = pairList vs (M .pairs) }
+
+-- the map after a notice, with its line; k is its refusal, 0 if it is accepted
+unfoldable pub followOne : ℕ → Figured → Notice → Figured × Line
+unfolding addDepot chart opening lineFor letterOf
+followOne zero M o =
+    let H = addDepot (M .net) (o .code) (o .neighbours) in
+    let x = opening (chart H) (o .code) (M .chain) (M .pairs) in
+    let N : Figured = record { net = H; chain = x .final .candidate; pairs = x .final .pairs } in
+    (N, lineFor (letterOf (x .change)) 0 (length (x .final .references)) N)
+followOne (suc k) M o = (M, lineFor 82 (suc k) 0 M)
+
+unfoldable pub followAll : Figured → List Notice → List Line
+unfolding followOne firstOf noticeFaults
+followAll M [] = []
+followAll M (o ∷ os) = let r = followOne (firstOf (noticeFaults (M .net) o)) M o in r .1 ∷ followAll (r .0) os
+
+unfoldable pub noDepot : Figured
+unfolding emptyNetwork
+noDepot = record { net = emptyNetwork 256; chain = 0; pairs = λ u v. false }
+
+abbrev pub sevenLines : List Notice
+sevenLines =
+    record { code = 0; neighbours = [] }
+    ∷ record { code = 1; neighbours = 0 ∷ [] }
+    ∷ record { code = 2; neighbours = 1 ∷ [] }
+    ∷ record { code = 3; neighbours = 2 ∷ [] }
+    ∷ record { code = 4; neighbours = 3 ∷ [] }
+    ∷ record { code = 5; neighbours = 0 ∷ 2 ∷ 4 ∷ [] }
+    ∷ record { code = 5; neighbours = 0 ∷ 2 ∷ 4 ∷ [] }
+    ∷ []
+
+-- THE TABLE
+pub record Cases : Type 0 where
+  pub empty : Reckoning
+  pub single : Reckoning
+  pub seven : Reckoning
+  pub stream : List Line
+
+pub cases : _≡_ {A = Cases}
+    (record { empty = reckoning (path 0); single = reckoning (path 1); seven = reckoning (path 7); stream = followAll noDepot sevenLines })
+    (record {
+      empty = record { references = []; marks = []; bounds = []; chain = 0; pairs = [] };
+      single = record { references = 0 ∷ []; marks = 256 ∷ []; bounds = 0 ∷ []; chain = 0; pairs = [] };
+      seven = record {
+        references = 1 ∷ 2 ∷ 3 ∷ 5 ∷ 0 ∷ 6 ∷ [];
+        marks = 256 ∷ 256 ∷ 256 ∷ 256 ∷ 3 ∷ 256 ∷ 256 ∷ [];
+        bounds = 6 ∷ 5 ∷ 4 ∷ 3 ∷ 4 ∷ 5 ∷ 6 ∷ [];
+        chain = 6;
+        pairs = (0, 6) ∷ [];
+      };
+      stream =
+          record { letter = 75; refusal = 0; number = 1; chain = 0; count = 0; searches = 1; pairs = [] }
+          ∷ record { letter = 71; refusal = 0; number = 2; chain = 1; count = 1; searches = 1; pairs = (0, 1) ∷ [] }
+          ∷ record { letter = 71; refusal = 0; number = 3; chain = 2; count = 1; searches = 1; pairs = (0, 2) ∷ [] }
+          ∷ record { letter = 71; refusal = 0; number = 4; chain = 3; count = 1; searches = 1; pairs = (0, 3) ∷ [] }
+          ∷ record { letter = 71; refusal = 0; number = 5; chain = 4; count = 1; searches = 1; pairs = (0, 4) ∷ [] }
+          ∷ record { letter = 83; refusal = 0; number = 6; chain = 3; count = 2; searches = 6; pairs = (0, 3) ∷ (1, 4) ∷ [] }
+          ∷ record { letter = 82; refusal = 5; number = 6; chain = 3; count = 2; searches = 0; pairs = (0, 3) ∷ (1, 4) ∷ [] }
+          ∷ [];
+    })
+unfolding reckoning path followAll noDepot
+cases = refl

@@ -1,0 +1,70 @@
+-- WHAT IS PROVED of the steps above, by the published words of Network.antt. The theorems stand in proofs/Theorems.antt:
+-- `reckoning-correct`, `opening-correct` (on true stored figures) and `opening-covered` (on any stored figures).
+-- Assumes nothing.
+use mathlib.Core.Path.{_≡_}
+use mathlib.Core.Bool.{not}
+use mathlib.Core.List.{List}
+use Prim.Native.Nat.{ℕ, _+_, _≤_, _<_}
+use lib.Dec.{T}
+use lib.ListN.{length}
+use Rattle.lists.specs.Lists.{countb, memb}
+use Rattle.graph.specs.Network.{Network, IsSound, IsConnected, IsDist, IsEcc, AreTrue}
+use Rattle.graph.specs.Distance.{vertices, unreached}
+use Rattle.graph.specs.Rounds.{Status, waiting, skipped, searched, State}
+use Rattle.graph.specs.Opening.{Change, grew, kept, shrank, Opened}
+
+-- A network that a map can hold. The limit keeps distances below the mark of a closed code.
+pub record IsNet (G : Network) : Type 0 where
+  pub sound : IsSound G
+  pub connected : IsConnected G
+  pub small : G .limit < unreached
+
+-- v is covered: a searched depot's eccentricity, plus the distance between them, is below the chain
+pub record IsCovered (G : Network) (references : List ℕ) (chain v : ℕ) : Type 0 where
+  pub reference : ℕ
+  pub isReference : T (memb reference references)
+  pub ecc : ℕ
+  pub isEcc : IsEcc G (G .isOpen) reference ecc
+  pub distance : ℕ
+  pub isDist : IsDist G reference v distance
+  pub below : ecc + distance < chain
+
+-- where the depot v stands, against the references: the searched have their eccentricity; a skipped one has a bound that a reference gave
+abbrev pub Stands : Network → List ℕ → ℕ → Status → Type 0
+Stands G references v (waiting b g) = T (not (memb v references))
+Stands G references v (skipped b g) =
+    T (not (memb v references)) × T (memb g references) × ((e : ℕ) × (d : ℕ) × IsEcc G (G .isOpen) g e × IsDist G g v d × (b ≡ e + d))
+Stands G references v (searched e) = T (memb v references) × IsEcc G (G .isOpen) v e
+
+-- the references of a state: open depots, none twice, marked exactly as searched
+pub record AreReferences (G : Network) (S : State) : Type 0 where
+  pub inside : (v : ℕ) → T (memb v (S .references)) → T (G .isOpen v)
+  pub distinct : length (S .references) ≡ countb (λ v. memb v (S .references)) (vertices G)
+  pub stands : (v : ℕ) → T (G .isOpen v) → Stands G (S .references) v (S .status v)
+
+-- every depot that was not searched is covered
+abbrev pub AllCovered : Network → State → Type 0
+AllCovered G S = (v : ℕ) → T (G .isOpen v) → T (not (memb v (S .references))) → IsCovered G (S .references) (S .candidate) v
+
+-- a whole reckoning
+pub record IsReckoned (G : Network) (S : State) : Type 0 where
+  pub figures : AreTrue G (G .isOpen) (S .candidate) (S .pairs)
+  pub references : AreReferences G S
+  pub cover : AllCovered G S
+
+-- how the letter says that the chain moved from D to E
+abbrev pub Moved : Change → ℕ → ℕ → Type 0
+Moved grew D E = D < E
+Moved kept D E = D ≡ E
+Moved shrank D E = E < D
+
+-- an opening, H being the network with the new depot: its references, and the cover after a shrink (whatever figures were stored)
+pub record IsSearched (H : Network) (o : Opened) : Type 0 where
+  pub references : AreReferences H (o .final)
+  pub cover : o .change ≡ shrank → AllCovered H (o .final)
+
+-- an opening on a map whose chain D was true
+pub record IsOpened (H : Network) (D : ℕ) (o : Opened) : Type 0 where
+  pub figures : AreTrue H (H .isOpen) (o .final .candidate) (o .final .pairs)
+  pub change : Moved (o .change) D (o .final .candidate)
+  pub searched : IsSearched H o

@@ -1,0 +1,15 @@
+-- The network of depots, in graph theory's words. Order of reading:
+-- 1. what the words mean: network, walk, distance, eccentricity, diameter, farthest pairs. A reader must believe this file
+pub mod Network
+-- 2. distances computed: breadth-first search
+pub mod Distance
+-- 3. what the reference rounds need of a network, and its figures computed
+pub mod Chart
+-- 4. the reference rounds and the whole reckoning
+pub mod Rounds
+-- 5. the opening of a depot
+pub mod Opening
+-- 6. what is proved of 2 to 5, by the words of 1
+pub mod Correct
+-- 7. document 01's worked cases, computed
+pub mod Cases

@@ -1,0 +1,101 @@
+-- THE OPENING OF A DEPOT, by document 01 ('Opening a depot'), over the network itself: no word, no table.
+-- Assumes nothing.
+use mathlib.Core.Bool.{Bool, true, false, cond, not, _&&_, _||_}
+use mathlib.Core.List.{List, [], _∷_}
+use Prim.Native.Nat.{ℕ, _+_, min}
+use lib.Dec.{eqb, ltb}
+use lib.ListN.{length}
+use Rattle.lists.specs.Lists.{anyb, allb, maxOf, memb}
+use Rattle.graph.specs.Network.{Network}
+use Rattle.graph.specs.Distance.{vertices, unreached}
+use Rattle.graph.specs.Chart.{Chart, ecc, Pairs, ownPairs}
+use Rattle.graph.specs.Rounds.{waiting, searched, State, round, rounds, start}
+
+-- ---- notices
+
+pub record Notice : Type 0 where
+  pub code : ℕ
+  pub neighbours : List ℕ
+
+unfoldable pub emptyNetwork : ℕ → Network
+emptyNetwork n = record { limit = n; isOpen = λ c. false; linked = λ u v. false }
+
+-- the network with the depot a and its links to ns
+unfoldable pub addDepot : Network → ℕ → List ℕ → Network
+unfolding memb
+addDepot G a ns = record {
+  limit = G .limit;
+  isOpen = λ c. eqb c a || G .isOpen c;
+  linked = λ u v. (eqb u a && memb v ns) || (eqb v a && memb u ns) || G .linked u v;
+}
+
+unfoldable pub strictlyRising : List ℕ → Bool
+strictlyRising [] = true
+strictlyRising (x ∷ []) = true
+strictlyRising (x ∷ y ∷ ys) = ltb x y && strictlyRising (y ∷ ys)
+
+unfoldable pub isEmpty : List ℕ → Bool
+isEmpty [] = true
+isEmpty (x ∷ xs) = false
+
+-- the conditions 5 to 8 of document 01's table, each with its number: taken, lonely, unsorted, unknown
+unfoldable pub noticeFaults : Network → Notice → List (Bool × ℕ)
+unfolding isEmpty vertices strictlyRising allb
+noticeFaults G o =
+    (G .isOpen (o .code), 5)
+    ∷ (isEmpty (o .neighbours) && not (isEmpty (vertices G)), 6)
+    ∷ (not (strictlyRising (o .neighbours)), 7)
+    ∷ (not (allb (G .isOpen) (o .neighbours)), 8)
+    ∷ []
+
+-- ---- what an accepted opening does
+
+-- how the chain moved
+pub data Change : Type 0 where
+  grew kept shrank : Change
+
+-- what an opening leaves: how the chain moved, and the rounds' state (chain, pairs, marks, references)
+pub record Opened : Type 0 where
+  pub change : Change
+  pub final : State
+
+-- the length of the way from u to v through a
+unfoldable pub via : Chart → ℕ → ℕ → ℕ → ℕ
+via C a u v = C .distance a u + C .distance a v
+
+-- "drop each stored pair (v,w) with d(v,a) + d(w,a) < D": the stored pairs that stay
+unfoldable pub stayingPairs : Chart → ℕ → ℕ → Pairs → Pairs
+unfolding via
+stayingPairs C a D P u v = P u v && not (ltb (via C a u v) D)
+
+unfoldable pub anyPair : List ℕ → Pairs → Bool
+unfolding anyb
+anyPair vs P = anyb (λ u. anyb (λ v. P u v) vs) vs
+
+-- "the greatest, over the stored pairs, of the smaller of D and d(v,a) + d(w,a), or 0 without pairs"
+unfoldable pub shrunkCandidate : Chart → ℕ → ℕ → Pairs → ℕ
+unfolding via maxOf
+shrunkCandidate C a D P = maxOf (λ u. maxOf (λ v. cond (P u v) (min D (via C a u v)) 0) (C .depots)) (C .depots)
+
+-- a call that searched from a alone, with the chain c and the pairs Q
+unfoldable pub searchedOnce : Chart → ℕ → ℕ → Pairs → State
+unfolding ecc
+searchedOnce C a c Q = record {
+  candidate = c;
+  pairs = Q;
+  status = λ v. cond (eqb v a) (searched (ecc C a)) (waiting unreached 0);
+  references = a ∷ [];
+}
+
+-- by the three tests: e(a) > D; e(a) = D; a stored pair stays
+unfoldable pub openCase : Bool → Bool → Bool → Chart → ℕ → ℕ → Pairs → Opened
+unfolding ecc ownPairs stayingPairs shrunkCandidate searchedOnce round rounds start
+openCase true same stays C a D P = record { change = grew; final = searchedOnce C a (ecc C a) (ownPairs C a (ecc C a)) }
+openCase false true stays C a D P = record { change = kept; final = searchedOnce C a D (λ u v. stayingPairs C a D P u v || ownPairs C a D u v) }
+openCase false false true C a D P = record { change = kept; final = searchedOnce C a D (stayingPairs C a D P) }
+openCase false false false C a D P = record { change = shrank; final = rounds C (length (C .depots)) (round C a (start (shrunkCandidate C a D P))) }
+
+-- Opening a: C is the chart with a in place, D and P the chain and the pairs that were stored.
+unfoldable pub opening : Chart → ℕ → ℕ → Pairs → Opened
+unfolding openCase anyPair stayingPairs ecc
+opening C a D P = openCase (ltb D (ecc C a)) (eqb (ecc C a) D) (anyPair (C .depots) (stayingPairs C a D P)) C a D P
