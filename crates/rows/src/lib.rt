@@ -1,0 +1,151 @@
+ghost use mathlib.Core.Path.{_≡_};
+ghost use mathlib.Core.Bool.{true, false, not, _&&_, _||_};
+ghost use Prim.Native.Nat.{_+_, _*_, _^_, _<_, _≤_};
+ghost use lib.ListN.{length};
+ghost use Rattle.lists.specs.Lists.{range, countb, anyb, overwrite};
+ghost use Rattle.rows.specs.Rows.{rowBit, tableBit, encodeRow, putBit, InTable};
+ghost use Rattle.rows.specs.Next.{NextIs};
+
+// ---- one bit of a table
+
+// Whether v is a member of row u.
+pub fn row_test(t: &[u64], words: usize, u: usize, v: usize) -> bool
+    requires { ⌜ InTable words (now t) u v ⌝ }
+    ensures { λ r. ⌜ r ≡ tableBit words (now (t .entry)) u v ⌝ }
+{
+    let i = words * u + v / 64;
+    words::test(t[i], v % 64)
+}
+
+// Puts v into row u.
+pub fn row_set(t: &mut [u64], words: usize, u: usize, v: usize)
+    requires { ⌜ InTable words (now t) u v ⌝ }
+    ensures { λ r. ⌜ now (t .exit) ≡ putBit words u v true (now (t .entry)) ⌝ }
+{
+    let i = words * u + v / 64;
+    let w = t[i];
+    t[i] = words::with_bit(w, v % 64);
+}
+
+// Takes v out of row u.
+pub fn row_clear(t: &mut [u64], words: usize, u: usize, v: usize)
+    requires { ⌜ InTable words (now t) u v ⌝ }
+    ensures { λ r. ⌜ now (t .exit) ≡ putBit words u v false (now (t .entry)) ⌝ }
+{
+    let i = words * u + v / 64;
+    let w = t[i];
+    t[i] = words::without_bit(w, v % 64);
+}
+
+// ---- the members of a row
+
+// How many members row u of a table has. The bound on words keeps the sum in a usize.
+pub fn degree(t: &[u64], words: usize, u: usize) -> usize
+    requires { ⌜ (words * u + words ≤ length (now t)) × (u < 64 * words) × (words < 2 ^ 32) ⌝ }
+    ensures { λ r. ⌜ r ≡ countb (tableBit words (now (t .entry)) u) (range (64 * words)) ⌝ }
+{
+    let base = words * u;
+    let mut sum: usize = 0;
+    let mut j = 0;
+    while j < words {
+        sum += words::count(t[base + j]) as usize;
+        j += 1;
+    }
+    sum
+}
+
+// A member of a row, or none.
+pub enum Next {
+    At(usize),
+    Nothing,
+}
+
+// The least member of a row that is at or past from. The bound on words keeps its number in a usize.
+pub fn next_member(row: &[u64], words: usize, from: usize) -> Next
+    requires { ⌜ (words ≤ length (now row)) × (words < 2 ^ 32) ⌝ }
+    ensures { λ r. ⌜ NextIs words (now (row .entry)) from r ⌝ }
+{
+    let i = from / 64;
+    if words <= i {
+        return Next::Nothing;
+    }
+    let w = row[i] >> (from % 64);
+    if w != 0 {
+        return Next::At(from + words::least(w));
+    }
+    let mut j = i + 1;
+    while j < words {
+        let x = row[j];
+        if x != 0 {
+            return Next::At(64 * j + words::least(x));
+        }
+        j += 1;
+    }
+    Next::Nothing
+}
+
+// Whether a row has no member.
+pub fn is_empty(row: &[u64], words: usize) -> bool
+    requires { ⌜ words ≤ length (now row) ⌝ }
+    ensures { λ r. ⌜ r ≡ not (anyb (rowBit words (now (row .entry))) (range (64 * words))) ⌝ }
+{
+    let mut j = 0;
+    while j < words {
+        if row[j] != 0 {
+            return false;
+        }
+        j += 1;
+    }
+    true
+}
+
+// ---- a row as a set
+
+// Takes every member out of a row.
+pub fn clear(row: &mut [u64], words: usize)
+    requires { ⌜ words ≤ length (now row) ⌝ }
+    ensures { λ r. ⌜ now (row .exit) ≡ overwrite (encodeRow words (λ v. false)) (now (row .entry)) ⌝ }
+{
+    let mut j = 0;
+    while j < words {
+        row[j] = 0;
+        j += 1;
+    }
+}
+
+// Makes a row's members those of another.
+pub fn copy(to: &mut [u64], from: &[u64], words: usize)
+    requires { ⌜ (words ≤ length (now to)) × (words ≤ length (now from)) ⌝ }
+    ensures { λ r. ⌜ now (to .exit) ≡ overwrite (encodeRow words (rowBit words (now (from .entry)))) (now (to .entry)) ⌝ }
+{
+    let mut j = 0;
+    while j < words {
+        to[j] = from[j];
+        j += 1;
+    }
+}
+
+// Adds the members of row u of a table to a row: the union.
+pub fn add_row(row: &mut [u64], t: &[u64], words: usize, u: usize)
+    requires { ⌜ (words ≤ length (now row)) × (words * u + words ≤ length (now t)) × (u < 64 * words) ⌝ }
+    ensures { λ r. ⌜ now (row .exit) ≡ overwrite (encodeRow words (λ v. rowBit words (now (row .entry)) v || tableBit words (now (t .entry)) u v)) (now (row .entry)) ⌝ }
+{
+    let base = words * u;
+    let mut j = 0;
+    while j < words {
+        row[j] = row[j] | t[base + j];
+        j += 1;
+    }
+}
+
+// Takes the members of another row out of a row: the difference.
+pub fn remove_row(row: &mut [u64], other: &[u64], words: usize)
+    requires { ⌜ (words ≤ length (now row)) × (words ≤ length (now other)) ⌝ }
+    ensures { λ r. ⌜ now (row .exit) ≡ overwrite (encodeRow words (λ v. rowBit words (now (row .entry)) v && not (rowBit words (now (other .entry)) v))) (now (row .entry)) ⌝ }
+{
+    let mut j = 0;
+    while j < words {
+        row[j] = row[j] & !other[j];
+        j += 1;
+    }
+}
