@@ -1,0 +1,51 @@
+-- `layers::fill` meets its contract. The loop's invariant: the first v places hold x, and the others are as they were. The measure is the places left.
+-- Assumes nothing.
+use mathlib.Core.Path.{_≡_, refl, sym, ap, _∙_, subst}
+use mathlib.Core.List.{List}
+use Prim.Native.Nat.{ℕ, _-_, _≤_}
+use native.Mathlib.Omega.{arith}
+use native.Mathlib.Nat.{le-antisymm}
+use lib.ListN.{length, set, length-set}
+use borrow.Author.Needs.{needs}
+use Rattle.lists.specs.Lists.{range, mapl, overwrite}
+use Rattle.lists.proofs.Fills.{fill-none, fill-more, fill-length}
+use Rattle.layers.proofs.fill.Statement.{statement}
+use Rattle.layers.proofs.fill.Tie as tie
+
+abbrev Inv-loop : tie.InvT-loop
+Inv-loop table₀ n x v₀ table v = (v ≤ n) × (table ≡ overwrite (mapl (λ i. x) (range v)) table₀) × (length table ≡ length table₀)
+
+abbrev μ-loop : tie.MeasureT-loop
+μ-loop table₀ n x v₀ table v = n - v
+
+loop-holds : tie.Need-loop-holds Inv-loop μ-loop
+loop-holds c = (omega arith, sym (fill-none _ _), refl)
+
+mul-table : tie.Need-mul-table Inv-loop μ-loop
+mul-table c = search needs
+
+slice-write-table : tie.Need-slice-write-table Inv-loop μ-loop
+slice-write-table c = search needs
+
+add-v : tie.Need-add-v Inv-loop μ-loop
+add-v c = search needs
+
+loop-less : tie.Need-loop-less Inv-loop μ-loop
+loop-less c = search needs
+
+loop-again : tie.Need-loop-again Inv-loop μ-loop
+loop-again c =
+    let i = c .before .loop .inv in
+    (omega arith, ap (λ (l : List ℕ). set l (c .before .loop .v) (c .before .before .args .x)) (i .1) ∙ fill-more _ _ _ (omega arith), simp length-set (i .2))
+
+same-length : tie.Need-same-length Inv-loop μ-loop
+same-length c = search needs
+
+returns : tie.Need-returns Inv-loop μ-loop
+returns c =
+    let i = c .before .loop .inv in
+    let e : c .before .loop .v ≡ c .before .before .args .n = le-antisymm (i .0) (c .loop-test .left) in
+    i .1 ∙ ap (λ (m : ℕ). overwrite (mapl (λ k. c .before .before .args .x) (range m)) (c .before .before .args .table .now)) e
+
+pub fill-spec : {M : Type 1} → statement M
+fill-spec = tie.close (tie.spec Inv-loop μ-loop loop-holds mul-table slice-write-table add-v loop-less loop-again same-length returns)

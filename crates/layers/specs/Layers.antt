@@ -1,0 +1,42 @@
+-- WHAT A SEARCH LEAVES (document 01, 'Search from a depot'): the hop table and the two layer rows, by the distances of a network.
+-- Assumes nothing.
+use mathlib.Core.Bool.{Bool, cond, not, _&&_}
+use mathlib.Core.List.{List}
+use Prim.Native.Nat.{ℕ, _-_, _*_, _%_}
+use lib.Dec.{eqb, ltb}
+use Rattle.lists.specs.Lists.{range, mapl, maxOf, overwrite}
+use Rattle.graph.specs.Network.{Network}
+use Rattle.graph.specs.Distance.{unreached, dist}
+use Rattle.rows.specs.Rows.{tableBit, encodeRow}
+
+-- the links of a table alone, every code open: what a search walks over
+unfoldable pub tableNetwork : ℕ → List ℕ → Network
+tableNetwork W links = record { limit = 64 * W; isOpen = λ v. ltb v (64 * W); linked = tableBit W links }
+
+-- the distance of the last layer: the greatest that a walk from s reaches
+unfoldable pub depthFrom : Network → ℕ → ℕ
+depthFrom G s = maxOf (λ v. cond (ltb (dist G s v) unreached) (dist G s v) 0) (range (G .limit))
+
+-- "Depots at even distance pass through the first, at odd distance through the second. At the end one row holds the last layer and the other
+-- the layer before it, or zeros if the last layer is at distance 0": bit v of the row for a parity, with h the distances and e the last layer's
+unfoldable pub layerBit : (ℕ → ℕ) → ℕ → ℕ → ℕ → Bool
+layerBit h e parity v = cond (eqb (e % 2) parity) (eqb (h v) e) (not (eqb e 0) && eqb (h v) (e - 1))
+
+-- the hop table and the two layer rows
+pub record Tables : Type 0 where
+  pub hops : List ℕ
+  pub even : List ℕ
+  pub odd : List ℕ
+
+abbrev pub tables : List ℕ → List ℕ → List ℕ → Tables
+tables h x y = record { hops = h; even = x; odd = y }
+
+-- as a search from s leaves them: "distances, 65,535 for a closed code", and the layers
+unfoldable pub searchLeaves : ℕ → Network → ℕ → Tables → Tables
+searchLeaves W G s B =
+    let e = depthFrom G s in
+    record {
+      hops = overwrite (mapl (dist G s) (range (64 * W))) (B .hops);
+      even = overwrite (encodeRow W (layerBit (dist G s) e 0)) (B .even);
+      odd = overwrite (encodeRow W (layerBit (dist G s) e 1)) (B .odd);
+    }

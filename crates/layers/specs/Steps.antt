@@ -1,0 +1,58 @@
+-- THE STEPS OF THE SEARCH'S LOOP, over lists of words. Nobody has to believe these: searchLeaves (Layers.antt) is proved of the whole.
+-- Assumes nothing.
+use mathlib.Core.Bool.{Bool, cond, not, _&&_, _||_}
+use mathlib.Core.List.{List}
+use Prim.Native.Nat.{ℕ, _*_, _≤_, _<_}
+use lib.ListN.{length, getD}
+use Rattle.lists.specs.Lists.{range, mapl, anyb, overwrite}
+use Rattle.rows.specs.Rows.{rowBit, tableBit, encodeRow}
+
+-- some member of the layer is linked to v
+unfoldable pub reaches : ℕ → List ℕ → List ℕ → ℕ → Bool
+reaches W links layer v = anyb (λ u. rowBit W layer u && tableBit W links u v) (range (64 * W))
+
+-- the codes that a member of the layer is linked to and that were not seen yet
+unfoldable pub fresh : ℕ → List ℕ → List ℕ → List ℕ → ℕ → Bool
+fresh W links layer seen v = reaches W links layer v && not (rowBit W seen v)
+
+-- a visit of the layer's members: each gets the hop k, and the codes linked to it come into next
+pub record Visited : Type 0 where
+  pub next : List ℕ
+  pub hops : List ℕ
+
+abbrev pub visited : List ℕ → List ℕ → Visited
+visited n h = record { next = n; hops = h }
+
+unfoldable pub visitOf : ℕ → List ℕ → List ℕ → ℕ → Visited → Visited
+visitOf W links layer k B = record {
+  next = overwrite (encodeRow W (reaches W links layer)) (B .next);
+  hops = overwrite (mapl (λ v. cond (rowBit W layer v) k (getD (B .hops) v 0)) (range (64 * W))) (B .hops);
+}
+
+-- one step from the layer at distance k to the next one, which goes into the other row; `more`: there is a next layer
+pub record Stepped : Type 0 where
+  pub more : Bool
+  pub hops : List ℕ
+  pub other : List ℕ
+  pub seen : List ℕ
+
+abbrev pub stepped : Bool → List ℕ → List ℕ → List ℕ → Stepped
+stepped b h o s = record { more = b; hops = h; other = o; seen = s }
+
+unfoldable pub stepOf : ℕ → List ℕ → List ℕ → ℕ → List ℕ → List ℕ → List ℕ → Stepped
+stepOf W links layer k hops other seen =
+    let new = fresh W links layer seen in
+    let more = anyb new (range (64 * W)) in
+    record {
+      more = more;
+      hops = overwrite (mapl (λ v. cond (rowBit W layer v) k (getD hops v 0)) (range (64 * W))) hops;
+      other = cond more (overwrite (encodeRow W new) other) other;
+      seen = cond more (overwrite (encodeRow W (λ v. rowBit W seen v || new v)) seen) seen;
+    }
+
+-- the sizes that the inner functions ask: W words in each row, a row of links and a hop for each code
+pub record Room (W : ℕ) (links hops : List ℕ) : Type 0 where
+  pub positive : 0 < W
+  pub most : W < 513
+  pub table : W * (64 * W) ≤ length links
+  pub places : 64 * W ≤ length hops

@@ -1,0 +1,88 @@
+ghost use mathlib.Core.Path.{_≡_};
+ghost use Prim.Native.Nat.{_+_, _*_, _<_, _≤_};
+ghost use lib.ListN.{length};
+ghost use Rattle.lists.specs.Lists.{range, mapl, overwrite};
+ghost use Rattle.layers.specs.Layers.{tableNetwork, depthFrom, tables, searchLeaves};
+ghost use Rattle.layers.specs.Steps.{visited, visitOf, stepped, stepOf, Room};
+
+use rows::Next;
+
+// Puts x into the first n places of a table of numbers.
+pub fn fill(table: &mut [u16], n: usize, x: u16)
+    requires { ⌜ n ≤ length (now table) ⌝ }
+    ensures { λ r. ⌜ now (table .exit) ≡ overwrite (mapl (λ v. x) (range n)) (now (table .entry)) ⌝ }
+{
+    let mut v = 0;
+    while v < n {
+        table[v] = x;
+        v += 1;
+    }
+}
+
+// Visits the members of a layer: each gets the hop k, and the codes linked to it come into next.
+pub fn visit(next: &mut [u64], hops: &mut [u16], links: &[u64], layer: &[u64], words: usize, k: u16)
+    requires { ⌜ Room words (now links) (now hops) × (words ≤ length (now next)) × (words ≤ length (now layer)) ⌝ }
+    ensures { λ r. ⌜ visited (now (next .exit)) (now (hops .exit)) ≡ visitOf words (now (links .entry)) (now (layer .entry)) k (visited (now (next .entry)) (now (hops .entry))) ⌝ }
+{
+    rows::clear(next, words);
+    let mut from = 0;
+    loop {
+        let found = rows::next_member(layer, words, from);
+        let Next::At(v) = found else {
+            return;
+        };
+        hops[v] = k;
+        rows::add_row(next, links, words, v);
+        from = v + 1;
+    }
+}
+
+// One step of a search, from the layer at distance k to the next one, which goes into the other row and is seen.
+// Answers whether there is a next layer. What stands in next afterwards is free.
+pub fn step(hops: &mut [u16], other: &mut [u64], seen: &mut [u64], next: &mut [u64], links: &[u64], layer: &[u64], words: usize, k: u16) -> bool
+    requires { ⌜ Room words (now links) (now hops) × (words ≤ length (now layer)) × (words ≤ length (now other)) × (words ≤ length (now seen)) × (words ≤ length (now next)) ⌝ }
+    ensures { λ r. ⌜ stepped r (now (hops .exit)) (now (other .exit)) (now (seen .exit)) ≡ stepOf words (now (links .entry)) (now (layer .entry)) k (now (hops .entry)) (now (other .entry)) (now (seen .entry)) ⌝ }
+{
+    visit(next, hops, links, layer, words, k);
+    rows::remove_row(next, &*seen, words);
+    if rows::is_empty(&*next, words) {
+        return false;
+    }
+    rows::copy(other, &*next, words);
+    rows::add_row(seen, &*next, words, 0);
+    true
+}
+
+// The start of a search: no hop, the start alone in the even row and seen.
+fn begin(hops: &mut [u16], even: &mut [u64], odd: &mut [u64], seen: &mut [u64], words: usize, start: usize)
+    requires { ⌜ (0 < words) × (words < 513) × (64 * words ≤ length (now hops)) × (words ≤ length (now even)) × (words ≤ length (now odd)) × (words ≤ length (now seen)) × (start < 64 * words) ⌝ }
+{
+    fill(hops, 64 * words, 65535);
+    rows::clear(even, words);
+    rows::clear(odd, words);
+    rows::clear(seen, words);
+    rows::row_set(even, words, 0, start);
+    rows::row_set(seen, words, 0, start);
+}
+
+// A search from start over any table of links: hop table and layer rows, and the distance of the last layer.
+// What stands in seen and next afterwards is free.
+pub fn search_table(hops: &mut [u16], even: &mut [u64], odd: &mut [u64], seen: &mut [u64], next: &mut [u64], links: &[u64], words: usize, start: usize) -> u16
+    requires { ⌜ Room words (now links) (now hops) × (words ≤ length (now even)) × (words ≤ length (now odd)) × (words ≤ length (now seen)) × (words ≤ length (now next)) × (start < 64 * words) ⌝ }
+{
+    begin(hops, even, odd, seen, words, start);
+    let mut k: u16 = 0;
+    loop {
+        if k % 2 == 0 {
+            if !step(hops, odd, seen, next, links, &*even, words, k) {
+                return k;
+            }
+            k += 1;
+        } else {
+            if !step(hops, even, seen, next, links, &*odd, words, k) {
+                return k;
+            }
+            k += 1;
+        }
+    }
+}
