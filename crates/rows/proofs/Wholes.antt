@@ -6,13 +6,13 @@ use Prim.Native.Nat.{ℕ, _+_, _*_, _/_, _%_, _^_, _≤_, _<_}
 use native.Mathlib.Omega.{arith}
 use lib.ListN.{length, getD}
 use Rattle.lists.specs.Lists.{overwrite}
-use Rattle.lists.proofs.Fills.{fill-ext}
+use Rattle.lists.proofs.Fills.{fill-ext, overwrite-twice}
 use Rattle.words.specs.Bits.{bit, wordOf}
 use Rattle.words.proofs.Bits.{word-is, word-ext, wordOf-ext}
 use Rattle.rows.specs.Rows.{rowBit, tableBit, encodeRow, encodeTable}
 use Rattle.rows.proofs.Buffers.{buffer-ext, fill-whole}
 use Rattle.rows.proofs.Places.{row-lt, word-lt, place-is}
-use Rattle.rows.proofs.Written.{row-word, table-word}
+use Rattle.rows.proofs.Written.{row-word, table-word, row-at, encode-row-length}
 
 -- ---- rows
 
@@ -39,6 +39,18 @@ unfolding encodeRow
 encode-row-ext W f g h =
     fill-ext (λ w. wordOf 64 (λ b. f (64 * w + b))) (λ w. wordOf 64 (λ b. g (64 * w + b))) W
     (λ w l. wordOf-ext 64 (λ b. f (64 * w + b)) (λ b. g (64 * w + b)) (λ b m. h (64 * w + b) (omega arith)))
+
+-- a second row over the first, as a caller of two functions has it
+pub row-over : (W : ℕ) (f g : ℕ → Bool) (l : List ℕ) → overwrite (encodeRow W f) (overwrite (encodeRow W g) l) ≡ overwrite (encodeRow W f) l
+row-over W f g l = overwrite-twice (encodeRow W f) (encodeRow W g) l (omega (arith, encode-row-length W f, encode-row-length W g))
+
+-- a change of each bit, made on an encoded row: the contracts of `add_row` and `remove_row` after another
+pub row-again : (W : ℕ) (f : ℕ → Bool) (g : Bool → ℕ → Bool) (l : List ℕ)
+    → overwrite (encodeRow W (λ v. g (rowBit W (overwrite (encodeRow W f) l) v) v)) (overwrite (encodeRow W f) l) ≡ overwrite (encodeRow W (λ v. g (f v) v)) l
+row-again W f g l =
+    row-over W (λ v. g (rowBit W (overwrite (encodeRow W f) l) v) v) f l
+    ∙ ap (λ (r : List ℕ). overwrite r l)
+    (encode-row-ext W (λ v. g (rowBit W (overwrite (encodeRow W f) l) v) v) (λ v. g (f v) v) (λ v h. ap (λ (x : Bool). g x v) (row-at W f l v h)))
 
 -- ---- tables
 
