@@ -1,7 +1,7 @@
 -- How many numbers below n pass a test: the count a part at a time, after one number is put in or taken out, and by `count_ones`. Assumes nothing.
 use mathlib.Core.Path.{_≡_, refl, sym, ap, _∙_}
 use mathlib.Core.Logic.{_≢_}
-use mathlib.Core.Bool.{Bool, true, false, cond, not, _&&_, _||_, and-true}
+use mathlib.Core.Bool.{Bool, true, false, cond, not, _&&_, _||_, and-true, and-false}
 use Prim.Native.Nat.{ℕ, zero, suc, _+_, _/_, _^_, _<_, suc-le-suc}
 use native.Mathlib.Nat.{zero-lt-suc, le-of-suc-le-suc, not-suc-le-zero, zero-add, suc-add}
 use native.Mathlib.Omega.{arith}
@@ -27,7 +27,7 @@ count-nothing : (p : ℕ → Bool) → countb p (range 0) ≡ 0
 unfolding countb range from
 count-nothing p = refl
 
-pub count-first : (n : ℕ) (p : ℕ → Bool) → countb p (range (suc n)) ≡ cond (p 0) 1 0 + countb (λ k. p (suc k)) (range n)
+count-first : (n : ℕ) (p : ℕ → Bool) → countb p (range (suc n)) ≡ cond (p 0) 1 0 + countb (λ k. p (suc k)) (range n)
 unfolding countb range from
 count-first n p = ap (λ (x : ℕ). cond (p 0) 1 0 + x) (count-from p 0 n)
 
@@ -52,7 +52,7 @@ weigh : {x y : Bool} → x ≡ y → _≡_ {A = ℕ} (cond x 1 0) (cond y 1 0)
 weigh e = ap (λ (x : Bool). cond {A = ℕ} x 1 0) e
 
 -- two tests that differ at j alone
-pub count-but : (n : ℕ) (p q : ℕ → Bool) (j : ℕ) → j < n → ((k : ℕ) → k < n → k ≢ j → p k ≡ q k)
+count-but : (n : ℕ) (p q : ℕ → Bool) (j : ℕ) → j < n → ((k : ℕ) → k < n → k ≢ j → p k ≡ q k)
     → countb p (range n) + cond (q j) 1 0 ≡ countb q (range n) + cond (p j) 1 0
 count-but zero p q j l h = absurd (not-suc-le-zero l)
 count-but (suc n) p q zero l h =
@@ -64,52 +64,34 @@ count-but (suc n) p q (suc j) l h =
     omega (arith, count-first n p, count-first n q)
 
 -- put in: one more where it was out, as many where it was in
-pub count-with-new : (n : ℕ) (p : ℕ → Bool) (b : ℕ) → b < n → p b ≡ false → countb (λ k. eqb k b || p k) (range n) ≡ countb p (range n) + 1
-count-with-new n p b l e =
+count-with : (n : ℕ) (p : ℕ → Bool) (b : ℕ) → b < n → countb (λ k. eqb k b || p k) (range n) + cond (p b) 1 0 ≡ countb p (range n) + 1
+count-with n p b l =
     omega (
       arith,
       count-but n (λ k. eqb k b || p k) p b l (λ k m ne. ap (λ (x : Bool). x || p k) (ne-eqb k b ne)),
-      weigh e,
       weigh (ap (λ (x : Bool). x || p b) (eq-eqb b b refl)),
     )
+
+pub count-with-new : (n : ℕ) (p : ℕ → Bool) (b : ℕ) → b < n → p b ≡ false → countb (λ k. eqb k b || p k) (range n) ≡ countb p (range n) + 1
+count-with-new n p b l e = omega (arith, count-with n p b l, weigh e)
 
 pub count-with-old : (n : ℕ) (p : ℕ → Bool) (b : ℕ) → b < n → p b ≡ true → countb (λ k. eqb k b || p k) (range n) ≡ countb p (range n)
-count-with-old n p b l e =
-    omega (
-      arith,
-      count-but n (λ k. eqb k b || p k) p b l (λ k m ne. ap (λ (x : Bool). x || p k) (ne-eqb k b ne)),
-      weigh e,
-      weigh (ap (λ (x : Bool). x || p b) (eq-eqb b b refl)),
-    )
-
-keep : (p : ℕ → Bool) (b k : ℕ) → k ≢ b → (p k && not (eqb k b)) ≡ p k
-keep p b k ne = ap (λ (x : Bool). p k && not x) (ne-eqb k b ne) ∙ and-true (p k)
-
-out : (p : ℕ → Bool) (b : ℕ) → (p b && not (eqb b b)) ≡ false
-out p b = ap (λ (x : Bool). p b && not x) (eq-eqb b b refl) ∙ go (p b)
-  where
-    go : (x : Bool) → (x && false) ≡ false
-    go true = refl
-    go false = refl
+count-with-old n p b l e = omega (arith, count-with n p b l, weigh e)
 
 -- taken out: one less where it was in, as many where it was out
-pub count-without-old : (n : ℕ) (p : ℕ → Bool) (b : ℕ) → b < n → p b ≡ true → countb (λ k. p k && not (eqb k b)) (range n) + 1 ≡ countb p (range n)
-count-without-old n p b l e =
+count-without : (n : ℕ) (p : ℕ → Bool) (b : ℕ) → b < n → countb (λ k. p k && not (eqb k b)) (range n) + cond (p b) 1 0 ≡ countb p (range n)
+count-without n p b l =
     omega (
       arith,
-      count-but n (λ k. p k && not (eqb k b)) p b l (λ k m ne. keep p b k ne),
-      weigh e,
-      weigh (out p b),
+      count-but n (λ k. p k && not (eqb k b)) p b l (λ k m ne. ap (λ (x : Bool). p k && not x) (ne-eqb k b ne) ∙ and-true (p k)),
+      weigh (ap (λ (x : Bool). p b && not x) (eq-eqb b b refl) ∙ and-false (p b)),
     )
 
+pub count-without-old : (n : ℕ) (p : ℕ → Bool) (b : ℕ) → b < n → p b ≡ true → countb (λ k. p k && not (eqb k b)) (range n) + 1 ≡ countb p (range n)
+count-without-old n p b l e = omega (arith, count-without n p b l, weigh e)
+
 pub count-without-new : (n : ℕ) (p : ℕ → Bool) (b : ℕ) → b < n → p b ≡ false → countb (λ k. p k && not (eqb k b)) (range n) ≡ countb p (range n)
-count-without-new n p b l e =
-    omega (
-      arith,
-      count-but n (λ k. p k && not (eqb k b)) p b l (λ k m ne. keep p b k ne),
-      weigh e,
-      weigh (out p b),
-    )
+count-without-new n p b l e = omega (arith, count-without n p b l, weigh e)
 
 -- ---- words
 
