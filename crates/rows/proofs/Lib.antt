@@ -1,5 +1,3 @@
--- Buffers whose first places are filled; laws of lists, of no bit.
-pub mod Buffers
 -- Where row u and its words stand among the words of a table.
 pub mod Places
 -- What is written is read.

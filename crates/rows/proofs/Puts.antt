@@ -15,7 +15,7 @@ use Rattle.lists.proofs.Tests.{eq-or-ne}
 use Rattle.words.specs.Bits.{bit, wordOf}
 use Rattle.words.proofs.Bits.{bit-wordOf, wordOf-ext}
 use Rattle.rows.specs.Rows.{tableBit, encodeRow, encodeTable, putBit, InTable}
-use Rattle.rows.proofs.Buffers.{fill-put}
+use Rattle.lists.proofs.Buffers.{fill-put}
 use Rattle.rows.proofs.Places.{place-lt, place-row, place-word, place-unique, place-is}
 use Rattle.rows.proofs.Written.{table-in, table-agree, encode-row-word, encode-table-word}
 

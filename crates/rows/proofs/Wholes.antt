@@ -10,7 +10,7 @@ use Rattle.lists.proofs.Fills.{fill-ext, overwrite-twice}
 use Rattle.words.specs.Bits.{bit, wordOf}
 use Rattle.words.proofs.Bits.{word-is, word-ext, wordOf-ext}
 use Rattle.rows.specs.Rows.{rowBit, tableBit, encodeRow, encodeTable}
-use Rattle.rows.proofs.Buffers.{buffer-ext, fill-whole}
+use Rattle.lists.proofs.Buffers.{buffer-ext, fill-whole}
 use Rattle.rows.proofs.Places.{row-lt, word-lt, place-is}
 use Rattle.rows.proofs.Written.{row-word, table-word, row-at, encode-row-length}
 
