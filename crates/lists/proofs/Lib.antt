@@ -1,4 +1,12 @@
+-- tests as facts
 pub mod Tests
+-- members of lists
 pub mod Members
+-- counts, sums and greatest values
 pub mod Counts
+-- counts of the numbers below n
+pub mod RangeCounts
+-- a loop that stores one element a turn
 pub mod Fills
+-- buffers whose first places are filled
+pub mod Buffers

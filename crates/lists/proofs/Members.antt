@@ -31,6 +31,16 @@ module _ {ℓ} {A : Type ℓ} where
       go (inl q) ih = (y, List·Memᴰ·head refl, q)
       go (inr q) ih = let r = ih q in (r .0, List·Memᴰ·tail (r .1), r .2)
 
+  pub any-ext : (p q : A → Bool) (xs : List A) → ((x : A) → List·Memᴰ x xs → p x ≡ q x) → anyb p xs ≡ anyb q xs
+  unfolding anyb
+  any-ext p q [] h = refl
+  any-ext p q (y ∷ ys) h = rw (h y (List·Memᴰ·head refl), any-ext p q ys (λ x m. h x (List·Memᴰ·tail m)))
+
+  pub any-none : (p : A → Bool) (xs : List A) → ((x : A) → List·Memᴰ x xs → p x ≡ false) → anyb p xs ≡ false
+  unfolding anyb
+  any-none p [] h = refl
+  any-none p (y ∷ ys) h = rw (h y (List·Memᴰ·head refl), any-none p ys (λ x m. h x (List·Memᴰ·tail m)))
+
   pub filter-in : (p : A → Bool) (xs : List A) {x : A} → List·Memᴰ x xs → p x ≡ true → List·Memᴰ x (filterb p xs)
   unfolding filterb
   filter-in p [] m e = absurd (List·Memᴰ·not-nil m)

@@ -3,19 +3,19 @@ use mathlib.Core.Path.{_≡_, refl, sym, ap, ap₂, _∙_}
 use mathlib.Core.Logic.{_≢_, _⊎_, inl, inr}
 use mathlib.Core.Bool.{Bool, true, false, cond, not, _&&_, _||_}
 use mathlib.Core.List.{List}
-use Prim.Native.Nat.{ℕ, _+_, _-_, _*_, _/_, _%_, _≤_, _<_}
+use Prim.Native.Nat.{ℕ, _+_, _*_, _/_, _%_, _<_}
 use native.Mathlib.Nat.{mod-lt, zero-lt-suc}
 use native.Mathlib.Omega.{arith}
 use lib.Dec.{eqb}
-use lib.ListN.{length, getD, set, length-set, length-append, length-drop}
-use lib.Seq.{ext-getD, getD-set-same, getD-set-other}
+use lib.ListN.{length, getD, set, length-set}
+use lib.Seq.{getD-set-same, getD-set-other}
 use borrow.Author.Tests.{eq-eqb, ne-eqb}
-use Rattle.lists.specs.Lists.{range, mapl, overwrite}
-use Rattle.lists.proofs.Tests.{lt-or-ge, eq-or-ne}
-use Rattle.lists.proofs.Fills.{length-fill, fill-at, fill-rest}
+use Rattle.lists.specs.Lists.{overwrite}
+use Rattle.lists.proofs.Tests.{eq-or-ne}
 use Rattle.words.specs.Bits.{bit, wordOf}
 use Rattle.words.proofs.Bits.{bit-wordOf, wordOf-ext}
 use Rattle.rows.specs.Rows.{tableBit, encodeRow, encodeTable, putBit, InTable}
+use Rattle.lists.proofs.Buffers.{fill-put}
 use Rattle.rows.proofs.Places.{place-lt, place-row, place-word, place-unique, place-is}
 use Rattle.rows.proofs.Written.{table-in, table-agree, encode-row-word, encode-table-word}
 
@@ -83,31 +83,6 @@ module _ (W u v : ℕ) (x : Bool) (t : List ℕ) (i : InTable W t u v) where
       go h (inr e) = ap (λ (w : ℕ). bit w (q % 64)) (word-rest (W * p + q / 64) e)
 
 -- ---- a put into what is encoded
-
-length-over : (new old : List ℕ) → length (overwrite new old) ≡ length new + (length old - length new)
-unfolding overwrite
-length-over new old = simp (length-append, length-drop)
-
--- one place of a filled buffer changed
-fill-put : (f g : ℕ → ℕ) (n : ℕ) (l : List ℕ) (i x : ℕ) → i < n → x ≡ g i → ((k : ℕ) → k < n → k ≢ i → f k ≡ g k)
-    → set (overwrite (mapl f (range n)) l) i x ≡ overwrite (mapl g (range n)) l
-fill-put f g n l i x h e rest =
-    ext-getD 0 (set (overwrite (mapl f (range n)) l) i x) (overwrite (mapl g (range n)) l) (simp length-set (size f ∙ sym (size g))) (λ k m. at k (eq-or-ne k i) (lt-or-ge k n))
-  where
-    size : (f : ℕ → ℕ) → length (overwrite (mapl f (range n)) l) ≡ n + (length l - n)
-    size f = go (mapl f (range n)) (length-fill f n)
-      where
-        go : (s : List ℕ) → length s ≡ n → length (overwrite s l) ≡ n + (length l - n)
-        go s q = length-over s l ∙ ap₂ (λ (a b : ℕ). a + (length l - b)) q q
-
-    at : (k : ℕ) → (k ≡ i) ⊎ (k ≢ i) → (k < n) ⊎ (n ≤ k) → getD (set (overwrite (mapl f (range n)) l) i x) k 0 ≡ getD (overwrite (mapl g (range n)) l) k 0
-    at k (inl q) _ =
-        ap (λ (k : ℕ). getD (set (overwrite (mapl f (range n)) l) i x) k 0) q
-        ∙ getD-set-same (overwrite (mapl f (range n)) l) i x 0 (omega (arith, size f))
-        ∙ e
-        ∙ sym (ap (λ (k : ℕ). getD (overwrite (mapl g (range n)) l) k 0) q ∙ fill-at g l n i 0 h)
-    at k (inr q) (inl m) = getD-set-other (overwrite (mapl f (range n)) l) i k x 0 q ∙ fill-at f l n k 0 m ∙ rest k m q ∙ sym (fill-at g l n k 0 m)
-    at k (inr q) (inr m) = getD-set-other (overwrite (mapl f (range n)) l) i k x 0 q ∙ fill-rest f l n k 0 m ∙ sym (fill-rest g l n k 0 m)
 
 -- bit b of word v / 64 is number v where b is v % 64
 number-is : (v b : ℕ) → b < 64 → eqb (64 * (v / 64) + b) v ≡ eqb b (v % 64)

@@ -13,7 +13,7 @@ use Rattle.lists.proofs.Members.{range-in, range-out, any-intro, any-elim}
 use Rattle.words.specs.Bits.{bit}
 use Rattle.words.specs.Least.{IsLeast}
 use Rattle.words.proofs.Bits.{bit-of-zero, bit-past, bit-shr}
-use Rattle.words.proofs.Counts.{count-same, count-split}
+use Rattle.lists.proofs.RangeCounts.{count-same, count-split}
 use Rattle.words.proofs.Lowest.{least-is}
 use Rattle.rows.specs.Rows.{rowBit, tableBit}
 use Rattle.rows.specs.Next.{IsNext}

@@ -9,16 +9,17 @@ use lib.ListN.{length, getD, set}
 use Rattle.lists.specs.Lists.{overwrite}
 use Rattle.lists.proofs.Fills.{fill-none, fill-more, fill-rest}
 use Rattle.words.specs.Bits.{bit, wordOf}
-use Rattle.words.proofs.Bits.{word-is, word-or, word-minus, wordOf-ext, wordOf-none}
+use Rattle.words.proofs.Bits.{word-or, word-minus, wordOf-ext, wordOf-none}
 use Rattle.rows.specs.Rows.{rowBit, tableBit, encodeRow}
 use Rattle.rows.proofs.Written.{row-word, table-word}
+use Rattle.rows.proofs.Wholes.{row-word-is}
 
 -- the start, and any turn that stores the word of f
 pub turn-none : (f : ℕ → Bool) (l : List ℕ) → l ≡ overwrite (encodeRow 0 f) l
 unfolding encodeRow
 turn-none f l = sym (fill-none (λ w. wordOf 64 (λ b. f (64 * w + b))) l)
 
-pub turn-more : (f : ℕ → Bool) (l₀ l : List ℕ) (j w : ℕ) → l ≡ overwrite (encodeRow j f) l₀ → j < length l₀ → w ≡ wordOf 64 (λ b. f (64 * j + b))
+turn-more : (f : ℕ → Bool) (l₀ l : List ℕ) (j w : ℕ) → l ≡ overwrite (encodeRow j f) l₀ → j < length l₀ → w ≡ wordOf 64 (λ b. f (64 * j + b))
     → set l j w ≡ overwrite (encodeRow (j + 1) f) l₀
 unfolding encodeRow
 turn-more f l₀ l j w e h p = ap₂ (λ (s : List ℕ) (x : ℕ). set s j x) e p ∙ fill-more (λ w. wordOf 64 (λ b. f (64 * w + b))) l₀ j h
@@ -36,7 +37,7 @@ turn-clear l₀ l j e h = turn-more (λ v. false) l₀ l j 0 e h (sym (wordOf-no
 pub turn-copy : (W : ℕ) (s l₀ l : List ℕ) (j : ℕ) → l ≡ overwrite (encodeRow j (rowBit W s)) l₀ → j < length l₀ → j < W → getD s j 0 < 2 ^ 64
     → set l j (getD s j 0) ≡ overwrite (encodeRow (j + 1) (rowBit W s)) l₀
 turn-copy W s l₀ l j e h n m =
-    turn-more (rowBit W s) l₀ l j (getD s j 0) e h (word-is 64 (getD s j 0) (λ b. rowBit W s (64 * j + b)) m (λ b k. sym (row-word W s j b n k)))
+    turn-more (rowBit W s) l₀ l j (getD s j 0) e h (row-word-is W s j n m)
 
 pub turn-union : (W : ℕ) (t : List ℕ) (u : ℕ) (l₀ l : List ℕ) (j : ℕ) → u < 64 * W → l ≡ overwrite (encodeRow j (λ v. rowBit W l₀ v || tableBit W t u v)) l₀
     → j < length l₀ → j < W → getD l j 0 < 2 ^ 64 → getD t (W * u + j) 0 < 2 ^ 64

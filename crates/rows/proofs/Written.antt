@@ -122,41 +122,41 @@ encode-table-lt W f i h = rw (getD-range (λ i. wordOf 64 (λ b. f (i / W) (64 *
 
 -- ---- A ROW WRITTEN IS READ, whatever stands behind it
 
+pub row-at : (W : ℕ) (f : ℕ → Bool) (old : List ℕ) (v : ℕ) → v < 64 * W → rowBit W (overwrite (encodeRow W f) old) v ≡ f v
+row-at W f old v h =
+    row-in W (overwrite (encodeRow W f) old) v h
+    ∙ ap (λ (w : ℕ). bit w (v % 64)) (encode-row-word W f old (v / 64) (omega arith))
+    ∙ bit-wordOf 64 (λ b. f (64 * (v / 64) + b)) (v % 64) (mod-lt v (zero-lt-suc 63))
+    ∙ ap f (div-add-mod v 64)
+
 pub row-read : (W : ℕ) (f : ℕ → Bool) (old : List ℕ) (v : ℕ) → rowBit W (overwrite (encodeRow W f) old) v ≡ (ltb v (64 * W) && f v)
 unfolding rowBit
 row-read W f old v = go (look (ltb v (64 * W)))
   where
-    at : v < 64 * W → rowBit W (overwrite (encodeRow W f) old) v ≡ f v
-    at h =
-        row-in W (overwrite (encodeRow W f) old) v h
-        ∙ ap (λ (w : ℕ). bit w (v % 64)) (encode-row-word W f old (v / 64) (omega arith))
-        ∙ bit-wordOf 64 (λ b. f (64 * (v / 64) + b)) (v % 64) (mod-lt v (zero-lt-suc 63))
-        ∙ ap f (div-add-mod v 64)
-
     go : (ltb v (64 * W) ≡ true) ⊎ (ltb v (64 * W) ≡ false) → rowBit W (overwrite (encodeRow W f) old) v ≡ (ltb v (64 * W) && f v)
-    go (inl e) = at (ltb-true v (64 * W) e) ∙ sym (ap (λ (b : Bool). b && f v) e)
+    go (inl e) = row-at W f old v (ltb-true v (64 * W) e) ∙ sym (ap (λ (b : Bool). b && f v) e)
     go (inr e) = rw e
 
 -- ---- A TABLE WRITTEN IS READ, whatever stands behind it
+
+pub table-at : (W : ℕ) (f : ℕ → ℕ → Bool) (old : List ℕ) (u v : ℕ) → u < 64 * W → v < 64 * W → tableBit W (overwrite (encodeTable W f) old) u v ≡ f u v
+table-at W f old u v l h =
+    let j : v / 64 < W = omega arith in
+    table-in W (overwrite (encodeTable W f) old) u v l h
+    ∙ ap (λ (w : ℕ). bit w (v % 64)) (encode-table-word W f old i (place-lt W u (v / 64) l j))
+    ∙ bit-wordOf 64 (λ b. f (i / W) (64 * (i % W) + b)) (v % 64) (mod-lt v (zero-lt-suc 63))
+    ∙ ap₂ (λ (p k : ℕ). f p (64 * k + v % 64)) (place-row W u (v / 64) j) (place-word W u (v / 64) j)
+    ∙ ap (f u) (div-add-mod v 64)
+  where
+    i : ℕ
+    i = W * u + v / 64
 
 pub table-read : (W : ℕ) (f : ℕ → ℕ → Bool) (old : List ℕ) (u v : ℕ) → tableBit W (overwrite (encodeTable W f) old) u v ≡ (ltb u (64 * W) && ltb v (64 * W) && f u v)
 unfolding tableBit
 table-read W f old u v = go (look (ltb u (64 * W))) (look (ltb v (64 * W)))
   where
-    i : ℕ
-    i = W * u + v / 64
-
-    at : u < 64 * W → v < 64 * W → tableBit W (overwrite (encodeTable W f) old) u v ≡ f u v
-    at l h =
-        let j : v / 64 < W = omega arith in
-        table-in W (overwrite (encodeTable W f) old) u v l h
-        ∙ ap (λ (w : ℕ). bit w (v % 64)) (encode-table-word W f old i (place-lt W u (v / 64) l j))
-        ∙ bit-wordOf 64 (λ b. f (i / W) (64 * (i % W) + b)) (v % 64) (mod-lt v (zero-lt-suc 63))
-        ∙ ap₂ (λ (p k : ℕ). f p (64 * k + v % 64)) (place-row W u (v / 64) j) (place-word W u (v / 64) j)
-        ∙ ap (f u) (div-add-mod v 64)
-
     go : (ltb u (64 * W) ≡ true) ⊎ (ltb u (64 * W) ≡ false) → (ltb v (64 * W) ≡ true) ⊎ (ltb v (64 * W) ≡ false)
         → tableBit W (overwrite (encodeTable W f) old) u v ≡ (ltb u (64 * W) && ltb v (64 * W) && f u v)
-    go (inl d) (inl e) = at (ltb-true u (64 * W) d) (ltb-true v (64 * W) e) ∙ sym (ap₂ (λ (b c : Bool). b && c && f u v) d e)
+    go (inl d) (inl e) = table-at W f old u v (ltb-true u (64 * W) d) (ltb-true v (64 * W) e) ∙ sym (ap₂ (λ (b c : Bool). b && c && f u v) d e)
     go (inl d) (inr e) = rw (d, e)
     go (inr d) e = rw d

@@ -1,3 +1,5 @@
+// Sets of numbers below 64 * words as rows of words, and tables of such rows; a row may stand in a longer buffer.
+// What a function ensures of a row or table that it changes is one equation, so that callers rewrite by it.
 ghost use mathlib.Core.Path.{_≡_};
 ghost use mathlib.Core.Bool.{true, false, not, _&&_, _||_};
 ghost use Prim.Native.Nat.{_+_, _*_, _^_, _<_, _≤_};
@@ -13,8 +15,7 @@ pub fn row_test(t: &[u64], words: usize, u: usize, v: usize) -> bool
     requires { ⌜ InTable words (now t) u v ⌝ }
     ensures { λ r. ⌜ r ≡ tableBit words (now (t .entry)) u v ⌝ }
 {
-    let i = words * u + v / 64;
-    words::test(t[i], v % 64)
+    words::test(t[words * u + v / 64], v % 64)
 }
 
 // Puts v into row u.

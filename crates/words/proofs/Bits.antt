@@ -29,12 +29,12 @@ unfolding bit digit
 bit-is w b true e = eq-eqb (w / 2 ^ b % 2) 1 e
 bit-is w b false e = ne-eqb (w / 2 ^ b % 2) 1 (λ q. omega arith)
 
-pub digit-of : (w b : ℕ) (x : Bool) → bit w b ≡ x → digit w b ≡ cond x 1 0
+digit-of : (w b : ℕ) (x : Bool) → bit w b ≡ x → digit w b ≡ cond x 1 0
 digit-of w b x e = digit-bit w b ∙ ap (λ (y : Bool). cond y 1 0) e
 
 -- ---- one bit
 
-pub bit-zero : (w : ℕ) (x : Bool) → w % 2 ≡ cond x 1 0 → bit w 0 ≡ x
+bit-zero : (w : ℕ) (x : Bool) → w % 2 ≡ cond x 1 0 → bit w 0 ≡ x
 bit-zero w x e = bit-is w 0 x (digit-zero w ∙ e)
 
 pub bit-suc : (w b : ℕ) → bit w (suc b) ≡ bit (w / 2) b

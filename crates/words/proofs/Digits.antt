@@ -76,21 +76,19 @@ digit-not (suc n) a (suc k) h l =
 pub shl-one : (n b : ℕ) → b < n → (1 * 2 ^ b) % 2 ^ n ≡ 2 ^ b
 shl-one n b h = ap (λ (x : ℕ). x % 2 ^ n) (one-mul (2 ^ b)) ∙ mod-eq-of-lt (pow-lt h)
 
+half-pow : (j : ℕ) → 2 ^ suc j / 2 ≡ 2 ^ j
+half-pow j = omega (arith, pow-suc 2 j)
+
+-- 2 ^ j has digit j alone
 pub digit-pow-same : (j : ℕ) → digit (2 ^ j) j ≡ 1
 digit-pow-same zero = digit-zero 1
 digit-pow-same (suc j) = digit-suc (2 ^ suc j) j ∙ ap (λ (x : ℕ). digit x j) (half-pow j) ∙ digit-pow-same j
-  where
-    half-pow : (j : ℕ) → 2 ^ suc j / 2 ≡ 2 ^ j
-    half-pow j = omega (arith, pow-suc 2 j)
 
 pub digit-pow-other : (j k : ℕ) → k ≢ j → digit (2 ^ j) k ≡ 0
 digit-pow-other zero zero h = absurd (h refl)
 digit-pow-other zero (suc k) h = digit-suc 1 k ∙ digit-of-zero k
 digit-pow-other (suc j) zero h = omega (arith, digit-zero (2 ^ suc j), pow-suc 2 j)
 digit-pow-other (suc j) (suc k) h = digit-suc (2 ^ suc j) k ∙ ap (λ (x : ℕ). digit x k) (half-pow j) ∙ digit-pow-other j k (λ e. h (ap suc e))
-  where
-    half-pow : (j : ℕ) → 2 ^ suc j / 2 ≡ 2 ^ j
-    half-pow j = omega (arith, pow-suc 2 j)
 
 -- `(w >> b) & 1` is the digit
 pub and-one : (w b : ℕ) → bitAnd (w / 2 ^ b) 1 ≡ digit w b

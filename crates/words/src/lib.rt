@@ -1,3 +1,4 @@
+// A word of 64 bits as a set of the numbers below 64.
 ghost use mathlib.Core.Path.{_≡_};
 ghost use mathlib.Core.Bool.{not, _&&_, _||_};
 ghost use Prim.Native.Nat.{_<_};

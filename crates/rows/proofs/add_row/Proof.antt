@@ -1,14 +1,14 @@
 -- `rows::add_row` meets its contract: after j turns the first j words encode the set that is ensured. The measure is the words left.
 -- Assumes nothing.
-use borrow.Author.Needs.{needs}
-use Rattle.rows.proofs.Turns.{turn-none, turn-union}
-use Rattle.rows.specs.Rows.{rowBit, tableBit, encodeRow}
-use Rattle.lists.specs.Lists.{overwrite}
-use lib.ListN.{length, length-set}
-use native.Mathlib.Omega.{arith}
-use Prim.Native.Nat.{_+_, _-_, _*_, _≤_}
-use mathlib.Core.Bool.{_||_}
 use mathlib.Core.Path.{_≡_, refl}
+use mathlib.Core.Bool.{_||_}
+use Prim.Native.Nat.{_+_, _-_, _*_, _≤_}
+use native.Mathlib.Omega.{arith}
+use lib.ListN.{length, length-set}
+use borrow.Author.Needs.{needs}
+use Rattle.lists.specs.Lists.{overwrite}
+use Rattle.rows.specs.Rows.{rowBit, tableBit, encodeRow}
+use Rattle.rows.proofs.Turns.{turn-none, turn-union}
 use Rattle.rows.proofs.add_row.Statement.{statement}
 use Rattle.rows.proofs.add_row.Tie as tie
 

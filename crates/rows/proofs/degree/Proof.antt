@@ -1,16 +1,16 @@
 -- `rows::degree` meets its contract: after j words the sum is the count of the members below 64 * j. The measure is the words left.
 -- Assumes nothing.
+use mathlib.Core.Path.{_≡_, _∙_, ap}
+use Prim.Native.Nat.{ℕ, _+_, _-_, _*_, _≤_}
+use native.Mathlib.Omega.{arith}
+use lib.ListN.{getD}
 use borrow.Author.Needs.{needs}
-use Rattle.rows.proofs.Scan.{count-word}
-use Rattle.rows.specs.Rows.{tableBit}
-use Rattle.words.specs.Bits.{bit}
+use Rattle.lists.specs.Lists.{from, range, countb}
 use Rattle.lists.proofs.Counts.{count-le-length}
 use Rattle.lists.proofs.Members.{length-range}
-use Rattle.lists.specs.Lists.{from, range, countb}
-use lib.ListN.{getD}
-use native.Mathlib.Omega.{arith}
-use Prim.Native.Nat.{ℕ, _+_, _-_, _*_, _≤_}
-use mathlib.Core.Path.{_≡_, _∙_, ap}
+use Rattle.words.specs.Bits.{bit}
+use Rattle.rows.specs.Rows.{tableBit}
+use Rattle.rows.proofs.Scan.{count-word}
 use Rattle.rows.proofs.degree.Statement.{statement}
 use Rattle.rows.proofs.degree.Tie as tie
 

@@ -1,12 +1,12 @@
 -- `rows::is_empty` meets its contract: no number below the word that is next is a member. The measure is the words left.
 -- Assumes nothing.
-use borrow.Author.Needs.{needs}
-use Rattle.rows.proofs.Scan.{passed-more, any-word, any-none}
-use Rattle.rows.specs.Rows.{rowBit}
-use native.Mathlib.Omega.{arith}
-use Prim.Native.Nat.{ℕ, _-_, _*_, _≤_, _<_}
-use mathlib.Core.Bool.{false, not}
 use mathlib.Core.Path.{_≡_, sym, ap}
+use mathlib.Core.Bool.{false, not}
+use Prim.Native.Nat.{ℕ, _-_, _*_, _≤_, _<_}
+use native.Mathlib.Omega.{arith}
+use borrow.Author.Needs.{needs}
+use Rattle.rows.specs.Rows.{rowBit}
+use Rattle.rows.proofs.Scan.{passed-more, any-word, any-none}
 use Rattle.rows.proofs.is_empty.Statement.{statement}
 use Rattle.rows.proofs.is_empty.Tie as tie
 

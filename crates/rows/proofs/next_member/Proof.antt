@@ -1,13 +1,13 @@
 -- `rows::next_member` meets its contract: no number from `from` on, below the word that is next, is a member. The measure is the words left.
 -- Assumes nothing.
+use mathlib.Core.Path.{_≡_}
+use mathlib.Core.Bool.{false}
+use Prim.Native.Nat.{ℕ, _-_, _*_, _/_, _≤_, _<_}
+use native.Mathlib.Omega.{arith}
 use borrow.Author.Needs.{needs}
+use Rattle.rows.specs.Rows.{rowBit}
 use Rattle.rows.proofs.Scan.{passed-more, passed-all, passed-next, shifted-zero, shifted-next}
 use Rattle.rows.proofs.Written.{row-past}
-use Rattle.rows.specs.Rows.{rowBit}
-use native.Mathlib.Omega.{arith}
-use Prim.Native.Nat.{ℕ, _-_, _*_, _/_, _≤_, _<_}
-use mathlib.Core.Bool.{false}
-use mathlib.Core.Path.{_≡_}
 use Rattle.rows.proofs.next_member.Statement.{statement}
 use Rattle.rows.proofs.next_member.Tie as tie
 

@@ -1,11 +1,11 @@
 -- `rows::row_set` meets its contract: the word of v in row u is stored with bit v % 64 set, which is what putting the bit means.
 -- Assumes nothing.
-use Rattle.rows.proofs.Puts.{put-with}
-use Rattle.rows.specs.Rows.{putBit}
-use lib.ListN.{getD, set}
-use Prim.Native.Nat.{ℕ, _+_, _*_, _/_, _%_}
 use mathlib.Core.Path.{ap, _∙_}
+use Prim.Native.Nat.{ℕ, _+_, _*_, _/_, _%_}
+use lib.ListN.{getD, set}
 use borrow.Author.Needs.{needs}
+use Rattle.rows.specs.Rows.{putBit}
+use Rattle.rows.proofs.Puts.{put-with}
 use Rattle.rows.proofs.row_set.Statement.{statement}
 use Rattle.rows.proofs.row_set.Tie as tie
 
