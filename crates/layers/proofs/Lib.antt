@@ -1,2 +1,12 @@
+-- THE THEOREMS
+pub mod Theorems
+-- a visit of a layer's members
 pub mod Visits
+-- one step of the code's loop
 pub mod Stepping
+-- the hop table, one layer on
+pub mod Frontier
+-- where the code's loop stands
+pub mod Searching
+-- its turns by parity, and its end
+pub mod Turning

@@ -1,9 +1,8 @@
 -- What `step` makes of next, the other row and seen. Assumes nothing.
-use mathlib.Core.Path.{_≡_, sym, ap, ap₂, _∙_}
+use mathlib.Core.Path.{_≡_, sym, ap, _∙_}
 use mathlib.Core.Bool.{Bool, true, false, cond, not, _&&_, _||_}
 use mathlib.Core.List.{List}
 use Prim.Native.Nat.{ℕ, _*_, _<_}
-use lib.Dec.{ltb}
 use lib.ListN.{getD}
 use borrow.Author.Tests.{lt-ltb}
 use Rattle.lists.specs.Lists.{range, mapl, anyb, overwrite}
@@ -11,7 +10,7 @@ use Rattle.lists.proofs.Members.{any-ext, range-out}
 use Rattle.rows.specs.Rows.{rowBit, tableBit, encodeRow}
 use Rattle.rows.proofs.Written.{row-read, table-zero}
 use Rattle.rows.proofs.Wholes.{encode-row-ext}
-use Rattle.layers.specs.Steps.{reaches, fresh, Visited, visited, visitOf, Stepped, stepped, stepOf}
+use Rattle.layers.specs.Steps.{reaches, fresh, Visited, visited, visitOf, stepped, stepOf}
 
 module _ (W : ℕ) (links layer seen : List ℕ) (next₀ next₁ next₂ : List ℕ) (k : ℕ) (hops₀ hops₁ : List ℕ)
     (visit : visited next₁ hops₁ ≡ visitOf W links layer k (visited next₀ hops₀))

@@ -3,24 +3,21 @@ use mathlib.Core.Path.{_≡_, refl, sym, ap, ap₂, _∙_, subst}
 use mathlib.Core.Logic.{_≢_, _⊎_, inl, inr}
 use mathlib.Core.Bool.{Bool, true, false, cond, _&&_, _||_}
 use mathlib.Core.List.{List}
-use Prim.Native.Nat.{ℕ, suc, _+_, _*_, _≤_, _<_}
+use Prim.Native.Nat.{ℕ, _+_, _*_, _≤_, _<_}
 use native.Mathlib.Omega.{arith}
-use lib.Dec.{eqb, ltb}
+use lib.Dec.{ltb}
 use lib.ListN.{length, getD, set, length-set}
-use borrow.Author.Tests.{eqb-true, eq-eqb, ne-eqb, ltb-true, lt-ltb, le-ltb}
+use borrow.Author.Tests.{ltb-true, lt-ltb, le-ltb}
 use Rattle.lists.specs.Lists.{range, mapl, anyb, overwrite}
-use Rattle.lists.proofs.Tests.{look, clash, and-true, and-intro, or-true, or-left, or-right, same-test, lt-or-ge, eq-or-ne}
-use Rattle.lists.proofs.Members.{any-none, any-intro, any-elim, range-in, range-out}
-use Rattle.lists.proofs.Fills.{overwrite-length, overwrite-twice, fill-ext, fill-same, fill-put}
+use Rattle.lists.proofs.Tests.{clash, and-true, and-intro, or-true, or-left, or-right, same-test, lt-or-ge}
+use Rattle.lists.proofs.Members.{any-none, any-intro, any-elim, range-in}
+use Rattle.lists.proofs.Fills.{overwrite-length, fill-ext}
+use Rattle.lists.proofs.Buffers.{fill-whole, fill-put}
 use Rattle.rows.specs.Rows.{rowBit, tableBit, encodeRow}
 use Rattle.rows.specs.Next.{IsNext}
 use Rattle.rows.proofs.Written.{encode-row-length, row-read}
-use Rattle.rows.proofs.Wholes.{encode-row-ext}
-use Rattle.layers.specs.Steps.{reaches, Visited, visited, visitOf}
-
--- what a row written twice is, with the bits of the second
-pub row-again : (W : ℕ) (f g : ℕ → Bool) (l : List ℕ) → overwrite (encodeRow W f) (overwrite (encodeRow W g) l) ≡ overwrite (encodeRow W f) l
-row-again W f g l = overwrite-twice (encodeRow W f) (encodeRow W g) l (omega (arith, encode-row-length W f, encode-row-length W g))
+use Rattle.rows.proofs.Wholes.{encode-row-ext, row-over}
+use Rattle.layers.specs.Steps.{reaches, visited, visitOf}
 
 module _ (W : ℕ) (links layer : List ℕ) (k : ℕ) where
   -- what the members below `at` reach, and the hops that they leave
@@ -49,9 +46,9 @@ module _ (W : ℕ) (links layer : List ℕ) (k : ℕ) where
   visit-none entry next₀ hops₀ e l = record {
     within = omega arith;
     next-is =
-        e ∙ sym (ap (overwrite (encodeRow W (reachedBelow 0))) e ∙ row-again W (reachedBelow 0) (λ v. false) entry
+        e ∙ sym (ap (overwrite (encodeRow W (reachedBelow 0))) e ∙ row-over W (reachedBelow 0) (λ v. false) entry
         ∙ ap (λ (r : List ℕ). overwrite r entry) (encode-row-ext W (reachedBelow 0) (λ v. false) (λ v m. none-below v)));
-    hops-is = sym (ap (λ (r : List ℕ). overwrite r hops₀) (fill-ext (hopBelow hops₀ 0) (λ v. getD hops₀ v 0) (64 * W) (λ v m. hop-none hops₀ v)) ∙ fill-same hops₀ (64 * W) 0 l);
+    hops-is = fill-whole (hopBelow hops₀ 0) (64 * W) hops₀ l (λ v m. sym (hop-none hops₀ v));
     next-length = refl;
     hops-length = refl;
   }
@@ -94,37 +91,41 @@ module _ (W : ℕ) (links layer : List ℕ) (k : ℕ) where
             go u m w (inl l) = or-left (tableBit W links v x) (any-intro (p at) (range (64 * W)) m (and-intro (lt-ltb u at l) (and-intro (w .0) (w .1))))
             go u m w (inr e) = or-right (reachedBelow at x) (subst (λ (y : ℕ). tableBit W links y x ≡ true) e (w .1))
 
-    hop-more : (hops : List ℕ) (i : ℕ) → cond (eqb i v) k (hopBelow hops at i) ≡ hopBelow hops (v + 1) i
+    hop-here : (hops : List ℕ) → k ≡ hopBelow hops (v + 1) v
     unfolding hopBelow
-    hop-more hops i = go (eq-or-ne i v)
-      where
-        same : i ≢ v → (ltb i at && rowBit W layer i) ≡ (ltb i (v + 1) && rowBit W layer i)
-        same ne = same-test (ltb i at && rowBit W layer i) (ltb i (v + 1) && rowBit W layer i)
-            (λ h. let z = and-true (ltb i at) (rowBit W layer i) h in let l : i < at = ltb-true i at (z .0) in let a : at ≤ v = n .after in and-intro (lt-ltb i (v + 1) (omega arith)) (z .1))
-            (λ h. let z = and-true (ltb i (v + 1)) (rowBit W layer i) h in back (z .1) (below-cases i (ltb-true i (v + 1) (z .0)) (z .1)))
-          where
-            back : rowBit W layer i ≡ true → (i < at) ⊎ (i ≡ v) → (ltb i at && rowBit W layer i) ≡ true
-            back m (inl l) = and-intro (lt-ltb i at l) m
-            back m (inr e) = absurd (ne e)
+    hop-here hops = rw (lt-ltb v (v + 1) (omega arith), n .here)
 
-        go : (i ≡ v) ⊎ (i ≢ v) → cond (eqb i v) k (cond (ltb i at && rowBit W layer i) k (getD hops i 0)) ≡ cond (ltb i (v + 1) && rowBit W layer i) k (getD hops i 0)
-        go (inl e) =
-            let m : rowBit W layer i ≡ true = ap (rowBit W layer) e ∙ n .here in
-            rw (eq-eqb i v e, lt-ltb i (v + 1) (omega arith), m)
-        go (inr ne) = rw (ne-eqb i v ne, same ne)
+    hop-other : (hops : List ℕ) (i : ℕ) → i ≢ v → hopBelow hops at i ≡ hopBelow hops (v + 1) i
+    unfolding hopBelow
+    hop-other hops i ne = ap (λ (b : Bool). cond b k (getD hops i 0)) (same-test (ltb i at && rowBit W layer i) (ltb i (v + 1) && rowBit W layer i) to (λ h. from (and-true (ltb i (v + 1)) (rowBit W layer i) h)))
+      where
+        to : (ltb i at && rowBit W layer i) ≡ true → (ltb i (v + 1) && rowBit W layer i) ≡ true
+        to h =
+            let z = and-true (ltb i at) (rowBit W layer i) h in
+            let l : i < at = ltb-true i at (z .0) in
+            let a : at ≤ v = n .after in
+            and-intro (lt-ltb i (v + 1) (omega arith)) (z .1)
+
+        from : (ltb i (v + 1) ≡ true) × (rowBit W layer i ≡ true) → (ltb i at && rowBit W layer i) ≡ true
+        from z = go (below-cases i (ltb-true i (v + 1) (z .0)) (z .1))
+          where
+            go : (i < at) ⊎ (i ≡ v) → (ltb i at && rowBit W layer i) ≡ true
+            go (inl l) = and-intro (lt-ltb i at l) (z .1)
+            go (inr e) = absurd (ne e)
 
     pub visit-more : {next₀ hops₀ next hops : List ℕ} (next′ : List ℕ) → Visiting next₀ hops₀ next hops at → W ≤ length next₀ → 64 * W ≤ length hops₀
         → next′ ≡ overwrite (encodeRow W (λ x. rowBit W next x || tableBit W links v x)) next → Visiting next₀ hops₀ next′ (set hops v k) (v + 1)
     visit-more {next₀} {hops₀} {next} {hops} next′ I ln lh e =
         let is : next′ ≡ overwrite (encodeRow W (reachedBelow (v + 1))) next₀ =
         e ∙ ap (λ (l : List ℕ). overwrite (encodeRow W (λ x. rowBit W next x || tableBit W links v x)) l) (I .next-is)
-        ∙ row-again W (λ x. rowBit W next x || tableBit W links v x) (reachedBelow at) next₀
+        ∙ row-over W (λ x. rowBit W next x || tableBit W links v x) (reachedBelow at) next₀
         ∙ ap (λ (r : List ℕ). overwrite r next₀) (encode-row-ext W (λ x. rowBit W next x || tableBit W links v x) (reachedBelow (v + 1)) bits) in
         record {
           within = omega (arith, n .inside);
           next-is = is;
-          hops-is = ap (λ (l : List ℕ). set l v k) (I .hops-is) ∙ fill-put (hopBelow hops₀ at) hops₀ (64 * W) v k (n .inside) lh
-              ∙ ap (λ (r : List ℕ). overwrite r hops₀) (fill-ext (λ i. cond (eqb i v) k (hopBelow hops₀ at i)) (hopBelow hops₀ (v + 1)) (64 * W) (λ i m. hop-more hops₀ i));
+          hops-is =
+              ap (λ (l : List ℕ). set l v k) (I .hops-is)
+              ∙ fill-put (hopBelow hops₀ at) (hopBelow hops₀ (v + 1)) (64 * W) hops₀ v k (n .inside) (hop-here hops₀) (λ i m ne. hop-other hops₀ i ne);
           next-length = ap length is ∙ overwrite-length (encodeRow W (reachedBelow (v + 1))) next₀ (subst (λ (m : ℕ). m ≤ length next₀) (sym (encode-row-length W (reachedBelow (v + 1)))) ln);
           hops-length = length-set hops v k ∙ I .hops-length;
         }
@@ -168,6 +169,6 @@ module _ (W : ℕ) (links layer : List ℕ) (k : ℕ) where
     unfolding visitOf
     visit-end {next₀} {hops₀} {next} {hops} entry I e =
         ap₂ visited
-        (I .next-is ∙ ap (overwrite (encodeRow W (reachedBelow at))) e ∙ row-again W (reachedBelow at) (λ v. false) entry
+        (I .next-is ∙ ap (overwrite (encodeRow W (reachedBelow at))) e ∙ row-over W (reachedBelow at) (λ v. false) entry
         ∙ ap (λ (r : List ℕ). overwrite r entry) (encode-row-ext W (reachedBelow at) (reaches W links layer) (λ v m. reached-all v)))
         (I .hops-is ∙ ap (λ (r : List ℕ). overwrite r hops₀) (fill-ext (hopBelow hops₀ at) (λ v. cond (rowBit W layer v) k (getD hops₀ v 0)) (64 * W) (λ v m. hop-all hops₀ v)))

@@ -40,3 +40,14 @@ searchLeaves W G s B =
       even = overwrite (encodeRow W (layerBit (dist G s) e 0)) (B .even);
       odd = overwrite (encodeRow W (layerBit (dist G s) e 1)) (B .odd);
     }
+
+-- a search from s over a table of links: the distance of its last layer, and what it leaves
+pub record Searched : Type 0 where
+  pub depth : ℕ
+  pub left : Tables
+
+abbrev pub searched : ℕ → Tables → Searched
+searched e B = record { depth = e; left = B }
+
+unfoldable pub searchTable : ℕ → List ℕ → ℕ → Tables → Searched
+searchTable W links s B = record { depth = depthFrom (tableNetwork W links) s; left = searchLeaves W (tableNetwork W links) s B }

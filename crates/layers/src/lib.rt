@@ -2,9 +2,8 @@ ghost use mathlib.Core.Path.{_≡_};
 ghost use Prim.Native.Nat.{_+_, _*_, _<_, _≤_};
 ghost use lib.ListN.{length};
 ghost use Rattle.lists.specs.Lists.{range, mapl, overwrite};
-ghost use Rattle.layers.specs.Layers.{tableNetwork, depthFrom, tables, searchLeaves};
-ghost use Rattle.layers.specs.Steps.{visited, visitOf, stepped, stepOf, Room};
-
+ghost use Rattle.layers.specs.Layers.{tables, searched, searchTable};
+ghost use Rattle.layers.specs.Steps.{visited, visitOf, stepped, stepOf, begun, beginOf, Room};
 use rows::Next;
 
 // Puts x into the first n places of a table of numbers.
@@ -39,7 +38,16 @@ pub fn visit(next: &mut [u64], hops: &mut [u16], links: &[u64], layer: &[u64], w
 
 // One step of a search, from the layer at distance k to the next one, which goes into the other row and is seen.
 // Answers whether there is a next layer. What stands in next afterwards is free.
-pub fn step(hops: &mut [u16], other: &mut [u64], seen: &mut [u64], next: &mut [u64], links: &[u64], layer: &[u64], words: usize, k: u16) -> bool
+pub fn step(
+    hops: &mut [u16],
+    other: &mut [u64],
+    seen: &mut [u64],
+    next: &mut [u64],
+    links: &[u64],
+    layer: &[u64],
+    words: usize,
+    k: u16,
+) -> bool
     requires { ⌜ Room words (now links) (now hops) × (words ≤ length (now layer)) × (words ≤ length (now other)) × (words ≤ length (now seen)) × (words ≤ length (now next)) ⌝ }
     ensures { λ r. ⌜ stepped r (now (hops .exit)) (now (other .exit)) (now (seen .exit)) ≡ stepOf words (now (links .entry)) (now (layer .entry)) k (now (hops .entry)) (now (other .entry)) (now (seen .entry)) ⌝ }
 {
@@ -54,8 +62,16 @@ pub fn step(hops: &mut [u16], other: &mut [u64], seen: &mut [u64], next: &mut [u
 }
 
 // The start of a search: no hop, the start alone in the even row and seen.
-fn begin(hops: &mut [u16], even: &mut [u64], odd: &mut [u64], seen: &mut [u64], words: usize, start: usize)
+fn begin(
+    hops: &mut [u16],
+    even: &mut [u64],
+    odd: &mut [u64],
+    seen: &mut [u64],
+    words: usize,
+    start: usize,
+)
     requires { ⌜ (0 < words) × (words < 513) × (64 * words ≤ length (now hops)) × (words ≤ length (now even)) × (words ≤ length (now odd)) × (words ≤ length (now seen)) × (start < 64 * words) ⌝ }
+    ensures { λ r. ⌜ begun (tables (now (hops .exit)) (now (even .exit)) (now (odd .exit))) (now (seen .exit)) ≡ beginOf words start (tables (now (hops .entry)) (now (even .entry)) (now (odd .entry))) (now (seen .entry)) ⌝ }
 {
     fill(hops, 64 * words, 65535);
     rows::clear(even, words);
@@ -67,8 +83,18 @@ fn begin(hops: &mut [u16], even: &mut [u64], odd: &mut [u64], seen: &mut [u64], 
 
 // A search from start over any table of links: hop table and layer rows, and the distance of the last layer.
 // What stands in seen and next afterwards is free.
-pub fn search_table(hops: &mut [u16], even: &mut [u64], odd: &mut [u64], seen: &mut [u64], next: &mut [u64], links: &[u64], words: usize, start: usize) -> u16
+pub fn search_table(
+    hops: &mut [u16],
+    even: &mut [u64],
+    odd: &mut [u64],
+    seen: &mut [u64],
+    next: &mut [u64],
+    links: &[u64],
+    words: usize,
+    start: usize,
+) -> u16
     requires { ⌜ Room words (now links) (now hops) × (words ≤ length (now even)) × (words ≤ length (now odd)) × (words ≤ length (now seen)) × (words ≤ length (now next)) × (start < 64 * words) ⌝ }
+    ensures { λ r. ⌜ searched r (tables (now (hops .exit)) (now (even .exit)) (now (odd .exit))) ≡ searchTable words (now (links .entry)) start (tables (now (hops .entry)) (now (even .entry)) (now (odd .entry))) ⌝ }
 {
     begin(hops, even, odd, seen, words, start);
     let mut k: u16 = 0;

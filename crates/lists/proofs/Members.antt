@@ -79,6 +79,11 @@ module _ {ℓ} {A : Type ℓ} where
       go k (inl q) ih = ap p q ∙ k .0
       go k (inr n) ih = ih (k .1) n
 
+pub filter-all {ℓ} : {A : Type ℓ} (p : A → Bool) (xs : List A) → ((x : A) → List·Memᴰ x xs → p x ≡ true) → filterb p xs ≡ xs
+unfolding filterb
+filter-all p [] h = refl
+filter-all p (x ∷ xs) h = rw (h x (List·Memᴰ·head refl), filter-all p xs (λ y m. h y (List·Memᴰ·tail m)))
+
 pub filter-none {ℓ} : {A : Type ℓ} (xs : List A) → filterb (λ x. false) xs ≡ []
 unfolding filterb
 filter-none [] = refl

@@ -1,6 +1,6 @@
 -- `layers::fill` meets its contract. The loop's invariant: the first v places hold x, and the others are as they were. The measure is the places left.
 -- Assumes nothing.
-use mathlib.Core.Path.{_≡_, refl, sym, ap, _∙_, subst}
+use mathlib.Core.Path.{_≡_, refl, sym, ap, _∙_}
 use mathlib.Core.List.{List}
 use Prim.Native.Nat.{ℕ, _-_, _≤_}
 use native.Mathlib.Omega.{arith}
@@ -8,7 +8,7 @@ use native.Mathlib.Nat.{le-antisymm}
 use lib.ListN.{length, set, length-set}
 use borrow.Author.Needs.{needs}
 use Rattle.lists.specs.Lists.{range, mapl, overwrite}
-use Rattle.lists.proofs.Fills.{fill-none, fill-more, fill-length}
+use Rattle.lists.proofs.Fills.{fill-none, fill-more}
 use Rattle.layers.proofs.fill.Statement.{statement}
 use Rattle.layers.proofs.fill.Tie as tie
 

@@ -1,69 +1,54 @@
+-- `layers::step` meets its contract: next holds the fresh codes (Stepping.antt), and goes into the other row where there are any.
+-- Assumes nothing.
+use Rattle.layers.proofs.Stepping.{step-none, step-more}
 use borrow.Author.Needs.{needs}
 use Rattle.layers.proofs.step.Statement.{statement}
 use Rattle.layers.proofs.step.Tie as tie
-use Rattle.layers.proofs.step.Reads as reads
-use Rattle.layers.proofs.step.Lts as lts
-use Rattle.layers.proofs.visit.Reads as visit-reads
-use Rattle.rows.proofs.add_row.Reads as add-row-reads
-use Rattle.rows.proofs.copy.Reads as copy-reads
-use Rattle.rows.proofs.is_empty.Reads as is-empty-reads
-use Rattle.rows.proofs.remove_row.Reads as remove-row-reads
 
--- src/lib.rt:46:5
 visit-requires : tie.Need-visit-requires
 visit-requires c κs = search needs
 
--- src/lib.rt:47:5
 remove-row-requires : tie.Need-remove-row-requires
 remove-row-requires c κs = search needs
 
--- src/lib.rt:48:8
 is-empty-requires : tie.Need-is-empty-requires
 is-empty-requires c κs = search needs
 
--- src/lib.rt:49:9
 same-length : tie.Need-same-length
 same-length c = search needs
 
--- src/lib.rt:49:9
 same-length-2 : tie.Need-same-length-2
 same-length-2 c = search needs
 
--- src/lib.rt:49:9
 same-length-3 : tie.Need-same-length-3
 same-length-3 c = search needs
 
--- src/lib.rt:49:9
 returns : tie.Need-returns
-returns c = ?
+returns c =
+    step-none _ _ _ _ _ _ _ _ _ _ (c .before .before .before .before .before .before .before .before .before .before .before .before .visit .ensures) (c .before .before .before .before .before .remove-row .ensures) _ _ (c .before .is-empty .ensures) (c .if1 .taken)
 
--- src/lib.rt:51:5
 copy-requires : tie.Need-copy-requires
 copy-requires c κs = search needs
 
--- src/lib.rt:52:5
 add-row-requires : tie.Need-add-row-requires
 add-row-requires c κs = search needs
 
--- src/lib.rt:42:1
 same-length-4 : tie.Need-same-length-4
 same-length-4 c = search needs
 
--- src/lib.rt:42:1
 same-length-5 : tie.Need-same-length-5
 same-length-5 c = search needs
 
--- src/lib.rt:42:1
 same-length-6 : tie.Need-same-length-6
 same-length-6 c = search needs
 
--- src/lib.rt:42:1
 same-length-7 : tie.Need-same-length-7
 same-length-7 c = search needs
 
--- src/lib.rt:42:1
 returns-2 : tie.Need-returns-2
-returns-2 c = ?
+returns-2 c =
+    step-more _ _ _ _ _ _ _ _ _ _ (c .before .before .before .before .before .before .before .before .before .before .before .before .before .before .before .before .before .before .before .before .before .before .visit .ensures) (c .before .before .before .before .before .before .before .before .before .before .before .before .before .before .before .remove-row .ensures) _ _ _ _ (c .before .before .before .before .before .before .before .before .before .before .before .is-empty .ensures) (c .before .before .before .before .before .before .before .before .before .before .if1 .left)
+    (c .before .before .before .before .before .before .before .copy .ensures) (c .before .before .add-row .ensures)
 
 pub step-spec : {M : Type 1} → statement M
 step-spec =

@@ -1,7 +1,7 @@
 -- `layers::visit` meets its contract. The loop's invariant (Visits.antt): the members below `from` have their hop, and what they are linked to
 -- stands in next. The measure is the codes left. Assumes nothing.
-use mathlib.Core.Path.{_≡_, subst}
-use Prim.Native.Nat.{ℕ, _-_, _*_, _≤_}
+use mathlib.Core.Path.{subst}
+use Prim.Native.Nat.{_-_, _*_}
 use native.Mathlib.Omega.{arith}
 use borrow.Author.Needs.{needs}
 use Rattle.rows.specs.Next.{IsNext, NextIs}

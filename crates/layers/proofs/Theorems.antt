@@ -1,0 +1,157 @@
+-- THE THEOREMS of this crate: a search over a table finds the distances of the network that the table means, its last layer lies at the
+-- eccentricity, and the layer rows hold exactly the depots at their distance. Assumes nothing.
+use mathlib.Core.Path.{_≡_, refl, sym, ap, ap₂, _∙_, subst, fun-ext}
+use mathlib.Core.Logic.{_⊎_, inl, inr, _↔_}
+use mathlib.Core.Bool.{Bool, true, false, cond, _&&_}
+use mathlib.Core.List.{List, List·Memᴰ}
+use Prim.Native.Nat.{ℕ, zero, suc, _*_, _≤_, _<_, zero-le}
+use native.Mathlib.Nat.{le-antisymm, le-refl, lt-irrefl}
+use native.Mathlib.Omega.{arith}
+use lib.Dec.{T, eqb, ltb}
+use lib.ListN.{length}
+use borrow.Author.Tests.{eqb-true, eq-eqb, lt-ltb}
+use Rattle.lists.specs.Lists.{range, anyb, maxOf, overwrite}
+use Rattle.lists.proofs.Tests.{look, t→true, true→t, clash, and-true, same-test}
+use Rattle.lists.proofs.Members.{any-intro, any-elim, filter-in, filter-out, range-in}
+use Rattle.lists.proofs.Counts.{max-ge, max-le-of}
+use Rattle.graph.specs.Network.{Network, IsSound, IsDist}
+use Rattle.graph.specs.Distance.{vertices, unreached, nextHop, hops, dist}
+use Rattle.graph.specs.Chart.{chart, destinations, ecc}
+use Rattle.graph.specs.Correct.{IsNet}
+use Rattle.graph.proofs.Walks.{dist-unique, walk-open}
+use Rattle.graph.proofs.Distances.{layers, hops-dist, vertices-in, vertices-out, vertices-length, dist-is, dist-reached, dist-below}
+use Rattle.graph.proofs.Layers.{hops-range}
+use Rattle.graph.proofs.Connected.{hop-open, hop-closed}
+use Rattle.rows.specs.Rows.{rowBit, tableBit, encodeRow}
+use Rattle.rows.proofs.Written.{row-at}
+use Rattle.layers.specs.Layers.{tableNetwork, depthFrom, Tables, searchLeaves}
+use Rattle.layers.proofs.Turning.{table-dist}
+
+-- ---- the network of a table alone, and one with the same links
+
+module _ (G : Network) (sound : IsSound G) (small : G .limit < unreached) (s : ℕ) (o : T (G .isOpen s)) where
+  abbrev vs : List ℕ
+  vs = vertices G
+
+  -- closed codes have no links, so that it is the same to look for neighbours among all codes or among the open ones
+  near-same : (h : ℕ → ℕ) (k v : ℕ) → anyb (λ w. eqb (h w) k && G .linked w v) (range (G .limit)) ≡ anyb (λ w. eqb (h w) k && G .linked w v) (vertices G)
+  unfolding vertices
+  near-same h k v = same-test (anyb p (range (G .limit))) (anyb p (vertices G)) to from
+    where
+      p : ℕ → Bool
+      p w = eqb (h w) k && G .linked w v
+
+      to : anyb p (range (G .limit)) ≡ true → anyb p (vertices G) ≡ true
+      to e =
+          let x = any-elim p (range (G .limit)) e in
+          let l = true→t (and-true (eqb (h (x .0)) k) (G .linked (x .0) v) (x .2) .1) in
+          any-intro p (vertices G) (vertices-in G sound (x .0) (sound .ends v (x .0) (sound .symmetric (x .0) v l))) (x .2)
+
+      from : anyb p (vertices G) ≡ true → anyb p (range (G .limit)) ≡ true
+      from e = let x = any-elim p (vertices G) e in any-intro p (range (G .limit)) (filter-out (G .isOpen) (range (G .limit)) (x .1) .0) (x .2)
+
+  hops-same : (k : ℕ) → hops (range (G .limit)) (G .linked) s k ≡ hops (vertices G) (G .linked) s k
+  unfolding hops nextHop
+  hops-same zero = refl
+  hops-same (suc k) =
+      fun-ext (λ v.
+      ap (λ (h : ℕ → ℕ). cond (ltb (h v) unreached) (h v) (cond (anyb (λ w. eqb (h w) k && G .linked w v) (range (G .limit))) (suc k) unreached)) (hops-same k)
+      ∙ ap (λ (b : Bool). cond (ltb (hops (vertices G) (G .linked) s k v) unreached) (hops (vertices G) (G .linked) s k v) (cond b (suc k) unreached)) (near-same (hops (vertices G) (G .linked) s k) k v))
+
+  -- as many layers as codes, or as depots
+  hops-enough : (v : ℕ) → hops (vertices G) (G .linked) s (G .limit) v ≡ dist G s v
+  unfolding dist
+  hops-enough v = go (hops-range (vertices G) (G .linked) s (G .limit) v) (hops-range (vertices G) (G .linked) s (length (vertices G)) v)
+    where
+      long : hops (vertices G) (G .linked) s (G .limit) v < unreached → hops (vertices G) (G .linked) s (G .limit) v ≡ dist G s v
+      long l =
+          let d = layers G sound (vertices G) (vertices-in G sound) s (G .limit) small .reached v l .1 in
+          dist-unique d (dist-is G sound small s o (hops (vertices G) (G .linked) s (G .limit) v) v (d .walk))
+
+      short : dist G s v < unreached → hops (vertices G) (G .linked) s (G .limit) v ≡ dist G s v
+      short l =
+          let d = dist-reached G sound small s o v l in
+          dist-unique (hops-dist G sound (vertices G) (vertices-in G sound) s o (G .limit) (vertices-length G) small (dist G s v) v (d .walk)) d
+
+      go : (hops (vertices G) (G .linked) s (G .limit) v ≤ G .limit) ⊎ (hops (vertices G) (G .linked) s (G .limit) v ≡ unreached)
+          → (hops (vertices G) (G .linked) s (length (vertices G)) v ≤ length (vertices G)) ⊎ (hops (vertices G) (G .linked) s (length (vertices G)) v ≡ unreached)
+          → hops (vertices G) (G .linked) s (G .limit) v ≡ dist G s v
+      go (inl l) b = long (omega arith)
+      go (inr e) (inl l) = short (omega (arith, vertices-length G))
+      go (inr e) (inr f) = e ∙ sym f
+
+  -- A SEARCH OVER THE TABLE FINDS THE NETWORK'S DISTANCES
+  pub table-search : (W : ℕ) (links : List ℕ) → G .limit ≡ 64 * W → G .linked ≡ tableBit W links → dist (tableNetwork W links) s ≡ dist G s
+  table-search W links a b = fun-ext (λ v.
+      table-dist W links s v
+      ∙ ap₂ (λ (n : ℕ) (adjacent : ℕ → ℕ → Bool). hops (range n) adjacent s n v) (sym a) (sym b)
+      ∙ ap (λ (h : ℕ → ℕ). h v) (hops-same (G .limit))
+      ∙ hops-enough v)
+
+  pub table-depth : (W : ℕ) (links : List ℕ) → G .limit ≡ 64 * W → G .linked ≡ tableBit W links → depthFrom (tableNetwork W links) s ≡ depthFrom G s
+  unfolding depthFrom tableNetwork
+  table-depth W links a b =
+      ap₂ (λ (h : ℕ → ℕ) (n : ℕ). maxOf (λ v. cond (ltb (h v) unreached) (h v) 0) (range n)) (table-search W links a b) (sym a)
+
+  pub table-leaves : (W : ℕ) (links : List ℕ) (B : Tables) → G .limit ≡ 64 * W → G .linked ≡ tableBit W links → searchLeaves W (tableNetwork W links) s B ≡ searchLeaves W G s B
+  unfolding searchLeaves
+  table-leaves W links B a b = rw (table-search W links a b, table-depth W links a b)
+
+-- ---- by the published words, on a connected network
+
+module _ (G : Network) (net : IsNet G) (s : ℕ) (o : T (G .isOpen s)) where
+  -- the last layer lies at the eccentricity
+  pub depth-is : depthFrom G s ≡ ecc (chart G) s
+  unfolding depthFrom ecc destinations chart
+  depth-is = le-antisymm upper lower
+    where
+      f : ℕ → ℕ
+      f v = cond (ltb (dist G s v) unreached) (dist G s v) 0
+
+      upper : maxOf f (range (G .limit)) ≤ ecc (chart G) s
+      upper = max-le-of f (range (G .limit)) (ecc (chart G) s) (λ v m. go v m (look (G .isOpen v)))
+        where
+          cut : (x : ℕ) → cond (ltb x unreached) x 0 ≤ x
+          cut x = at (ltb x unreached)
+            where
+              at : (b : Bool) → cond b x 0 ≤ x
+              at true = le-refl x
+              at false = zero-le
+
+          go : (v : ℕ) → List·Memᴰ v (range (G .limit)) → (G .isOpen v ≡ true) ⊎ (G .isOpen v ≡ false) → f v ≤ ecc (chart G) s
+          go v m (inl e) =
+              let a : f v ≤ dist G s v = cut (dist G s v) in
+              let b : dist G s v ≤ ecc (chart G) s = max-ge (dist G s) (destinations (chart G)) (filter-in (G .isOpen) (vertices G) (vertices-in G (net .sound) v (true→t e)) e) in
+              omega arith
+          go v m (inr e) = rw (hop-closed G net s o v (λ t. clash (t→true (G .isOpen v) t) e)) zero-le
+
+      lower : ecc (chart G) s ≤ maxOf f (range (G .limit))
+      lower =
+          max-le-of (dist G s) (destinations (chart G)) (maxOf f (range (G .limit)))
+          (λ v m.
+          let ov = vertices-out G (filter-out (G .isOpen) (vertices G) m .0) in
+          let d : dist G s v < length (vertices G) = dist-below G (net .sound) (net .small) s o (dist G s v) v (hop-open G net s o v ov) in
+          let e : f v ≡ dist G s v = ap (λ (b : Bool). cond b (dist G s v) 0) (lt-ltb (dist G s v) unreached (omega (arith, vertices-length G, net .small))) in
+          let g : f v ≤ maxOf f (range (G .limit)) = max-ge f (range (G .limit)) (range-in (G .limit) (net .sound .below v ov)) in
+          omega arith)
+
+  -- a row written with the depots at distance k holds exactly those
+  pub layer-is : (W k : ℕ) (old : List ℕ) → k < unreached → (v : ℕ) → v < 64 * W
+      → T (rowBit W (overwrite (encodeRow W (λ x. eqb (dist G s x) k)) old) v) ↔ IsDist G s v k
+  layer-is W k old low v l = (to, back)
+    where
+      read : rowBit W (overwrite (encodeRow W (λ x. eqb (dist G s x) k)) old) v ≡ eqb (dist G s v) k
+      read = row-at W (λ x. eqb (dist G s x) k) old v l
+
+      at : eqb (dist G s v) k ≡ true → (G .isOpen v ≡ true) ⊎ (G .isOpen v ≡ false) → IsDist G s v k
+      at h (inl ov) = subst (λ (d : ℕ). IsDist G s v d) (eqb-true (dist G s v) k h) (hop-open G net s o v (true→t ov))
+      at h (inr cv) =
+          let p : dist G s v ≡ k = eqb-true (dist G s v) k h in
+          let q : dist G s v ≡ unreached = hop-closed G net s o v (λ t. clash (t→true (G .isOpen v) t) cv) in
+          absurd (lt-irrefl k (omega arith))
+
+      to : T (rowBit W (overwrite (encodeRow W (λ x. eqb (dist G s x) k)) old) v) → IsDist G s v k
+      to h = at (sym read ∙ t→true _ h) (look (G .isOpen v))
+
+      back : IsDist G s v k → T (rowBit W (overwrite (encodeRow W (λ x. eqb (dist G s x) k)) old) v)
+      back d = true→t (read ∙ eq-eqb (dist G s v) k (dist-unique (hop-open G net s o v (walk-open (net .sound) o (d .walk))) d))
