@@ -1,0 +1,2 @@
+-- What an emptying leaves: zeros.
+pub mod Empties

@@ -1,0 +1,56 @@
+ghost use mathlib.Core.Path.{_≡_};
+ghost use Rattle.map.specs.Memory.{base};
+ghost use Rattle.map.specs.Empty.{emptyLeft, emptyCall};
+
+// ---- emptying
+
+// The record of one map: open set (one row), number open, longest chain, pair count.
+pub struct Record {
+    pub codes: [u64; 4],
+    pub number: u16,
+    pub chain: u16,
+    pub count: u32,
+}
+
+// The answer of emptying: done, or the refusal's number.
+pub enum Emptying {
+    Done,
+    Refused(u8),
+}
+
+// What emptying a map leaves: its answer and the record.
+pub struct Emptied {
+    pub answer: Emptying,
+    pub after: Record,
+}
+
+// Empties a map: both tables and the record become zero. Refused only with 1, where a table is short.
+// A table is cleared as one row of 1,024 words.
+pub fn empty_map(links: &mut [u64], pairs: &mut [u64], rec: Record) -> Emptied
+    ensures { λ r. ⌜ emptyLeft r (now (links .exit)) (now (pairs .exit)) ≡ emptyCall base rec (now (links .entry)) (now (pairs .entry)) ⌝ }
+{
+    if links.len() < 1024 {
+        return Emptied {
+            answer: Emptying::Refused(1),
+            after: rec,
+        };
+    }
+    if pairs.len() < 1024 {
+        return Emptied {
+            answer: Emptying::Refused(1),
+            after: rec,
+        };
+    }
+    rows::clear(links, 1024);
+    rows::clear(pairs, 1024);
+    let none = Record {
+        codes: [0u64; 4],
+        number: 0,
+        chain: 0,
+        count: 0,
+    };
+    Emptied {
+        answer: Emptying::Done,
+        after: none,
+    }
+}
