@@ -1,2 +1,8 @@
+-- Tests: what a branch shows of one, and that every set bit passes one.
+pub mod Sets
+-- The scan of a table's set bits, over any test.
+pub mod Scans
+-- Sound links and figures, from what the code finds.
+pub mod Checks
 -- What an emptying leaves: zeros.
 pub mod Empties

@@ -1,6 +1,66 @@
 ghost use mathlib.Core.Path.{_≡_};
-ghost use Rattle.map.specs.Memory.{base};
+ghost use Prim.Native.Nat.{_*_, _<_, _≤_};
+ghost use lib.ListN.{length};
+ghost use Rattle.rows.specs.Rows.{rowBit};
+ghost use Rattle.map.specs.Memory.{base, networkOf};
+ghost use Rattle.map.specs.Sound.{IsLent, soundLink, soundLinks};
 ghost use Rattle.map.specs.Empty.{emptyLeft, emptyCall};
+
+// Whether v is open. The open set is lent as row 0 of a table.
+pub fn is_open(codes: &[u64], words: usize, v: usize) -> bool
+    requires { ⌜ (words ≤ length (now codes)) × (v < 64 * words) ⌝ }
+    ensures { λ r. ⌜ r ≡ rowBit words (now (codes .entry)) v ⌝ }
+{
+    rows::row_test(codes, words, 0, v)
+}
+
+// ---- sound links
+
+// Whether a bit v of row u may stand: u and v are open and differ, and row v has bit u.
+fn link_is_sound(links: &[u64], codes: &[u64], words: usize, u: usize, v: usize) -> bool
+    requires { ⌜ IsLent words (now links) (now codes) × (u < 64 * words) × (v < 64 * words) ⌝ }
+    ensures { λ r. ⌜ r ≡ soundLink (networkOf words (now (codes .entry)) (now (links .entry))) u v ⌝ }
+{
+    if !is_open(codes, words, u) {
+        return false;
+    }
+    if !is_open(codes, words, v) {
+        return false;
+    }
+    if u == v {
+        return false;
+    }
+    rows::row_test(links, words, v, u)
+}
+
+// Whether links and number open are sound. Only set bits are walked, and the walk ends at the first faulty one.
+pub fn links_are_sound(links: &[u64], codes: &[u64], words: usize, number: u16) -> bool
+    requires { ⌜ IsLent words (now links) (now codes) ⌝ }
+    ensures { λ r. ⌜ r ≡ soundLinks (networkOf words (now (codes .entry)) (now (links .entry))) number ⌝ }
+{
+    if rows::degree(codes, words, 0) != number as usize {
+        return false;
+    }
+    let mut fine = true;
+    let mut u: usize = 0;
+    'rows: while u < 64 * words {
+        let mut w: usize = 0;
+        while w < words {
+            let mut x = links[words * u + w];
+            while x != 0 {
+                let v = 64 * w + words::least(x);
+                if !link_is_sound(links, codes, words, u, v) {
+                    fine = false;
+                    break 'rows;
+                }
+                x = words::drop_least(x);
+            }
+            w += 1;
+        }
+        u += 1;
+    }
+    fine
+}
 
 // ---- emptying
 
