@@ -8,3 +8,5 @@ pub mod Sums
 pub mod Checks
 -- What an emptying leaves: zeros.
 pub mod Empties
+-- What the tests and the emptying mean.
+pub mod Theorems
