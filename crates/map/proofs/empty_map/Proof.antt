@@ -1,0 +1,40 @@
+-- `map::empty_map` meets its contract: a short table changes nothing, and a row cleared is a row of zeros.
+-- Assumes nothing.
+use native.Mathlib.Omega.{arith}
+use Rattle.map.proofs.Empties.{short-links, short-pairs, both-cleared}
+use borrow.Author.Needs.{needs}
+use Rattle.map.proofs.empty_map.Statement.{statement}
+use Rattle.map.proofs.empty_map.Tie as tie
+
+returns : tie.Need-returns
+returns c = short-links _ _ _ (c .if1 .taken)
+
+returns-2 : tie.Need-returns-2
+returns-2 c = short-pairs _ _ _ (c .if2 .taken)
+
+clear-requires : tie.Need-clear-requires
+clear-requires c κs = search needs
+
+clear-requires-2 : tie.Need-clear-requires-2
+clear-requires-2 c κs = search needs
+
+same-length : tie.Need-same-length
+same-length c = search needs
+
+same-length-2 : tie.Need-same-length-2
+same-length-2 c = search needs
+
+returns-3 : tie.Need-returns-3
+returns-3 c = both-cleared _ _ _ (omega arith) (omega arith) (c .before .before .before .before .before .before .clear .ensures) (c .before .before .clear2 .ensures)
+
+pub empty-map-spec : {M : Type 1} → statement M
+empty-map-spec =
+    tie.close
+    (tie.spec
+    returns
+    returns-2
+    clear-requires
+    clear-requires-2
+    same-length
+    same-length-2
+    returns-3)

@@ -1,0 +1,57 @@
+-- EMPTYING A MAP: it zeroes both tables and the record, and is refused only with 1. `emptied-is-empty` (proofs/Theorems) says what that means.
+-- Assumes nothing.
+use mathlib.Core.Path.{_≡_}
+use mathlib.Core.Bool.{false, not, _&&_}
+use mathlib.Core.List.{List, [], _∷_}
+use Prim.Native.Nat.{ℕ, zero, suc, _*_}
+use lib.Dec.{leb}
+use lib.ListN.{length}
+use Rattle.lists.specs.Lists.{range, mapl, overwrite, firstOf}
+use Rattle.rows.specs.Rows.{tableBit}
+use Rattle.map.specs.Memory.{Shape, tableWords, networkOf}
+use Rattle.map.specs.declared.Record.{Record}
+use Rattle.map.specs.declared.Emptied.{Emptied}
+use Rattle.map.specs.declared.Emptying.{Emptying}
+use Rattle.map.specs.declared.Emptying.the-variants.{Done, Refused}
+
+unfoldable pub zeros : ℕ → List ℕ
+zeros n = mapl (λ i. 0) (range n)
+
+unfoldable pub emptyRecord : ℕ → Record
+emptyRecord W = record { codes = zeros W; number = 0; chain = 0; count = 0 }
+
+-- what the call leaves: its answer, the record and the two lent tables, words past the named size included
+pub record EmptyLeft : Type 0 where
+  pub answer : Emptying
+  pub after : Record
+  pub links : List ℕ
+  pub pairs : List ℕ
+
+abbrev pub emptyLeft : Emptied → List ℕ → List ℕ → EmptyLeft
+emptyLeft r l p = record { answer = r .answer; after = r .after; links = l; pairs = p }
+
+unfoldable pub emptyRefusal : Shape → List ℕ → List ℕ → ℕ
+emptyRefusal K links pairs = firstOf ((not (leb (tableWords K) (length links) && leb (tableWords K) (length pairs)), 1) ∷ [])
+
+unfoldable pub emptyGiven : ℕ → Shape → Record → List ℕ → List ℕ → EmptyLeft
+emptyGiven zero K rec links pairs = record {
+  answer = Done;
+  after = emptyRecord (K .words);
+  links = overwrite (zeros (tableWords K)) links;
+  pairs = overwrite (zeros (tableWords K)) pairs;
+}
+emptyGiven (suc k) K rec links pairs = record { answer = Refused (suc k); after = rec; links = links; pairs = pairs }
+
+unfoldable pub emptyCall : Shape → Record → List ℕ → List ℕ → EmptyLeft
+emptyCall K rec links pairs = emptyGiven (emptyRefusal K links pairs) K rec links pairs
+
+-- ---- what it means
+
+-- The map is empty: no code is open, no link and no pair stands, and the figures are 0.
+pub record IsEmpty (W : ℕ) (left : EmptyLeft) : Type 0 where
+  pub closed : (u : ℕ) → networkOf W (left .after .codes) (left .links) .isOpen u ≡ false
+  pub unlinked : (u v : ℕ) → networkOf W (left .after .codes) (left .links) .linked u v ≡ false
+  pub unpaired : (u v : ℕ) → tableBit W (left .pairs) u v ≡ false
+  pub number : left .after .number ≡ 0
+  pub chain : left .after .chain ≡ 0
+  pub count : left .after .count ≡ 0

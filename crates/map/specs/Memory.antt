@@ -1,0 +1,38 @@
+-- THE MEMORY OF ONE MAP (document 01, 'Memory of one map'): its shape, and the network that its words mean. Document 01 has 4 words per row;
+-- every definition takes the number of words.
+-- Assumes nothing.
+use mathlib.Core.Path.{_≡_}
+use mathlib.Core.List.{List}
+use Prim.Native.Nat.{ℕ, _*_, _≤_, _<_}
+use Rattle.graph.specs.Network.{Network}
+use Rattle.rows.specs.Rows.{rowBit, tableBit}
+
+-- The shape of a map: words per row, and the skip table's marks of a searched depot and of any other.
+pub record Shape : Type 0 where
+  pub words : ℕ
+  pub searchedMark : ℕ
+  pub otherMark : ℕ
+
+-- the codes of a map are 0 to places - 1: so many rows a table has, and so many numbers the hop, bound and skip tables
+abbrev pub places : Shape → ℕ
+places K = 64 * K .words
+
+-- the words of a table
+abbrev pub tableWords : Shape → ℕ
+tableWords K = K .words * (64 * K .words)
+
+-- A row has 1 to 512 words, and no depot's code is a mark.
+pub record IsShape (K : Shape) : Type 0 where
+  pub positive : 0 < K .words
+  pub most : K .words < 513
+  pub searchedFree : places K ≤ K .searchedMark
+  pub otherFree : places K ≤ K .otherMark
+  pub marksDiffer : K .searchedMark ≡ K .otherMark → ⊥
+
+-- document 01's shape: 4 words, 256 codes, marks 256 and 257
+abbrev pub base : Shape
+base = record { words = 4; searchedMark = 256; otherMark = 257 }
+
+-- the network that an open set (one row) and a link table mean
+unfoldable pub networkOf : ℕ → List ℕ → List ℕ → Network
+networkOf W codes links = record { limit = 64 * W; isOpen = rowBit W codes; linked = tableBit W links }
