@@ -6,7 +6,7 @@ use Prim.Native.Nat.{ℕ, _*_, _≤_, _<_}
 use lib.Dec.{eqb, ltb}
 use borrow.Author.Tests.{eq-eqb, ne-eqb, lt-ltb, le-ltb}
 use Rattle.lists.specs.Lists.{range, countb}
-use Rattle.words.proofs.Counts.{count-same}
+use Rattle.lists.proofs.RangeCounts.{count-same}
 use Rattle.rows.specs.Rows.{rowBit, tableBit}
 use Rattle.rows.proofs.Written.{table-zero}
 use Rattle.graph.specs.Chart.{countPairs}

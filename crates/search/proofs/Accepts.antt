@@ -1,0 +1,159 @@
+-- The refusals of a search one by one, and what an accepted one leaves. Assumes nothing.
+use mathlib.Core.Path.{_≡_, refl, sym, ap, ap₂, _∙_, subst}
+use mathlib.Core.Bool.{Bool, true, false, not, _&&_}
+use mathlib.Core.List.{List, [], _∷_}
+use Prim.Native.Nat.{ℕ, zero, suc, _*_, _≤_, _<_}
+use native.Mathlib.Nat.{lt-irrefl}
+use native.Mathlib.Omega.{arith}
+use lib.Dec.{T, leb}
+use lib.ListN.{length}
+use borrow.Author.Tests.{leb-true, le-leb, lt-leb, not-true, not-false}
+use Rattle.lists.specs.Lists.{firstOf}
+use Rattle.lists.proofs.Tests.{t→true, true→t, and-true, and-intro}
+use Rattle.lists.proofs.Members.{first-zero}
+use Rattle.graph.specs.Network.{Network, IsSound, IsConnected}
+use Rattle.graph.specs.Distance.{unreached, connected}
+use Rattle.graph.specs.Chart.{chart, ecc}
+use Rattle.graph.specs.Correct.{IsNet}
+use Rattle.graph.proofs.Connected.{connected-iff}
+use Rattle.rows.specs.Rows.{rowBit, tableBit}
+use Rattle.layers.specs.Layers.{tableNetwork, depthFrom, Tables, tables, Searched, searched, searchLeaves, searchTable}
+use Rattle.layers.proofs.Theorems.{table-depth, table-leaves, depth-is}
+use Rattle.map.specs.Memory.{Shape, places, tableWords, IsShape, networkOf}
+use Rattle.map.specs.Sound.{soundLinks, AreLinksSound}
+use Rattle.map.specs.declared.Record.{Record}
+use Rattle.map.proofs.Theorems.{sound-links-iff}
+use Rattle.search.specs.SearchCall.{searchRoom, searchRefusal, SearchLeft, searchLeft, searchGiven, searchCall}
+use Rattle.search.specs.declared.Found.{Found}
+use Rattle.search.specs.declared.Found.the-variants.{Reached, Refused}
+
+-- ---- what no refusal says
+
+-- a map that is lent whole, sound and connected, with an open code
+pub record IsGranted (K : Shape) (rec : Record) (links : List ℕ) (hops even odd code : ℕ) : Type 0 where
+  pub table : tableWords K ≤ length links
+  pub hops-fit : places K ≤ hops
+  pub even-fit : K .words ≤ even
+  pub odd-fit : K .words ≤ odd
+  pub links-sound : soundLinks (networkOf (K .words) (rec .codes) links) (rec .number) ≡ true
+  pub joined : connected (networkOf (K .words) (rec .codes) links) ≡ true
+  pub present : networkOf (K .words) (rec .codes) links .isOpen code ≡ true
+
+module _ (K : Shape) (rec : Record) (links : List ℕ) (hops even odd code : ℕ) where
+  abbrev G : Network
+  G = networkOf (K .words) (rec .codes) links
+
+  pub granted : searchRefusal K rec links hops even odd code ≡ 0 → IsGranted K rec links hops even odd code
+  unfolding searchRefusal searchRoom
+  granted z =
+      let a = first-zero (not (searchRoom K (length links) hops even odd)) 0 _ z in
+      let b = first-zero (not (soundLinks G (rec .number))) 1 _ (a .1) in
+      let c = first-zero (not (connected G)) 2 _ (b .1) in
+      let d = first-zero (not (G .isOpen code)) 3 [] (c .1) in
+      let r = not-false (searchRoom K (length links) hops even odd) (a .0) in
+      let r1 = and-true (leb (tableWords K) (length links) && leb (places K) hops && leb (K .words) even) (leb (K .words) odd) r in
+      let r2 = and-true (leb (tableWords K) (length links) && leb (places K) hops) (leb (K .words) even) (r1 .0) in
+      let r3 = and-true (leb (tableWords K) (length links)) (leb (places K) hops) (r2 .0) in
+      record {
+        table = leb-true (tableWords K) (length links) (r3 .0);
+        hops-fit = leb-true (places K) hops (r3 .1);
+        even-fit = leb-true (K .words) even (r2 .1);
+        odd-fit = leb-true (K .words) odd (r1 .1);
+        links-sound = not-false (soundLinks G (rec .number)) (b .0);
+        joined = not-false (connected G) (c .0);
+        present = not-false (G .isOpen code) (d .0);
+      }
+
+  -- ---- each refusal, by its test
+
+  pub refused-short : searchRoom K (length links) hops even odd ≡ false → 1 ≡ searchRefusal K rec links hops even odd code
+  unfolding searchRefusal firstOf
+  refused-short e = rw e
+
+  pub refused-spoilt : searchRoom K (length links) hops even odd ≡ true → soundLinks G (rec .number) ≡ false → 2 ≡ searchRefusal K rec links hops even odd code
+  unfolding searchRefusal firstOf
+  refused-spoilt a b = rw (a, b)
+
+  pub refused-apart : searchRoom K (length links) hops even odd ≡ true → soundLinks G (rec .number) ≡ true → connected G ≡ false → 3 ≡ searchRefusal K rec links hops even odd code
+  unfolding searchRefusal firstOf
+  refused-apart a b c = rw (a, b, c)
+
+  pub refused-absent : searchRoom K (length links) hops even odd ≡ true → soundLinks G (rec .number) ≡ true → connected G ≡ true → G .isOpen code ≡ false → 4 ≡ searchRefusal K rec links hops even odd code
+  unfolding searchRefusal firstOf
+  refused-absent a b c d = rw (a, b, c, d)
+
+  pub refused-never : searchRoom K (length links) hops even odd ≡ true → soundLinks G (rec .number) ≡ true → connected G ≡ true → G .isOpen code ≡ true → 0 ≡ searchRefusal K rec links hops even odd code
+  unfolding searchRefusal firstOf
+  refused-never a b c d = rw (a, b, c, d)
+
+-- the sizes, by the code's four tests
+module _ (K : Shape) (l h e o : ℕ) where
+  pub room-all : tableWords K ≤ l → places K ≤ h → K .words ≤ e → K .words ≤ o → searchRoom K l h e o ≡ true
+  unfolding searchRoom
+  room-all a b c d = rw (le-leb (tableWords K) l a, le-leb (places K) h b, le-leb (K .words) e c, le-leb (K .words) o d)
+
+  pub room-table : l < tableWords K → searchRoom K l h e o ≡ false
+  unfolding searchRoom
+  room-table a = rw (lt-leb l (tableWords K) a)
+
+  pub room-hops : tableWords K ≤ l → h < places K → searchRoom K l h e o ≡ false
+  unfolding searchRoom
+  room-hops a b = rw (le-leb (tableWords K) l a, lt-leb h (places K) b)
+
+  pub room-even : tableWords K ≤ l → places K ≤ h → e < K .words → searchRoom K l h e o ≡ false
+  unfolding searchRoom
+  room-even a b c = rw (le-leb (tableWords K) l a, le-leb (places K) h b, lt-leb e (K .words) c)
+
+  pub room-odd : tableWords K ≤ l → places K ≤ h → K .words ≤ e → o < K .words → searchRoom K l h e o ≡ false
+  unfolding searchRoom
+  room-odd a b c d = rw (le-leb (tableWords K) l a, le-leb (places K) h b, le-leb (K .words) e c, lt-leb o (K .words) d)
+
+-- sound links, from the check's answer
+pub sound-by : (W : ℕ) (codes links : List ℕ) (number : ℕ) → soundLinks (networkOf W codes links) number ≡ true → IsSound (networkOf W codes links)
+sound-by W codes links number e = sound-links-iff W codes links number .0 e .isSound
+
+-- ---- the call
+
+module _ (K : Shape) (shape : IsShape K) (rec : Record) (links : List ℕ) (B : Tables) (code : ℕ) where
+  abbrev N : Network
+  N = networkOf (K .words) (rec .codes) links
+
+  pub refused-call : (k : ℕ) → k ≡ searchRefusal K rec links (length (B .hops)) (length (B .even)) (length (B .odd)) code → (k ≡ 0 → ⊥) → searchLeft (Refused k) B ≡ searchCall K rec links B code
+  unfolding searchCall searchGiven
+  refused-call k e n = go k e n ∙ ap (λ (x : ℕ). searchGiven x K rec links B code) e
+    where
+      go : (k : ℕ) → k ≡ searchRefusal K rec links (length (B .hops)) (length (B .even)) (length (B .odd)) code → (k ≡ 0 → ⊥) → searchLeft (Refused k) B ≡ searchGiven k K rec links B code
+      go zero e n = absurd (n refl)
+      go (suc k) e n = is-suc k
+
+      is-suc : (k : ℕ) → searchLeft (Refused (suc k)) B ≡ searchGiven (suc k) K rec links B code
+      is-suc k = refl
+
+  -- a network that the call accepts
+  pub accepted-net : searchRefusal K rec links (length (B .hops)) (length (B .even)) (length (B .odd)) code ≡ 0 → IsNet (networkOf (K .words) (rec .codes) links)
+  unfolding networkOf
+  accepted-net z =
+      let g = granted K rec links (length (B .hops)) (length (B .even)) (length (B .odd)) code z in
+      let s = sound-by (K .words) (rec .codes) links (rec .number) (g .links-sound) in
+      let m : N .limit < unreached = omega (arith, shape .most) in
+      record { sound = s; connected = connected-iff N s m .0 (g .joined); small = m }
+
+  pub accepted-call : 0 ≡ searchRefusal K rec links (length (B .hops)) (length (B .even)) (length (B .odd)) code → (e : ℕ) (hops even odd : List ℕ)
+      → searched e (tables hops even odd) ≡ searchTable (K .words) links code B → searchLeft (Reached e) (tables hops even odd) ≡ searchCall K rec links B code
+  unfolding searchCall searchGiven searchTable networkOf
+  accepted-call z e hops even odd is =
+      let net = accepted-net (sym z) in
+      let g = granted K rec links (length (B .hops)) (length (B .even)) (length (B .odd)) code (sym z) in
+      let o : T (N .isOpen code) = true→t (g .present) in
+      let depth : e ≡ ecc (chart N) code =
+      ap (λ (x : Searched). x .depth) is ∙ table-depth N (net .sound) (net .small) code o (K .words) links limit-is links-are ∙ depth-is N net code o in
+      let left : tables hops even odd ≡ searchLeaves (K .words) N code B =
+      ap (λ (x : Searched). x .left) is ∙ table-leaves N (net .sound) (net .small) code o (K .words) links B limit-is links-are in
+      ap₂ (λ (d : ℕ) (t : Tables). searchLeft (Reached d) t) depth left
+      ∙ ap (λ (x : ℕ). searchGiven x K rec links B code) z
+    where
+      limit-is : N .limit ≡ 64 * K .words
+      limit-is = refl
+
+      links-are : N .linked ≡ tableBit (K .words) links
+      links-are = refl

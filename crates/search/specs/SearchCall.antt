@@ -1,0 +1,69 @@
+-- THE SEARCH CALL on lent memory, whole: its answer and every place that it leaves. The code's contract is one equation with `searchCall`.
+-- Assumes nothing.
+use mathlib.Core.Bool.{Bool, not, cond, _&&_}
+use mathlib.Core.List.{List, [], _∷_}
+use Prim.Native.Nat.{ℕ, zero, suc, _%_}
+use lib.Dec.{eqb, leb}
+use lib.ListN.{length, take}
+use Rattle.lists.specs.Lists.{firstOf}
+use Rattle.graph.specs.Distance.{connected}
+use Rattle.graph.specs.Chart.{chart, ecc}
+use Rattle.layers.specs.Layers.{Tables, searchLeaves}
+use Rattle.map.specs.Memory.{Shape, places, tableWords, networkOf}
+use Rattle.map.specs.Sound.{soundLinks}
+use Rattle.map.specs.declared.Record.{Record}
+use Rattle.search.specs.declared.Found.{Found}
+use Rattle.search.specs.declared.Found.the-variants.{Reached, Refused}
+
+-- every buffer that a search is lent has its named size: link table, hop table, two layer rows
+unfoldable pub searchRoom : Shape → ℕ → ℕ → ℕ → ℕ → Bool
+searchRoom K links hops even odd = leb (tableWords K) links && leb (places K) hops && leb (K .words) even && leb (K .words) odd
+
+-- the first refusal that holds, by the lengths of the lent tables: short, spoilt (links alone), apart, absent; 0: none
+unfoldable pub searchRefusal : Shape → Record → List ℕ → ℕ → ℕ → ℕ → ℕ → ℕ
+searchRefusal K rec links hops even odd code =
+    let G = networkOf (K .words) (rec .codes) links in
+    firstOf
+    ((not (searchRoom K (length links) hops even odd), 1)
+    ∷ (not (soundLinks G (rec .number)), 2)
+    ∷ (not (connected G), 3)
+    ∷ (not (G .isOpen code), 4)
+    ∷ [])
+
+-- what the call leaves: its answer (the eccentricity, or the refusal's number), and the hop table and the two layer rows
+pub record SearchLeft : Type 0 where
+  pub answer : Found
+  pub lent : Tables
+
+abbrev pub searchLeft : Found → Tables → SearchLeft
+searchLeft r B = record { answer = r; lent = B }
+
+unfoldable pub searchGiven : ℕ → Shape → Record → List ℕ → Tables → ℕ → SearchLeft
+searchGiven zero K rec links B code =
+    let G = networkOf (K .words) (rec .codes) links in
+    record { answer = Reached (ecc (chart G) code); lent = searchLeaves (K .words) G code B }
+searchGiven (suc k) K rec links B code = record { answer = Refused (suc k); lent = B }
+
+unfoldable pub searchCall : Shape → Record → List ℕ → Tables → ℕ → SearchLeft
+searchCall K rec links B code = searchGiven (searchRefusal K rec links (length (B .hops)) (length (B .even)) (length (B .odd)) code) K rec links B code
+
+-- "handed back as part of whichever of the two lent layer rows holds it": the first words of the row for the eccentricity's parity
+unfoldable pub lastLayer : ℕ → ℕ → List ℕ → List ℕ → List ℕ
+lastLayer W e even odd = take W (cond (eqb (e % 2) 0) even odd)
+
+-- the part handed back, by the answer: nothing for a refusal
+abbrev pub lastOf : ℕ → SearchLeft → List ℕ
+lastOf W left = go (left .answer)
+  where
+    go : Found → List ℕ
+    go (Reached e) = lastLayer W e (left .lent .even) (left .lent .odd)
+    go (Refused k) = []
+
+-- this paper's number and value for each case of the answer: the refusal (0: none), and the eccentricity (0 for a refusal)
+abbrev pub refusalOf : Found → ℕ
+refusalOf (Reached e) = 0
+refusalOf (Refused k) = k
+
+abbrev pub eccOf : Found → ℕ
+eccOf (Reached e) = e
+eccOf (Refused k) = 0
