@@ -1,30 +1,29 @@
 -- The refusals of a search one by one, and what an accepted one leaves. Assumes nothing.
-use mathlib.Core.Path.{_≡_, refl, sym, ap, ap₂, _∙_, subst}
-use mathlib.Core.Bool.{Bool, true, false, not, _&&_}
-use mathlib.Core.List.{List, [], _∷_}
-use Prim.Native.Nat.{ℕ, zero, suc, _*_, _≤_, _<_}
-use native.Mathlib.Nat.{lt-irrefl}
+use mathlib.Core.Path.{_≡_, refl, sym, ap, ap₂, _∙_}
+use mathlib.Core.Bool.{true, false, not, _&&_}
+use mathlib.Core.List.{List, []}
+use Prim.Native.Nat.{ℕ, zero, suc, _*_, _%_, _≤_, _<_}
 use native.Mathlib.Omega.{arith}
 use lib.Dec.{T, leb}
-use lib.ListN.{length}
-use borrow.Author.Tests.{leb-true, le-leb, lt-leb, not-true, not-false}
+use lib.ListN.{length, take}
+use lib.Seq.{take-all}
+use borrow.Author.Tests.{eq-eqb, ne-eqb, leb-true, le-leb, lt-leb, not-false}
 use Rattle.lists.specs.Lists.{firstOf}
-use Rattle.lists.proofs.Tests.{t→true, true→t, and-true, and-intro}
+use Rattle.lists.proofs.Tests.{true→t, and-true}
 use Rattle.lists.proofs.Members.{first-zero}
-use Rattle.graph.specs.Network.{Network, IsSound, IsConnected}
+use Rattle.graph.specs.Network.{Network, IsSound}
 use Rattle.graph.specs.Distance.{unreached, connected}
 use Rattle.graph.specs.Chart.{chart, ecc}
 use Rattle.graph.specs.Correct.{IsNet}
 use Rattle.graph.proofs.Connected.{connected-iff}
-use Rattle.rows.specs.Rows.{rowBit, tableBit}
-use Rattle.layers.specs.Layers.{tableNetwork, depthFrom, Tables, tables, Searched, searched, searchLeaves, searchTable}
+use Rattle.rows.specs.Rows.{tableBit}
+use Rattle.layers.specs.Layers.{Tables, tables, Searched, searched, searchLeaves, searchTable}
 use Rattle.layers.proofs.Theorems.{table-depth, table-leaves, depth-is}
-use Rattle.map.specs.Memory.{Shape, places, tableWords, IsShape, networkOf}
-use Rattle.map.specs.Sound.{soundLinks, AreLinksSound}
+use Rattle.map.specs.Memory.{Shape, places, tableWords, IsShape, base, networkOf}
+use Rattle.map.specs.Sound.{soundLinks}
 use Rattle.map.specs.declared.Record.{Record}
 use Rattle.map.proofs.Theorems.{sound-links-iff}
-use Rattle.search.specs.SearchCall.{searchRoom, searchRefusal, SearchLeft, searchLeft, searchGiven, searchCall}
-use Rattle.search.specs.declared.Found.{Found}
+use Rattle.search.specs.SearchCall.{searchRoom, searchRefusal, searchLeft, searchGiven, searchCall, lastLayer}
 use Rattle.search.specs.declared.Found.the-variants.{Reached, Refused}
 
 -- ---- what no refusal says
@@ -94,19 +93,19 @@ module _ (K : Shape) (l h e o : ℕ) where
 
   pub room-table : l < tableWords K → searchRoom K l h e o ≡ false
   unfolding searchRoom
-  room-table a = rw (lt-leb l (tableWords K) a)
+  room-table a = rw (lt-leb (tableWords K) l a)
 
   pub room-hops : tableWords K ≤ l → h < places K → searchRoom K l h e o ≡ false
   unfolding searchRoom
-  room-hops a b = rw (le-leb (tableWords K) l a, lt-leb h (places K) b)
+  room-hops a b = rw (le-leb (tableWords K) l a, lt-leb (places K) h b)
 
   pub room-even : tableWords K ≤ l → places K ≤ h → e < K .words → searchRoom K l h e o ≡ false
   unfolding searchRoom
-  room-even a b c = rw (le-leb (tableWords K) l a, le-leb (places K) h b, lt-leb e (K .words) c)
+  room-even a b c = rw (le-leb (tableWords K) l a, le-leb (places K) h b, lt-leb (K .words) e c)
 
   pub room-odd : tableWords K ≤ l → places K ≤ h → K .words ≤ e → o < K .words → searchRoom K l h e o ≡ false
   unfolding searchRoom
-  room-odd a b c d = rw (le-leb (tableWords K) l a, le-leb (places K) h b, le-leb (K .words) e c, lt-leb o (K .words) d)
+  room-odd a b c d = rw (le-leb (tableWords K) l a, le-leb (places K) h b, le-leb (K .words) e c, lt-leb (K .words) o d)
 
 -- sound links, from the check's answer
 pub sound-by : (W : ℕ) (codes links : List ℕ) (number : ℕ) → soundLinks (networkOf W codes links) number ≡ true → IsSound (networkOf W codes links)
@@ -124,10 +123,7 @@ module _ (K : Shape) (shape : IsShape K) (rec : Record) (links : List ℕ) (B : 
     where
       go : (k : ℕ) → k ≡ searchRefusal K rec links (length (B .hops)) (length (B .even)) (length (B .odd)) code → (k ≡ 0 → ⊥) → searchLeft (Refused k) B ≡ searchGiven k K rec links B code
       go zero e n = absurd (n refl)
-      go (suc k) e n = is-suc k
-
-      is-suc : (k : ℕ) → searchLeft (Refused (suc k)) B ≡ searchGiven (suc k) K rec links B code
-      is-suc k = refl
+      go (suc k) e n = refl
 
   -- a network that the call accepts
   pub accepted-net : searchRefusal K rec links (length (B .hops)) (length (B .even)) (length (B .odd)) code ≡ 0 → IsNet (networkOf (K .words) (rec .codes) links)
@@ -157,3 +153,23 @@ module _ (K : Shape) (shape : IsShape K) (rec : Record) (links : List ℕ) (B : 
 
       links-are : N .linked ≡ tableBit (K .words) links
       links-are = refl
+
+pub base-shape : IsShape base
+base-shape = record { positive = omega arith; most = omega arith; searchedFree = omega arith; otherFree = omega arith; marksDiffer = λ e. omega arith }
+
+-- ---- the row handed back, by the parity
+
+module _ (e : ℕ) (even odd : List ℕ) where
+  pub last-even : e % 2 ≡ 0 → take 4 even ≡ lastLayer 4 e even odd
+  unfolding lastLayer
+  last-even q = rw (eq-eqb (e % 2) 0 q)
+
+  pub last-odd : (e % 2 ≡ 0 → ⊥) → take 4 odd ≡ lastLayer 4 e even odd
+  unfolding lastLayer
+  last-odd q = rw (ne-eqb (e % 2) 0 q)
+
+  pub last-short : e % 2 ≡ 0 → length even < 4 → even ≡ lastLayer 4 e even odd
+  last-short q l = sym (take-all 4 even (omega arith)) ∙ last-even q
+
+  pub last-short-odd : (e % 2 ≡ 0 → ⊥) → length odd < 4 → odd ≡ lastLayer 4 e even odd
+  last-short-odd q l = sym (take-all 4 odd (omega arith)) ∙ last-odd q

@@ -1,19 +1,19 @@
 -- A search from any open code tells whether a sound network is connected. Assumes nothing.
-use mathlib.Core.Path.{_≡_, refl, sym, ap, _∙_, subst}
+use mathlib.Core.Path.{_≡_, refl, sym, ap, _∙_}
 use mathlib.Core.Logic.{_⊎_, inl, inr}
 use mathlib.Core.Bool.{Bool, true, false, not, _||_}
-use mathlib.Core.List.{List, [], List·Memᴰ}
+use mathlib.Core.List.{List}
 use Prim.Native.Nat.{ℕ, _+_, _*_, _≤_, _<_}
 use native.Mathlib.Omega.{arith}
-use lib.Dec.{T, eqb, ltb}
+use lib.Dec.{T, ltb}
 use lib.ListN.{length, getD}
-use borrow.Author.Tests.{ltb-true, lt-ltb, le-ltb, not-true, not-false}
-use Rattle.lists.specs.Lists.{range, filterb, mapl, allb, overwrite}
-use Rattle.lists.proofs.Tests.{eq-or-ne, look, t→true, true→t, clash, or-true, or-left, or-right, same-test}
-use Rattle.lists.proofs.Members.{all-intro, all-elim, range-in, range-out, filter-out}
+use borrow.Author.Tests.{ltb-true, lt-ltb, not-true, not-false}
+use Rattle.lists.specs.Lists.{range, allb}
+use Rattle.lists.proofs.Tests.{eq-or-ne, look, t→true, true→t, clash, or-true, or-right, same-test}
+use Rattle.lists.proofs.Members.{all-intro, all-elim, range-in, range-out}
 use Rattle.lists.proofs.Fills.{fill-at}
-use Rattle.graph.specs.Network.{Network, IsSound, IsConnected, Walk}
-use Rattle.graph.specs.Distance.{vertices, unreached, dist, reachedAll, connected}
+use Rattle.graph.specs.Network.{Network, IsSound, Walk}
+use Rattle.graph.specs.Distance.{vertices, unreached, dist, connected}
 use Rattle.graph.proofs.Walks.{append, reverse}
 use Rattle.graph.proofs.Distances.{vertices-length, dist-is, dist-reached, dist-below}
 use Rattle.graph.proofs.Connected.{connected-iff}

@@ -12,7 +12,6 @@ ghost use Rattle.layers.specs.Layers.{tables};
 ghost use Rattle.map.specs.Memory.{base, networkOf};
 ghost use Rattle.map.specs.Sound.{IsLent};
 ghost use Rattle.search.specs.SearchCall.{searchRefusal, searchLeft, searchCall, lastLayer};
-
 use map::Record;
 use rows::Next;
 
@@ -52,7 +51,16 @@ fn all_reached(hops: &[u16], codes: &[u64], words: usize) -> bool
 
 // Whether the depots are connected: a search from the lowest open code, in the memory lent for it, reaches every one.
 // What stands in that memory afterwards is free.
-pub fn is_connected(hops: &mut [u16], even: &mut [u64], odd: &mut [u64], seen: &mut [u64], next: &mut [u64], links: &[u64], codes: &[u64], words: usize) -> bool
+pub fn is_connected(
+    hops: &mut [u16],
+    even: &mut [u64],
+    odd: &mut [u64],
+    seen: &mut [u64],
+    next: &mut [u64],
+    links: &[u64],
+    codes: &[u64],
+    words: usize,
+) -> bool
     requires { ⌜ IsLent words (now links) (now codes) × (64 * words ≤ length (now hops)) × (words ≤ length (now even)) × (words ≤ length (now odd)) × (words ≤ length (now seen)) × (words ≤ length (now next)) × IsSound (networkOf words (now codes) (now links)) ⌝ }
     ensures { λ r. ⌜ r ≡ connected (networkOf words (now (codes .entry)) (now (links .entry))) ⌝ }
 {
@@ -74,7 +82,16 @@ pub fn map_is_connected(links: &[u64], codes: &[u64]) -> bool
     let mut odd = [0u64; 4];
     let mut seen = [0u64; 4];
     let mut next = [0u64; 4];
-    is_connected(&mut hops, &mut even, &mut odd, &mut seen, &mut next, links, codes, 4)
+    is_connected(
+        &mut hops,
+        &mut even,
+        &mut odd,
+        &mut seen,
+        &mut next,
+        links,
+        codes,
+        4,
+    )
 }
 
 // ---- the public call
@@ -110,7 +127,14 @@ fn search_refusal(rec: Record, links: &[u64], hops: usize, even: usize, odd: usi
 
 // The search from a depot: its eccentricity, with distances in the hop table and the last two layers in the rows; or the first refusal that
 // holds, and then nothing is changed.
-pub fn search_from(hops: &mut [u16], even: &mut [u64], odd: &mut [u64], rec: Record, links: &[u64], code: u8) -> Found
+pub fn search_from(
+    hops: &mut [u16],
+    even: &mut [u64],
+    odd: &mut [u64],
+    rec: Record,
+    links: &[u64],
+    code: u8,
+) -> Found
     ensures { λ r. ⌜ searchLeft r (tables (now (hops .exit)) (now (even .exit)) (now (odd .exit))) ≡ searchCall base rec (now (links .entry)) (tables (now (hops .entry)) (now (even .entry)) (now (odd .entry))) code ⌝ }
 {
     let refusal = search_refusal(rec, links, hops.len(), even.len(), odd.len(), code);
@@ -119,7 +143,16 @@ pub fn search_from(hops: &mut [u16], even: &mut [u64], odd: &mut [u64], rec: Rec
     }
     let mut seen = [0u64; 4];
     let mut next = [0u64; 4];
-    let ecc = layers::search_table(hops, even, odd, &mut seen, &mut next, links, 4, code as usize);
+    let ecc = layers::search_table(
+        hops,
+        even,
+        odd,
+        &mut seen,
+        &mut next,
+        links,
+        4,
+        code as usize,
+    );
     Found::Reached(ecc)
 }
 

@@ -13,9 +13,6 @@ use Rattle.search.proofs.Connects.{all-none, all-more, all-end, all-fau
 use borrow.Author.Needs.{needs}
 use Rattle.search.proofs.all_reached.Statement.{statement}
 use Rattle.search.proofs.all_reached.Tie as tie
-use Rattle.search.proofs.all_reached.Reads as reads
-use Rattle.search.proofs.all_reached.Lts as lts
-use Rattle.search.proofs.is_reached.Reads as is-reached-reads
 
 abbrev Inv-loop : tie.InvT-loop
 Inv-loop hops codes words v₀ v = (v ≤ 64 * words) × ((x : ℕ) → x < v → (not (rowBit words codes x) || ltb (getD hops x 0) unreached) ≡ true)
@@ -23,35 +20,27 @@ Inv-loop hops codes words v₀ v = (v ≤ 64 * words) × ((x : ℕ) → x < v �
 abbrev μ-loop : tie.MeasureT-loop
 μ-loop hops codes words v₀ v = 64 * words - v
 
--- src/lib.rt:44:5
 loop-holds : tie.Need-loop-holds Inv-loop μ-loop
 loop-holds c = (omega arith, all-none _)
 
--- src/lib.rt:44:15
 mul-loop : tie.Need-mul-loop Inv-loop μ-loop
 mul-loop c = search needs
 
--- src/lib.rt:45:13
 is-reached-requires : tie.Need-is-reached-requires Inv-loop μ-loop
 is-reached-requires c κs = search needs
 
--- src/lib.rt:46:13
 returns : tie.Need-returns Inv-loop μ-loop
 returns c = all-fault _ _ _ (c .before .before .loop-test .taken) (sym (c .before .is-reached .ensures) ∙ not-true _ (c .if1 .taken))
 
--- src/lib.rt:48:9
 add-v : tie.Need-add-v Inv-loop μ-loop
 add-v c = search needs
 
--- src/lib.rt:44:5
 loop-less : tie.Need-loop-less Inv-loop μ-loop
 loop-less c = search needs
 
--- src/lib.rt:44:5
 loop-again : tie.Need-loop-again Inv-loop μ-loop
 loop-again c = (omega arith, all-more _ _ (c .before .before .before .loop .inv .1) (sym (c .before .is-reached .ensures) ∙ not-false _ (c .if1 .left)))
 
--- src/lib.rt:39:1
 returns-2 : tie.Need-returns-2 Inv-loop μ-loop
 returns-2 c = all-end _ _ _ (c .before .loop .inv .1) (c .loop-test .left)
 
