@@ -1,0 +1,2 @@
+-- The letter and the number that the document gives to each outcome of an opening call.
+pub mod Outcome
