@@ -1,6 +1,5 @@
 -- The document's values for each case of the outcome enum: what the report line shows of it. Assumes nothing.
 use Prim.Native.Nat.{ℕ}
-use Rattle.outcome.specs.declared.Change.{Change}
 use Rattle.outcome.specs.declared.Change.the-variants.{Grew, Kept, Shrank}
 use Rattle.outcome.specs.declared.Outcome.{Outcome}
 use Rattle.outcome.specs.declared.Outcome.the-variants.{Accepted, Refused}
