@@ -12,7 +12,7 @@ use Rattle.notice.proofs.read_notice.Tie as tie
 
 returns : tie.Need-returns
 unfolding readingOf
-returns c = read-short _ _ (c .if1 .taken)
+returns c = read-short _ _ (omega arith)
 
 first-part-requires : tie.Need-first-part-requires
 first-part-requires c κs = search needs

@@ -12,7 +12,7 @@ use Rattle.notice.proofs.write_notice.Tie as tie
 
 returns : tie.Need-returns
 unfolding writingOf
-returns c = write-short _ _ (c .if1 .taken)
+returns c = write-short _ _ (omega arith)
 
 is-frame-requires : tie.Need-is-frame-requires
 is-frame-requires c κs = search needs

@@ -31,7 +31,7 @@ put-number-add-line : (t : ℕ) → put-number-lts.Need-add-line (put-number-bel
 put-number-add-line t c = search needs
 
 put-number-slice-write-line : (t : ℕ) → put-number-lts.Need-slice-write-line (put-number-below t, put-number.Post) (put-number-at t) put-number.Post
-put-number-slice-write-line t c = omega (arith, one-length (c .before .before .args .n) (c .if1 .taken))
+put-number-slice-write-line t c = omega (arith, one-length (c .before .before .args .n) (omega arith))
 
 put-number-add-result : (t : ℕ) → put-number-lts.Need-add-result (put-number-below t, put-number.Post) (put-number-at t) put-number.Post
 put-number-add-result t c = search needs
@@ -40,7 +40,7 @@ put-number-same-length : (t : ℕ) → put-number-lts.Need-same-length (put-numb
 put-number-same-length t c = search needs
 
 put-number-returns : (t : ℕ) → put-number-lts.Need-returns (put-number-below t, put-number.Post) (put-number-at t) put-number.Post
-put-number-returns t c = number-one _ _ _ (c .if1 .taken) (c .before .before .pre .1)
+put-number-returns t c = number-one _ _ _ (omega arith) (c .before .before .pre .1)
 
 put-number-put-number-requires : (t : ℕ) → put-number-lts.Need-put-number-requires (put-number-below t, put-number.Post) (put-number-at t) put-number.Post
 put-number-put-number-requires t c κs = (omega arith, omega (arith, more-length (c .before .before .before .args .n) (c .before .if1 .left)))
@@ -52,7 +52,7 @@ put-number-add-line-2 : (t : ℕ) → put-number-lts.Need-add-line-2 (put-number
 put-number-add-line-2 t c = search needs
 
 put-number-slice-write-line-2 : (t : ℕ) → put-number-lts.Need-slice-write-line-2 (put-number-below t, put-number.Post) (put-number-at t) put-number.Post
-put-number-slice-write-line-2 t c = number-room _ (c .before .before .put-number .ensures) (c .before .before .before .before .if1 .left) (c .before .before .before .before .before .before .pre .1)
+put-number-slice-write-line-2 t c = omega (arith, number-room (c .before .before .before .before .before .before .args .n) (c .before .before .put-number .ensures) (c .before .before .before .before .if1 .left) (c .before .before .before .before .before .before .pre .1))
 
 put-number-add-result-2 : (t : ℕ) → put-number-lts.Need-add-result-2 (put-number-below t, put-number.Post) (put-number-at t) put-number.Post
 put-number-add-result-2 t c = omega (arith, number-within (c .before .before .before .before .before .before .args .n) (c .before .before .put-number .ensures) (c .before .before .before .before .if1 .left) (c .before .before .before .before .before .before .pre .1))

@@ -21,7 +21,7 @@ figures-fit c = figures-most (c .args .report) (search needs) (search needs) (se
 
 returns : tie.Need-returns
 unfolding writtenOf
-returns c = report-short _ _ (c .if1 .taken)
+returns c = report-short _ _ (omega arith)
 
 put-number-requires : tie.Need-put-number-requires
 put-number-requires c κs = omega (arith, number-fits (c .before .before .before), figures-fit (c .before .before .before))
