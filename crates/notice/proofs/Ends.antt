@@ -1,4 +1,4 @@
--- Where a line ends: the loop that looks for the end, and what stands there. Assumes nothing.
+-- Loops that go through a list until an element decides, and where a line ends. Assumes nothing.
 use mathlib.Core.Path.{_≡_, refl, ap}
 use mathlib.Core.Bool.{Bool, true, false, cond}
 use mathlib.Core.List.{List, [], _∷_, _++_}

@@ -8,9 +8,9 @@ pub mod Spelling
 pub mod Ends
 -- The tests of a frame, and of digits that spell one.
 pub mod Tests
--- The theorems: reader and writer undo each other.
-pub mod Theorems
 -- What the two calls answer, way out by way out.
 pub mod Answers
+-- The theorems: reader and writer undo each other, so each frame has exactly one line.
+pub mod Theorems
 -- The document's line, computed.
 pub mod Examples

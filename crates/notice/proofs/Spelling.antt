@@ -2,21 +2,26 @@
 use mathlib.Core.Path.{_≡_, refl, sym, ap, ap₂, _∙_}
 use mathlib.Core.Bool.{true, _&&_}
 use mathlib.Core.List.{List, [], _∷_}
-use Prim.Native.Nat.{ℕ, zero, suc, _+_, _*_, _/_, _%_, _<_}
+use Prim.Native.Nat.{ℕ, zero, suc, _+_, _*_, _/_, _%_, _≤_, _<_}
 use native.Mathlib.Omega.{arith}
 use lib.Dec.{ltb}
-use lib.ListN.{length, getD}
+use lib.ListN.{length, getD, set, length-append}
 use borrow.Author.Tests.{ltb-true, lt-ltb}
 use Rattle.lists.specs.Lists.{allb}
 use Rattle.lists.proofs.Tests.{and-true, and-intro}
 use Rattle.notice.specs.Hex.{hexDigit, isDigit, digitValue}
-use Rattle.notice.specs.Lines.{isByte, digitsOf, bytesOf}
+use Rattle.notice.specs.Lines.{lineEnd, isByte, digitsOf, lineOf, bytesOf}
+use Rattle.notice.proofs.Copies.{Copied, copied-more, copied-at}
 use Rattle.notice.proofs.Digits.{value-below, digit-value, value-digit, digit-is}
 
 pub length-digits : (f : List ℕ) → length (digitsOf f) ≡ 2 * length f
 unfolding digitsOf
 length-digits [] = refl
 length-digits (b ∷ bs) = let e = length-digits bs in omega arith
+
+pub length-line : (f : List ℕ) → length (lineOf f) ≡ 2 * length f + 1
+unfolding lineOf
+length-line f = length-append (digitsOf f) (lineEnd ∷ []) ∙ ap (λ (n : ℕ). n + 1) (length-digits f)
 
 pub length-bytes : (ds : List ℕ) → length (bytesOf ds) ≡ length ds / 2
 unfolding bytesOf
@@ -102,3 +107,16 @@ bytes-below (c ∷ d ∷ ds) h =
     let u : digitValue c < 16 = value-below c (p .0) in
     let v : digitValue d < 16 = value-below d (q .0) in
     and-intro (lt-ltb (16 * digitValue c + digitValue d) 256 (omega arith)) (bytes-below ds (q .1))
+
+-- ---- one turn of the loops that write them
+
+pub digits-more : (f old : List ℕ) {l : List ℕ} {i high low : ℕ} → Copied (digitsOf f) old l (2 * i) → high ≡ hexDigit (getD f i 0 / 16) → low ≡ hexDigit (getD f i 0 % 16) → i < length f → 2 * length f ≤ length old
+    → Copied (digitsOf f) old (set (set l (2 * i) high) (2 * i + 1) low) (2 * (i + 1))
+digits-more f old {i = i} w p q h k =
+    let n = length-digits f in
+    let first = copied-more w (p ∙ sym (digits-high f i h)) (omega arith) (omega arith) in
+    copied-at (copied-more first (q ∙ sym (digits-low f i h)) (omega arith) (omega arith)) (omega arith)
+
+pub bytes-more : (ds old : List ℕ) {l : List ℕ} {i b : ℕ} → Copied (bytesOf ds) old l i → b ≡ getD (bytesOf ds) i 0 → i < length ds / 2 → length ds ≤ 2 * length old
+    → Copied (bytesOf ds) old (set l i b) (i + 1)
+bytes-more ds old w p h k = let n = length-bytes ds in copied-more w p (omega arith) (omega arith)

@@ -6,7 +6,8 @@ use Prim.Native.Nat.{ℕ, _+_, _*_, _%_, _<_}
 use native.Mathlib.Omega.{arith}
 use lib.Dec.{eqb}
 use lib.ListN.{length, getD}
-use borrow.Author.Tests.{eq-eqb, ne-eqb}
+use borrow.Author.Tests.{eq-eqb, ne-eqb, eqb-true}
+use Rattle.lists.proofs.Tests.{and-true}
 use Rattle.lists.specs.Lists.{allb}
 use Rattle.notice.specs.Hex.{isDigit, digitValue}
 use Rattle.notice.specs.Lines.{isFrame, bytesOf, spellsFrame}
@@ -51,3 +52,23 @@ spells-even ds h k e = rw (h, eq-eqb (length ds % 2) 0 k) e
 
 pub spelt-short : (ds : List ℕ) → length ds < 6 → false ≡ isFrame (bytesOf ds)
 spelt-short ds h = let l = length-bytes ds in frame-short (bytesOf ds) (omega arith)
+
+-- ---- what a passed test says, part by part
+
+pub frame-parts : (f : List ℕ) → isFrame f ≡ true → (getD f 0 0 ≡ 1) × (length f ≡ 3 + getD f 2 0)
+unfolding isFrame
+frame-parts f h =
+    let p = and-true (eqb (getD f 0 0) 1) (eqb (length f) (3 + getD f 2 0)) h in
+    (eqb-true (getD f 0 0) 1 (p .0), eqb-true (length f) (3 + getD f 2 0) (p .1))
+
+pub record Spells (ds : List ℕ) : Type 0 where
+  pub digits : allb isDigit ds ≡ true
+  pub even : length ds % 2 ≡ 0
+  pub spelt : isFrame (bytesOf ds) ≡ true
+
+pub spells-parts : (ds : List ℕ) → spellsFrame ds ≡ true → Spells ds
+unfolding spellsFrame
+spells-parts ds h =
+    let p = and-true (allb isDigit ds) (eqb (length ds % 2) 0 && isFrame (bytesOf ds)) h in
+    let q = and-true (eqb (length ds % 2) 0) (isFrame (bytesOf ds)) (p .1) in
+    record { digits = p .0; even = eqb-true (length ds % 2) 0 (q .0); spelt = q .1 }

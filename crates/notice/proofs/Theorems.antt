@@ -4,42 +4,19 @@ use mathlib.Core.Bool.{Bool, true, false, cond, _&&_}
 use mathlib.Core.List.{List, [], _∷_, _++_}
 use Prim.Native.Nat.{ℕ, suc, _+_, _-_, _*_, _%_, _≤_, _<_}
 use native.Mathlib.Omega.{arith}
-use lib.Dec.{eqb, ltb}
-use lib.ListN.{length, getD, take, length-append, length-take}
+use lib.Dec.{ltb}
+use lib.ListN.{length, getD, take, drop, length-append, length-take}
 use lib.Seq.{append-snoc, take-append-seam, take-append-add, take-take, take-suc}
-use borrow.Author.Tests.{ltb-true, eqb-true, lt-ltb, eq-eqb}
-use Rattle.lists.specs.Lists.{allb}
+use borrow.Author.Tests.{ltb-true, lt-ltb, eq-eqb, le-ltb}
+use Rattle.lists.specs.Lists.{allb, overwrite}
 use Rattle.lists.proofs.Tests.{and-true, and-intro}
-use Rattle.notice.specs.Hex.{isDigit}
 use Rattle.notice.specs.Lines.{lineLimit, lineEnd, isByte, isFrame, digitsOf, lineOf, bytesOf, endOf, spellsFrame, garbled, frame, readHead, readLine}
-use Rattle.notice.proofs.Spelling.{length-digits, all-digits, bytes-digits, digits-bytes, bytes-below}
+use Rattle.notice.specs.Calls.{frameLimit, lineDone, lineLeft, readInto, readCall, writeCall}
+use Rattle.notice.proofs.Tests.{Spells, frame-parts, spells-parts}
+use Rattle.notice.proofs.Spelling.{length-digits, length-line, all-digits, bytes-digits, digits-bytes, bytes-below}
 use Rattle.notice.proofs.Ends.{all-at, end-is, end-digits}
 
--- ---- what the definitions say, part by part
-
-pub frame-parts : (f : List ℕ) → isFrame f ≡ true → (getD f 0 0 ≡ 1) × (length f ≡ 3 + getD f 2 0)
-unfolding isFrame
-frame-parts f h =
-    let p = and-true (eqb (getD f 0 0) 1) (eqb (length f) (3 + getD f 2 0)) h in
-    (eqb-true (getD f 0 0) 1 (p .0), eqb-true (length f) (3 + getD f 2 0) (p .1))
-
-pub record Spells (ds : List ℕ) : Type 0 where
-  pub digits : allb isDigit ds ≡ true
-  pub even : length ds % 2 ≡ 0
-  pub spelt : isFrame (bytesOf ds) ≡ true
-
-pub spells-parts : (ds : List ℕ) → spellsFrame ds ≡ true → Spells ds
-unfolding spellsFrame
-spells-parts ds h =
-    let p = and-true (allb isDigit ds) (eqb (length ds % 2) 0 && isFrame (bytesOf ds)) h in
-    let q = and-true (eqb (length ds % 2) 0) (isFrame (bytesOf ds)) (p .1) in
-    record { digits = p .0; even = eqb-true (length ds % 2) 0 (q .0); spelt = q .1 }
-
 -- ---- the length of a line
-
-pub length-line : (f : List ℕ) → length (lineOf f) ≡ 2 * length f + 1
-unfolding lineOf
-length-line f = length-append (digitsOf f) (lineEnd ∷ []) ∙ ap (λ (n : ℕ). n + 1) (length-digits f)
 
 -- seven bytes and two for each neighbour
 pub line-length : (f : List ℕ) → isFrame f ≡ true → length (lineOf f) ≡ 7 + 2 * getD f 2 0
@@ -147,3 +124,12 @@ read-frame s f n h =
 -- two lines that read as the same frame are equal
 pub one-line : (s t f : List ℕ) (m n : ℕ) → readLine s ≡ frame f m → readLine t ≡ frame f n → take m s ≡ take n t
 one-line s t f m n p q = read-written s f m p ∙ sym (read-written t f n q)
+
+-- ---- the same of the calls
+
+-- what the writer leaves in a line buffer, the reader reads as the frame
+pub round-trip : (f line buffer : List ℕ) → isFrame f ≡ true → allb isByte f ≡ true → lineLimit ≤ length line → frameLimit ≤ length buffer
+    → readCall (writeCall f line .buffer) buffer ≡ lineLeft (lineDone (length f) (length (lineOf f))) (overwrite f buffer)
+unfolding readCall writeCall readInto overwrite
+round-trip f line buffer h b k l =
+    rw (le-ltb (length line) lineLimit k, h, le-ltb (length buffer) frameLimit l, written-reads f (drop (length (lineOf f)) line) h b)

@@ -15,7 +15,7 @@ lineLimit = 517
 abbrev pub lineEnd : ℕ
 lineEnd = 10
 
--- a byte
+-- a number that a byte holds
 unfoldable pub isByte : ℕ → Bool
 isByte b = ltb b 256
 
@@ -52,11 +52,12 @@ pub data Line : Type 0 where
   garbled : Line
   frame : List ℕ → ℕ → Line
 
--- the line at the start: its end among the first 517 bytes, and a frame spelt before it. The ending counts as used
+-- a line that ends within these bytes and spells a frame before its end. The ending counts as used
 unfoldable pub readHead : List ℕ → Line
 readHead head =
     let n = endOf head in
     cond (ltb n (length head) && spellsFrame (take n head)) (frame (bytesOf (take n head)) (n + 1)) garbled
 
+-- the line at the start of the input: its end has to stand among the first 517 bytes
 unfoldable pub readLine : List ℕ → Line
 readLine input = readHead (take lineLimit input)

@@ -8,7 +8,7 @@ ghost use lib.ListN.{length, getD, take};
 ghost use Rattle.lists.specs.Lists.{allb, overwrite};
 ghost use Rattle.notice.specs.Hex.{hexDigit, isDigit, digitValue};
 ghost use Rattle.notice.specs.Lines.{lineLimit, isFrame, digitsOf, bytesOf, endOf, spellsFrame};
-ghost use Rattle.notice.specs.Calls.{readingOf, writingOf, left, readCall, writeCall};
+ghost use Rattle.notice.specs.Calls.{readingOf, writingOf, lineLeft, readCall, writeCall};
 
 // What the reader answers: the frame's length with the bytes used, or the number of the refusal.
 pub enum Reading {
@@ -25,7 +25,7 @@ pub enum Writing {
 // Reads the line at the start of the input into the frame buffer. It does not judge the neighbours:
 // the opening does.
 pub fn read_notice(input: &[u8], frame: &mut [u8]) -> Reading
-    ensures { λ r. ⌜ left (readingOf r) (now (frame .exit)) ≡ readCall (now (input .entry)) (now (frame .entry)) ⌝ }
+    ensures { λ r. ⌜ lineLeft (readingOf r) (now (frame .exit)) ≡ readCall (now (input .entry)) (now (frame .entry)) ⌝ }
 {
     if frame.len() < 258 {
         return Reading::Refused(1);
@@ -45,7 +45,7 @@ pub fn read_notice(input: &[u8], frame: &mut [u8]) -> Reading
 
 // Writes the line of a frame, which is the whole slice, into the line buffer.
 pub fn write_notice(frame: &[u8], line: &mut [u8]) -> Writing
-    ensures { λ r. ⌜ left (writingOf r) (now (line .exit)) ≡ writeCall (now (frame .entry)) (now (line .entry)) ⌝ }
+    ensures { λ r. ⌜ lineLeft (writingOf r) (now (line .exit)) ≡ writeCall (now (frame .entry)) (now (line .entry)) ⌝ }
 {
     if line.len() < 517 {
         return Writing::Refused(1);

@@ -1,6 +1,6 @@
 // What an opening call answers: the change of the longest chain, or the number of its refusal.
 ghost use mathlib.Core.Path.{_≡_};
-ghost use Rattle.outcome.specs.Outcome.{letterOf, refusalOf};
+ghost use Rattle.outcome.specs.Outcome.{letterOf};
 
 // How the longest chain changed with an accepted opening.
 pub enum Change {
@@ -26,15 +26,5 @@ pub fn letter(o: Outcome) -> u8
             Change::Shrank => b'S',
         },
         Outcome::Refused(_) => b'R',
-    }
-}
-
-// The number of the refusal, 0 where the call was accepted.
-pub fn refusal(o: Outcome) -> u8
-    ensures { λ r. ⌜ r ≡ refusalOf o ⌝ }
-{
-    match o {
-        Outcome::Accepted(_) => 0,
-        Outcome::Refused(n) => n,
     }
 }

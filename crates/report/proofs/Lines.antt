@@ -10,6 +10,7 @@ use lib.ListN.{length, set, take, drop, length-append, length-set}
 use lib.Seq.{length-take-le}
 use borrow.Author.Tests.{lt-ltb, le-ltb}
 use Rattle.lists.specs.Lists.{overwrite}
+use Rattle.outcome.specs.Numbers.{shortBuffer}
 use Rattle.outcome.specs.Outcome.{letterOf, refusalOf}
 use Rattle.outcome.specs.declared.Change.{Change}
 use Rattle.outcome.specs.declared.Outcome.{Outcome}
@@ -18,7 +19,7 @@ use Rattle.report.specs.declared.Report.{Report}
 use Rattle.report.specs.declared.Written.{Written}
 use Rattle.report.specs.declared.Written.the-variants.{Line, Refused as NoLine}
 use Rattle.report.specs.Decimal.{decimal}
-use Rattle.report.specs.Line.{outcomeText, field, figuresText, reportLine, bufferLimit, short, done, refused, Left, left, writtenOf, reportCall, handedBack}
+use Rattle.report.specs.Line.{outcomeText, field, figuresText, reportLine, bufferLimit, reportDone, reportRefused, ReportLeft, reportLeft, writtenOf, reportCall, handedBack}
 use Rattle.report.specs.Placed.{Placed}
 use Rattle.report.proofs.Decimals.{decimal-word, decimal-half}
 use Rattle.report.proofs.Places.{placed-byte, placed-join, placed-text, placed-end, placed-whole}
@@ -79,14 +80,14 @@ figures-most r d c p s =
 
 -- ---- the call
 
-pub report-short : (r : Report) (buffer : List ℕ) → length buffer < bufferLimit → left (refused short) buffer ≡ reportCall r buffer
+pub report-short : (r : Report) (buffer : List ℕ) → length buffer < bufferLimit → reportLeft (reportRefused shortBuffer) buffer ≡ reportCall r buffer
 unfolding reportCall
 report-short r buffer h = rw (lt-ltb (length buffer) bufferLimit h)
 
-pub report-done : (r : Report) {buffer after : List ℕ} {end : ℕ} → Placed (reportLine r) 0 buffer end after → bufferLimit ≤ length buffer → left (done end) after ≡ reportCall r buffer
+pub report-done : (r : Report) {buffer after : List ℕ} {end : ℕ} → Placed (reportLine r) 0 buffer end after → bufferLimit ≤ length buffer → reportLeft (reportDone end) after ≡ reportCall r buffer
 unfolding reportCall
 report-done r {buffer} w k =
-    ap₂ (λ (n : ℕ) (l : List ℕ). left (done n) l) (w .behind ∙ zero-add (length (reportLine r))) (placed-whole w)
+    ap₂ (λ (n : ℕ) (l : List ℕ). reportLeft (reportDone n) l) (w .behind ∙ zero-add (length (reportLine r))) (placed-whole w)
     ∙ rw (le-ltb (length buffer) bufferLimit k)
 
 -- the pieces of a line, and its ending
@@ -102,22 +103,22 @@ call-within : (r : Report) (buffer : List ℕ) → reportCall r buffer .answer .
 unfolding reportCall overwrite
 call-within r buffer = go (ltb (length buffer) bufferLimit)
   where
-    go : (b : Bool) → let l = cond b (left (refused short) buffer) (left (done (length (reportLine r))) (overwrite (reportLine r) buffer)) in l .answer .written ≤ length (l .buffer)
+    go : (b : Bool) → let l = cond b (reportLeft (reportRefused shortBuffer) buffer) (reportLeft (reportDone (length (reportLine r))) (overwrite (reportLine r) buffer)) in l .answer .written ≤ length (l .buffer)
     go true = zero-le
     go false = omega (arith, length-append (reportLine r) (drop (length (reportLine r)) buffer))
 
-pub part-length : (r : Report) (buffer : List ℕ) {after : List ℕ} {a : Written} {k : ℕ} → a ≡ Line k → left (writtenOf a) after ≡ reportCall r buffer → k ≡ length (take k after)
+pub part-length : (r : Report) (buffer : List ℕ) {after : List ℕ} {a : Written} {k : ℕ} → a ≡ Line k → reportLeft (writtenOf a) after ≡ reportCall r buffer → k ≡ length (take k after)
 unfolding writtenOf
 part-length r buffer {after} {a} {k} p e =
-    let n : k ≡ reportCall r buffer .answer .written = sym (ap (λ (w : Written). writtenOf w .written) p) ∙ ap (λ (l : Left). l .answer .written) e in
-    let m : length after ≡ length (reportCall r buffer .buffer) = ap (λ (l : Left). length (l .buffer)) e in
+    let n : k ≡ reportCall r buffer .answer .written = sym (ap (λ (w : Written). writtenOf w .written) p) ∙ ap (λ (l : ReportLeft). l .answer .written) e in
+    let m : length after ≡ length (reportCall r buffer .buffer) = ap (λ (l : ReportLeft). length (l .buffer)) e in
     sym (length-take-le k after (omega (arith, call-within r buffer)))
 
 -- the parts are those of the call, by the length that the answer tells
-pub line-handed : {after : List ℕ} {a : Written} {call : Left} {k : ℕ} → a ≡ Line k → left (writtenOf a) after ≡ call → take k after ∷ after ∷ [] ≡ handedBack call
+pub line-handed : {after : List ℕ} {a : Written} {call : ReportLeft} {k : ℕ} → a ≡ Line k → reportLeft (writtenOf a) after ≡ call → take k after ∷ after ∷ [] ≡ handedBack call
 unfolding handedBack writtenOf
 line-handed {after} p e = ap (λ (w : Written). take (writtenOf w .written) after ∷ after ∷ []) (sym p) ∙ ap handedBack e
 
-pub none-handed : {after : List ℕ} {a : Written} {call : Left} {n : ℕ} → a ≡ NoLine n → left (writtenOf a) after ≡ call → [] ∷ after ∷ [] ≡ handedBack call
+pub none-handed : {after : List ℕ} {a : Written} {call : ReportLeft} {n : ℕ} → a ≡ NoLine n → reportLeft (writtenOf a) after ≡ call → [] ∷ after ∷ [] ≡ handedBack call
 unfolding handedBack writtenOf
 none-handed {after} p e = ap (λ (w : Written). take (writtenOf w .written) after ∷ after ∷ []) (sym p) ∙ ap handedBack e

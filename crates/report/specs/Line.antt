@@ -5,6 +5,7 @@ use Prim.Native.Nat.{ℕ, _^_, _<_}
 use lib.Dec.{ltb}
 use lib.ListN.{length, take}
 use Rattle.lists.specs.Lists.{overwrite}
+use Rattle.outcome.specs.Numbers.{shortBuffer}
 use Rattle.outcome.specs.Outcome.{letterOf, refusalOf}
 use Rattle.outcome.specs.declared.Outcome.{Outcome}
 use Rattle.outcome.specs.declared.Outcome.the-variants.{Accepted, Refused}
@@ -43,40 +44,36 @@ pub record IsWithin (r : Report) : Type 0 where
 abbrev pub bufferLimit : ℕ
 bufferLimit = 48
 
--- the refusal of a buffer below its size
-abbrev pub short : ℕ
-short = 1
-
 -- The answer in the document's numbers: the refusal, 0 for none, and the length of the line, 0 where none is written.
-pub record Answer : Type 0 where
+pub record ReportAnswer : Type 0 where
   pub refusal : ℕ
   pub written : ℕ
 
-abbrev pub done : ℕ → Answer
-done n = record { refusal = 0; written = n }
+abbrev pub reportDone : ℕ → ReportAnswer
+reportDone n = record { refusal = 0; written = n }
 
-abbrev pub refused : ℕ → Answer
-refused n = record { refusal = n; written = 0 }
+abbrev pub reportRefused : ℕ → ReportAnswer
+reportRefused n = record { refusal = n; written = 0 }
 
 -- the document's numbers for each case of the answer
-unfoldable pub writtenOf : Written → Answer
-writtenOf (Line n) = done n
-writtenOf (NoLine n) = refused n
+unfoldable pub writtenOf : Written → ReportAnswer
+writtenOf (Line n) = reportDone n
+writtenOf (NoLine n) = reportRefused n
 
 -- what the call leaves: its answer, and the lent buffer
-pub record Left : Type 0 where
-  pub answer : Answer
+pub record ReportLeft : Type 0 where
+  pub answer : ReportAnswer
   pub buffer : List ℕ
 
-abbrev pub left : Answer → List ℕ → Left
-left a b = record { answer = a; buffer = b }
+abbrev pub reportLeft : ReportAnswer → List ℕ → ReportLeft
+reportLeft a b = record { answer = a; buffer = b }
 
 -- the line over the first bytes of the caller's buffer; bytes past it stay
-unfoldable pub reportCall : Report → List ℕ → Left
+unfoldable pub reportCall : Report → List ℕ → ReportLeft
 reportCall r buffer =
-    cond (ltb (length buffer) bufferLimit) (left (refused short) buffer)
-    (left (done (length (reportLine r))) (overwrite (reportLine r) buffer))
+    cond (ltb (length buffer) bufferLimit) (reportLeft (reportRefused shortBuffer) buffer)
+    (reportLeft (reportDone (length (reportLine r))) (overwrite (reportLine r) buffer))
 
 -- the written part, which is empty exactly where the call is refused, and the whole buffer
-unfoldable pub handedBack : Left → List (List ℕ)
+unfoldable pub handedBack : ReportLeft → List (List ℕ)
 handedBack l = take (l .answer .written) (l .buffer) ∷ l .buffer ∷ []

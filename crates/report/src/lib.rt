@@ -4,7 +4,7 @@ ghost use mathlib.Core.List.{map};
 ghost use Prim.Native.Nat.{_+_, _≤_};
 ghost use lib.ListN.{length};
 ghost use Rattle.report.specs.Decimal.{decimal};
-ghost use Rattle.report.specs.Line.{outcomeText, field, figuresText, writtenOf, left, reportCall, handedBack};
+ghost use Rattle.report.specs.Line.{outcomeText, field, figuresText, writtenOf, reportLeft, reportCall, handedBack};
 ghost use Rattle.report.specs.Placed.{Placed};
 use outcome::Outcome;
 
@@ -26,7 +26,7 @@ pub enum Written {
 
 // Writes the line of a report at the start of the caller's buffer.
 pub fn write_report(line: &mut [u8], report: Report) -> Written
-    ensures { λ r. ⌜ left (writtenOf r) (now (line .exit)) ≡ reportCall report (now (line .entry)) ⌝ }
+    ensures { λ r. ⌜ reportLeft (writtenOf r) (now (line .exit)) ≡ reportCall report (now (line .entry)) ⌝ }
 {
     if line.len() < 48 {
         return Written::Refused(1);

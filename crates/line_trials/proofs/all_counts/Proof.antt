@@ -2,7 +2,6 @@
 -- Assumes nothing.
 use Prim.Native.Nat.{_≤_, _-_}
 use borrow.Author.Needs.{needs}
-use borrow.Author.Needs.{needs}
 use Rattle.line_trials.proofs.all_counts.Statement.{statement}
 use Rattle.line_trials.proofs.all_counts.Tie as tie
 

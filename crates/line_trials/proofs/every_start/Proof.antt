@@ -2,7 +2,6 @@
 -- Assumes nothing.
 use Prim.Native.Nat.{_≤_, _-_}
 use borrow.Author.Needs.{needs}
-use borrow.Author.Needs.{needs}
 use Rattle.line_trials.proofs.every_start.Statement.{statement}
 use Rattle.line_trials.proofs.every_start.Tie as tie
 

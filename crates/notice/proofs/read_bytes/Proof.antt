@@ -3,8 +3,8 @@
 use Prim.Native.Nat.{_≤_, _-_}
 use native.Mathlib.Omega.{arith}
 use Rattle.notice.specs.Lines.{bytesOf}
-use Rattle.notice.proofs.Spelling.{length-bytes}
-use Rattle.notice.proofs.Copies.{Copied, copied-none, copied-more, copied-all}
+use Rattle.notice.proofs.Spelling.{length-bytes, bytes-more}
+use Rattle.notice.proofs.Copies.{Copied, copied-none, copied-all}
 use borrow.Author.Needs.{needs}
 use Rattle.notice.proofs.read_bytes.Statement.{statement}
 use Rattle.notice.proofs.read_bytes.Tie as tie
@@ -31,7 +31,7 @@ loop-less : tie.Need-loop-less Inv-loop μ-loop
 loop-less c = search needs
 
 loop-again : tie.Need-loop-again Inv-loop μ-loop
-loop-again c = (search needs, copied-more (c .before .before .loop .inv .1) (c .byte-at .ensures) (omega (arith, length-bytes (c .before .before .before .before .before .args .digits .now))) (omega (arith, length-bytes (c .before .before .before .before .before .args .digits .now))))
+loop-again c = (search needs, bytes-more _ _ (c .before .before .loop .inv .1) (c .byte-at .ensures) (c .before .loop-test .taken) (c .before .before .before .before .before .pre .1))
 
 same-length : tie.Need-same-length Inv-loop μ-loop
 same-length c = search needs

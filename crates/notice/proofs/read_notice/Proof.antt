@@ -4,7 +4,7 @@ use mathlib.Core.Path.{sym, _∙_}
 use native.Mathlib.Omega.{arith}
 use borrow.Author.Tests.{not-true, not-false}
 use Rattle.notice.specs.Calls.{readingOf}
-use Rattle.notice.proofs.Theorems.{spells-parts}
+use Rattle.notice.proofs.Tests.{spells-parts}
 use Rattle.notice.proofs.Answers.{read-short, end-most, digits-length, digits-fit, read-endless, read-other, read-done}
 use borrow.Author.Needs.{needs}
 use Rattle.notice.proofs.read_notice.Statement.{statement}

@@ -1,12 +1,11 @@
 -- `notice::write_digits` meets its contract. The invariant: the digits of the first i bytes are written, and the rest is as it was.
 -- The measure is what is left of the frame. Assumes nothing.
-use mathlib.Core.Path.{sym, _∙_}
 use Prim.Native.Nat.{_≤_, _-_, _*_}
 use native.Mathlib.Omega.{arith}
 use lib.ListN.{length}
 use Rattle.notice.specs.Lines.{digitsOf}
-use Rattle.notice.proofs.Spelling.{length-digits, digits-high, digits-low}
-use Rattle.notice.proofs.Copies.{Copied, copied-none, copied-more, copied-at, copied-all}
+use Rattle.notice.proofs.Spelling.{length-digits, digits-more}
+use Rattle.notice.proofs.Copies.{Copied, copied-none, copied-all}
 use lib.ListN.{length-set}
 use borrow.Author.Needs.{needs}
 use Rattle.notice.proofs.write_digits.Statement.{statement}
@@ -52,7 +51,7 @@ loop-less : tie.Need-loop-less Inv-loop μ-loop
 loop-less c = search needs
 
 loop-again : tie.Need-loop-again Inv-loop μ-loop
-loop-again c = (search needs, copied-at (copied-more (copied-more (c .before .before .before .before .loop .inv .1) (c .before .digit .ensures ∙ sym (digits-high _ _ (c .before .before .before .loop-test .taken))) (omega (arith, length-digits (c .before .before .before .before .before .before .before .args .frame .now))) (omega (arith, length-digits (c .before .before .before .before .before .before .before .args .frame .now)))) (c .digit2 .ensures ∙ sym (digits-low _ _ (c .before .before .before .loop-test .taken))) (omega (arith, length-digits (c .before .before .before .before .before .before .before .args .frame .now))) (omega (arith, length-digits (c .before .before .before .before .before .before .before .args .frame .now)))) (omega arith))
+loop-again c = (search needs, digits-more _ _ (c .before .before .before .before .loop .inv .1) (c .before .digit .ensures) (c .digit2 .ensures) (c .before .before .before .loop-test .taken) (c .before .before .before .before .before .before .before .pre))
 
 same-length : tie.Need-same-length Inv-loop μ-loop
 same-length c = search needs

@@ -4,7 +4,7 @@ use mathlib.Core.Path.{sym, _∙_}
 use native.Mathlib.Omega.{arith}
 use borrow.Author.Tests.{not-true, not-false}
 use Rattle.notice.specs.Calls.{writingOf}
-use Rattle.notice.proofs.Theorems.{frame-parts}
+use Rattle.notice.proofs.Tests.{frame-parts}
 use Rattle.notice.proofs.Answers.{write-short, write-other, write-done}
 use borrow.Author.Needs.{needs}
 use Rattle.notice.proofs.write_notice.Statement.{statement}

@@ -4,7 +4,6 @@ use Prim.Native.Nat.{_≤_, _-_}
 use mathlib.Core.Path.{_≡_}
 use lib.ListN.{length}
 use borrow.Author.Needs.{needs}
-use borrow.Author.Needs.{needs}
 use Rattle.line_trials.proofs.plain.read.Statement.{statement}
 use Rattle.line_trials.proofs.plain.read.Tie as tie
 
