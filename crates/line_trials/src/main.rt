@@ -17,6 +17,7 @@ use tally::start;
 // What every lent buffer holds before a call: the bytes past what is written have to keep it.
 const FILL: u8 = 7;
 
+// Each group in turn: a failed case shows in its line, which the stored output does not have.
 fn main() {
     print(
         b"frames of 0 to 255 neighbours, written and read back: ",
@@ -138,6 +139,7 @@ fn one_byte(t: Tally, at: usize, b: u8) -> Tally {
     t
 }
 
+// The document's line with every byte at one place.
 fn every_byte(before: Tally, at: usize) -> Tally {
     let mut t = before;
     let mut b: usize = 0;
@@ -328,6 +330,7 @@ fn some_reports(before: Tally, first: u32, i: usize) -> Tally {
     t
 }
 
+// A report for each pair of the numbers.
 fn all_reports() -> Tally {
     let mut t = start();
     let mut i = 0;
@@ -385,6 +388,7 @@ fn shown(
     }
 }
 
+// The stream of the document, its reports printed as the document shows them.
 fn seven_lines() -> Tally {
     let grew = Outcome::Accepted(Change::Grew);
     let kept = Outcome::Accepted(Change::Kept);

@@ -4,6 +4,7 @@ use outcome::Change;
 use outcome::Outcome;
 use report::Report;
 
+// The characters of the sixteen digits.
 const DIGITS: [u8; 16] = [
     48,
     49,
