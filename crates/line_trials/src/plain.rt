@@ -4,6 +4,10 @@ use outcome::Change;
 use outcome::Outcome;
 use report::Report;
 
+// What every lent buffer holds before a call: the bytes past what is written have to keep it.
+pub const FILL: u8 = 7;
+
+// The characters of the sixteen digits.
 const DIGITS: [u8; 16] = [
     48,
     49,

@@ -4,11 +4,13 @@ pub struct Tally {
     wrong: u32,
 }
 
+// Nothing tried yet.
 pub fn start() -> Tally {
     Tally { tried: 0, wrong: 0 }
 }
 
 impl Tally {
+    // One case more, and whether it came out as expected.
     pub fn seen(self, ok: bool) -> Tally {
         let tried = next(self.tried);
         if ok {

@@ -1,9 +1,9 @@
--- `line_trials::every_byte` is safe and ends: 256 turns.
+-- `line_trials::lines::every_byte` is safe and ends: 256 turns.
 -- Assumes nothing.
 use Prim.Native.Nat.{_≤_, _-_}
 use borrow.Author.Needs.{needs}
-use Rattle.line_trials.proofs.every_byte.Statement.{statement}
-use Rattle.line_trials.proofs.every_byte.Tie as tie
+use Rattle.line_trials.proofs.lines.every_byte.Statement.{statement}
+use Rattle.line_trials.proofs.lines.every_byte.Tie as tie
 
 abbrev Inv-loop : tie.InvT-loop
 Inv-loop at t₀ b₀ t b = b ≤ 256

@@ -1,9 +1,9 @@
--- `line_trials::every_place` is safe and ends: 13 turns.
+-- `line_trials::lines::every_place` is safe and ends: 13 turns.
 -- Assumes nothing.
 use Prim.Native.Nat.{_≤_, _-_}
 use borrow.Author.Needs.{needs}
-use Rattle.line_trials.proofs.every_place.Statement.{statement}
-use Rattle.line_trials.proofs.every_place.Tie as tie
+use Rattle.line_trials.proofs.lines.every_place.Statement.{statement}
+use Rattle.line_trials.proofs.lines.every_place.Tie as tie
 
 abbrev Inv-loop : tie.InvT-loop
 Inv-loop t₀ at₀ t at = at ≤ 13

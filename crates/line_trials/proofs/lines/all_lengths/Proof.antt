@@ -1,9 +1,9 @@
--- `line_trials::all_lengths` is safe and ends: 300 turns.
+-- `line_trials::lines::all_lengths` is safe and ends: 300 turns.
 -- Assumes nothing.
 use Prim.Native.Nat.{_≤_, _-_}
 use borrow.Author.Needs.{needs}
-use Rattle.line_trials.proofs.all_lengths.Statement.{statement}
-use Rattle.line_trials.proofs.all_lengths.Tie as tie
+use Rattle.line_trials.proofs.lines.all_lengths.Statement.{statement}
+use Rattle.line_trials.proofs.lines.all_lengths.Tie as tie
 
 abbrev Inv-loop : tie.InvT-loop
 Inv-loop t₀ n₀ t n = n ≤ 300

@@ -1,9 +1,9 @@
--- `line_trials::some_reports` is safe and ends: the table has sixteen numbers.
+-- `line_trials::reports::some_reports` is safe and ends: the table has sixteen numbers.
 -- Assumes nothing.
 use Prim.Native.Nat.{_≤_, _-_}
 use borrow.Author.Needs.{needs}
-use Rattle.line_trials.proofs.some_reports.Statement.{statement}
-use Rattle.line_trials.proofs.some_reports.Tie as tie
+use Rattle.line_trials.proofs.reports.some_reports.Statement.{statement}
+use Rattle.line_trials.proofs.reports.some_reports.Tie as tie
 
 abbrev Inv-loop : tie.InvT-loop
 Inv-loop first i t₀ j₀ t j = j ≤ 16

@@ -1,9 +1,9 @@
--- `line_trials::all_counts` is safe and ends: 256 turns.
+-- `line_trials::lines::all_counts` is safe and ends: 256 turns.
 -- Assumes nothing.
 use Prim.Native.Nat.{_≤_, _-_}
 use borrow.Author.Needs.{needs}
-use Rattle.line_trials.proofs.all_counts.Statement.{statement}
-use Rattle.line_trials.proofs.all_counts.Tie as tie
+use Rattle.line_trials.proofs.lines.all_counts.Statement.{statement}
+use Rattle.line_trials.proofs.lines.all_counts.Tie as tie
 
 abbrev Inv-loop : tie.InvT-loop
 Inv-loop t₀ count₀ t count = count ≤ 256

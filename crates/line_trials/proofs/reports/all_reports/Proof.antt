@@ -1,9 +1,9 @@
--- `line_trials::all_reports` is safe and ends: 16 turns.
+-- `line_trials::reports::all_reports` is safe and ends: 16 turns.
 -- Assumes nothing.
 use Prim.Native.Nat.{_≤_, _-_}
 use borrow.Author.Needs.{needs}
-use Rattle.line_trials.proofs.all_reports.Statement.{statement}
-use Rattle.line_trials.proofs.all_reports.Tie as tie
+use Rattle.line_trials.proofs.reports.all_reports.Statement.{statement}
+use Rattle.line_trials.proofs.reports.all_reports.Tie as tie
 
 abbrev Inv-loop : tie.InvT-loop
 Inv-loop t₀ i₀ t i = i ≤ 16

@@ -1,9 +1,9 @@
--- `line_trials::every_start` is safe and ends: 518 turns.
+-- `line_trials::lines::every_start` is safe and ends: 518 turns.
 -- Assumes nothing.
 use Prim.Native.Nat.{_≤_, _-_}
 use borrow.Author.Needs.{needs}
-use Rattle.line_trials.proofs.every_start.Statement.{statement}
-use Rattle.line_trials.proofs.every_start.Tie as tie
+use Rattle.line_trials.proofs.lines.every_start.Statement.{statement}
+use Rattle.line_trials.proofs.lines.every_start.Tie as tie
 
 abbrev Inv-loop : tie.InvT-loop
 Inv-loop line t₀ n₀ t n = n ≤ 518
