@@ -23,7 +23,7 @@ use Rattle.graph.proofs.Round.{Fine, Invariant, round-keeps, round-stil
 module _ (C : Chart) (metric : IsMetric C) where
   -- ---- the pick
 
-  pick-in : (xs : List ℕ) (r : ℕ) → pick C xs ≡ some r → List·Memᴰ r xs
+  pub pick-in : (xs : List ℕ) (r : ℕ) → pick C xs ≡ some r → List·Memᴰ r xs
   unfolding pick better
   pick-in [] r q = let z : _≡_ {A = ℕ} 0 1 = cc in absurd (lt-irrefl 0 (omega arith))
   pick-in (x ∷ xs) r q = go (pick C xs) refl (λ w h. pick-in xs w h)
@@ -39,7 +39,7 @@ module _ (C : Chart) (metric : IsMetric C) where
           at true k = List·Memᴰ·tail (Memᴰ·cast (sym k) (ih w h))
           at false k = List·Memᴰ·head (sym k)
 
-  pick-none : (xs : List ℕ) → pick C xs ≡ none → (v : ℕ) → List·Memᴰ v xs → ⊥
+  pub pick-none : (xs : List ℕ) → pick C xs ≡ none → (v : ℕ) → List·Memᴰ v xs → ⊥
   unfolding pick
   pick-none [] q v m = List·Memᴰ·not-nil m
   pick-none (x ∷ xs) q v m = let z : _≡_ {A = ℕ} 0 1 = cc in absurd (lt-irrefl 0 (omega arith))
@@ -85,7 +85,7 @@ module _ (C : Chart) (metric : IsMetric C) where
     -- ---- at the end
 
     -- every depot has been searched or skipped
-    ended : (S : State) → waitingCount S ≡ 0 → (v : ℕ) → List·Memᴰ v (C .depots) → isWaiting (S .status v) ≡ false
+    pub ended : (S : State) → waitingCount S ≡ 0 → (v : ℕ) → List·Memᴰ v (C .depots) → isWaiting (S .status v) ≡ false
     unfolding waitingCount
     ended S z v m = count-zero (λ v. isWaiting (S .status v)) (C .depots) z m
 

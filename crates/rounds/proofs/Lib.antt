@@ -1,0 +1,5 @@
+pub mod Holding
+pub mod Pairing
+pub mod Marking
+pub mod Simulation
+pub mod Finish
