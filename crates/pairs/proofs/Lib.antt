@@ -1,0 +1,6 @@
+-- Sums, counts and greatest values over a range, a number at a time.
+pub mod Ranges
+-- The number of pairs: one pair more, no pairs, and how many there can be.
+pub mod PairCounts
+-- A table with the number of its pairs: how it is read, and one pair put.
+pub mod Tallies
