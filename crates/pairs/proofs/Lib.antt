@@ -4,3 +4,5 @@ pub mod Ranges
 pub mod PairCounts
 -- A table with the number of its pairs: how it is read, and one pair put.
 pub mod Tallies
+-- The loop of `add_pairs`: r with the members of a row, a member at a time.
+pub mod Adding
