@@ -6,3 +6,5 @@ pub mod PairCounts
 pub mod Tallies
 -- The loop of `add_pairs`: r with the members of a row, a member at a time.
 pub mod Adding
+-- What a search does to the pairs: r's own alone, r's own added, or nothing.
+pub mod Settling
