@@ -8,3 +8,5 @@ pub mod Tallies
 pub mod Adding
 -- What a search does to the pairs: r's own alone, r's own added, or nothing.
 pub mod Settling
+-- The loop of `drop_row`: the stale pairs of one row, a member at a time.
+pub mod StaleRow

@@ -1,7 +1,7 @@
 -- Sums, counts and greatest values of a function over 0, 1, .., n - 1: a number at a time, and one value changed. Assumes nothing.
 use mathlib.Core.Path.{_≡_, refl, sym, ap, _∙_}
 use mathlib.Core.Logic.{_≢_, _⊎_, inl, inr}
-use mathlib.Core.Bool.{Bool, cond}
+use mathlib.Core.Bool.{Bool, false, cond}
 use Prim.Native.Nat.{ℕ, zero, suc, _+_, _-_, _*_, _≤_, _<_, max}
 use native.Mathlib.Nat.{not-suc-le-zero, mul-suc}
 use native.Mathlib.Numerals.{add-one}
@@ -120,3 +120,18 @@ sum-has f (suc n) j l = go (eq-or-ne j n) (λ m. sum-has f n j m)
     go : (j ≡ n) ⊎ (j ≢ n) → (j < n → f j ≤ sumOf f (range n)) → f j ≤ sumOf f (range (suc n))
     go (inl e) ih = omega (arith, sum-suc f n, ap f e)
     go (inr e) ih = omega (arith, sum-suc f n, ih (omega arith))
+
+-- ---- from one number that counts to the next: none between them does
+
+pub count-end : (p : ℕ → Bool) (at n : ℕ) → at ≤ n → ((k : ℕ) → at ≤ k → k < n → p k ≡ false) → countb p (range n) ≡ countb p (range at)
+count-end p at n l h =
+    count-sum p n ∙ sum-skip (λ v. cond (p v) 1 0) at n l (λ k a b. ap (λ (x : Bool). cond {A = ℕ} x 1 0) (h k a b)) ∙ sym (count-sum p at)
+
+pub count-step : (p : ℕ → Bool) (at v : ℕ) → at ≤ v → ((k : ℕ) → at ≤ k → k < v → p k ≡ false) → countb p (range (v + 1)) ≡ countb p (range at) + cond (p v) 1 0
+count-step p at v l h = count-sum p (v + 1) ∙ sum-more (λ v. cond (p v) 1 0) v ∙ ap (λ (x : ℕ). x + cond (p v) 1 0) (sym (count-sum p v) ∙ count-end p at v l h)
+
+pub max-step : (f : ℕ → ℕ) (at v : ℕ) → at ≤ v → ((k : ℕ) → at ≤ k → k < v → f k ≡ 0) → maxOf f (range (v + 1)) ≡ max (maxOf f (range at)) (f v)
+max-step f at v l h = max-more f v ∙ ap (λ (x : ℕ). max x (f v)) (max-skip f at v l h)
+
+pub count-nothing : (p : ℕ → Bool) → countb p (range 0) ≡ 0
+count-nothing p = count-sum p 0 ∙ sum-nothing (λ v. cond (p v) 1 0)

@@ -6,7 +6,7 @@ use mathlib.Core.List.{List}
 use Prim.Native.Nat.{ℕ, _+_, _*_, _≤_, _<_, min}
 use lib.Dec.{eqb, ltb}
 use lib.ListN.{length, getD}
-use Rattle.lists.specs.Lists.{range, maxOf, overwrite}
+use Rattle.lists.specs.Lists.{range, countb, maxOf, overwrite}
 use Rattle.graph.specs.Chart.{Pairs, countPairs}
 use Rattle.rows.specs.Rows.{rowBit, tableBit, encodeTable}
 
@@ -55,7 +55,21 @@ dropped t w = record { left = t; way = w }
 unfoldable pub dropOf : ℕ → List ℕ → ℕ → List ℕ → Dropped
 dropOf W hops D t = dropped (tallyOf W (staying W hops D t) t) (greatestWay W hops D t)
 
+-- one row of that: row u keeps its pairs that stay, the other rows are as they were; the number of those, and the row's greatest
+unfoldable pub dropRowOf : ℕ → List ℕ → ℕ → ℕ → List ℕ → Dropped
+dropRowOf W hops D u t =
+    dropped
+    (tally (overwrite (encodeTable W (λ p v. cond (eqb p u) (staying W hops D t p v) (tableBit W t p v))) t) (countb (staying W hops D t u) (range (64 * W))))
+    (maxOf (λ v. cond (tableBit W t u v) (min D (getD hops u 0 + getD hops v 0)) 0) (range (64 * W)))
+
 -- ---- what the functions ask
+
+-- a whole table, and a hop for each code
+pub record Reckoned (W : ℕ) (pairs hops : List ℕ) : Type 0 where
+  pub positive : 0 < W
+  pub most : W < 513
+  pub table : W * (64 * W) ≤ length pairs
+  pub hopped : 64 * W ≤ length hops
 
 -- a whole table whose pairs are as many as the count
 pub record Counted (W : ℕ) (pairs : List ℕ) (count : ℕ) : Type 0 where
