@@ -10,3 +10,5 @@ pub mod Adding
 pub mod Settling
 -- The loop of `drop_row`: the stale pairs of one row, a member at a time.
 pub mod StaleRow
+-- The loop of `drop_stale`: the stale pairs of the table, a row at a time.
+pub mod StaleTable
