@@ -1,2 +1,0 @@
--- Bounds, marks and the remaining depots, and the next reference.
-pub mod Bounds
