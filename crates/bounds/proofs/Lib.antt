@@ -1,0 +1,2 @@
+-- a reference that leaves, one code relaxed, and the loop over every code
+pub mod Relaxing
