@@ -130,7 +130,7 @@ module _ (K : Shape) (shape : IsShape K) (codes links : List ℕ) (net : IsNet (
         go : (o : Option ℕ) → pick (chart G) (remaining (chart G) S) ≡ o → o ≡ none
         go none e = refl
         go (some r) e =
-            let x = filter-out (λ v. isWaiting (S .status v)) (chart G .depots) (pick-in (chart G) (chart-metric G net) (remaining (chart G) S) r e) in
+            let x = filter-out (λ v. isWaiting (S .status v)) (chart G .depots) (pick-in (chart G) (remaining (chart G) S) r e) in
             absurd (clash (x .1) (ended (chart G) (chart-metric G net) unreached most-ecc (le-refl unreached) S (settled .1) r (x .0)))
 
     depots-few : length (chart G .depots) ≤ 64 * W

@@ -3,3 +3,4 @@ pub mod Pairing
 pub mod Marking
 pub mod Simulation
 pub mod Finish
+pub mod Turns

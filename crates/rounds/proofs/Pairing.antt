@@ -28,26 +28,12 @@ use Rattle.rows.proofs.Wholes.{encode-table-ext}
 use Rattle.layers.specs.Layers.{depthFrom, layerBit, Tables, searchLeaves}
 use Rattle.layers.proofs.Theorems.{depth-is}
 use Rattle.pairs.specs.Pairs.{Tally, tally, pairsWith, tallyOf, settleOf}
+use Rattle.pairs.proofs.Tallies.{tally-ext, table-over}
 use Rattle.rounds.specs.Workspace.{lastRow}
 
--- ---- pairs that agree below 64 W
-
-sum-on : (f g : ℕ → ℕ) (xs : List ℕ) → ((u : ℕ) → List·Memᴰ u xs → f u ≡ g u) → sumOf f xs ≡ sumOf g xs
-unfolding sumOf
-sum-on f g [] h = refl
-sum-on f g (x ∷ xs) h = rw (h x (List·Memᴰ·head refl), sum-on f g xs (λ u m. h u (List·Memᴰ·tail m)))
-
-pub count-pairs-same : (n : ℕ) (P Q : Pairs) → ((u v : ℕ) → u < n → v < n → P u v ≡ Q u v) → countPairs (range n) P ≡ countPairs (range n) Q
-unfolding countPairs
-count-pairs-same n P Q h = sum-on (λ u. countb (λ v. P u v) (range n)) (λ u. countb (λ v. Q u v) (range n)) (range n) (λ u l. count-same n (λ v. P u v) (λ v. Q u v) (λ v m. h u v (range-out n l) m))
-
-pub tally-same : (W : ℕ) (P Q : Pairs) (t : List ℕ) → ((u v : ℕ) → u < 64 * W → v < 64 * W → P u v ≡ Q u v) → tallyOf W P t ≡ tallyOf W Q t
+tally-over : (W : ℕ) (P Q : Pairs) (t : List ℕ) → tallyOf W P (overwrite (encodeTable W Q) t) ≡ tallyOf W P t
 unfolding tallyOf
-tally-same W P Q t h = ap₂ tally (ap (λ (r : List ℕ). overwrite r t) (encode-table-ext W P Q h)) (count-pairs-same (64 * W) P Q h)
-
-pub tally-over : (W : ℕ) (P Q : Pairs) (t : List ℕ) → tallyOf W P (overwrite (encodeTable W Q) t) ≡ tallyOf W P t
-unfolding tallyOf
-tally-over W P Q t = ap (λ (l : List ℕ). tally l (countPairs (range (64 * W)) P)) (overwrite-twice (encodeTable W P) (encodeTable W Q) t (omega (arith, encode-table-length W P, encode-table-length W Q)))
+tally-over W P Q t = ap (λ (l : List ℕ). tally l (countPairs (range (64 * W)) P)) (table-over W P Q t)
 
 -- ---- the last layer's pairs are r's own
 
@@ -132,7 +118,7 @@ module _ (W : ℕ) (G : Network) (net : IsNet G) (limit-is : G .limit ≡ 64 * W
       is-open = t→true (G .isOpen r) o
 
       new : (Q : Pairs) (R : Pairs) → ((u v : ℕ) → u < 64 * W → v < 64 * W → Q u v ≡ R u v) → tallyOf W Q pairs ≡ tallyOf W R pairs₀
-      new Q R h = ap (tallyOf W Q) ep ∙ tally-over W Q P pairs₀ ∙ tally-same W Q R pairs₀ h
+      new Q R h = ap (tallyOf W Q) ep ∙ tally-over W Q P pairs₀ ∙ tally-ext W Q R pairs₀ h
 
       old : tally pairs count ≡ tallyOf W P pairs₀
       old = ap₂ tally ep ec

@@ -209,7 +209,7 @@ module _ (W mark other : ℕ) (most : W < 513) (codes links : List ℕ) (net : I
   pub picked : (S : State) → Running S → (r : ℕ) → pick (chart G) (remaining (chart G) S) ≡ some r → List·Memᴰ r (chart G .depots) × (memb r (S .references) ≡ false)
   unfolding remaining
   picked S R r q =
-      let x = filter-out (λ v. isWaiting (S .status v)) (chart G .depots) (pick-in (chart G) metric (remaining (chart G) S) r q) in
+      let x = filter-out (λ v. isWaiting (S .status v)) (chart G .depots) (pick-in (chart G) (remaining (chart G) S) r q) in
       (x .0, at (S .status r) (x .1) (R .inv .fine r (x .0)))
     where
       at : (s : Status) → isWaiting s ≡ true → Fine (chart G) metric (S .candidate) (S .references) r s → memb r (S .references) ≡ false

@@ -18,6 +18,9 @@ pub record Sizes : Type 0 where
   pub even : ℕ
   pub odd : ℕ
 
+abbrev pub sizes : ℕ → ℕ → ℕ → ℕ → ℕ → ℕ → ℕ → Sizes
+sizes l p h b s e o = record { links = l; pairs = p; hops = h; bounds = b; skips = s; even = e; odd = o }
+
 unfoldable pub sizesOf : List ℕ → Lent → Sizes
 sizesOf links B = record {
   links = length links;

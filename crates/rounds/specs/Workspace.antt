@@ -1,14 +1,18 @@
 -- THE ROUNDS IN CODE, over lists of words and numbers, for any number of words per row. Nobody has to believe these:
 -- proofs/Theorems says that they leave what the network's own rounds (graph, Rounds.antt) leave.
 -- Assumes nothing.
-use mathlib.Core.Bool.{cond}
+use mathlib.Core.Bool.{false, cond}
 use mathlib.Core.List.{List}
 use mathlib.Core.Option.{Option, none, some}
-use Prim.Native.Nat.{ℕ, zero, suc, _+_, _%_}
+use Prim.Native.Nat.{ℕ, zero, suc, _+_, _*_, _%_, _≤_}
 use lib.Dec.{eqb, ltb}
+use lib.ListN.{length}
+use Rattle.lists.specs.Lists.{range, mapl, overwrite}
+use Rattle.graph.specs.Distance.{unreached}
+use Rattle.rows.specs.Rows.{rowBit, encodeRow, encodeTable}
 use Rattle.layers.specs.Layers.{Tables, searchTable}
 use Rattle.pairs.specs.Pairs.{Tally, settleOf}
-use Rattle.bounds.specs.Bounds.{Marks, leaveOf, relaxOf, pickIn}
+use Rattle.bounds.specs.Bounds.{Marks, marks, leaveOf, relaxOf, pickIn}
 
 pub record Workspace : Type 0 where
   pub searched : Tables
@@ -57,3 +61,32 @@ orEnd (some r) M f = f r
 unfoldable pub runOf : ℕ → List ℕ → ℕ → ℕ → Workspace → Workspace
 runOf W links mark zero M = M
 runOf W links mark (suc k) M = orEnd (pickIn W links (M .marked .waiting)) M (λ r. runOf W links mark k (roundOf W links mark r M))
+
+-- ---- the start
+
+-- no pair, no bound, no mark, every open depot remaining
+pub record Begun : Type 0 where
+  pub pairs : List ℕ
+  pub marked : Marks
+
+abbrev pub begun : List ℕ → Marks → Begun
+begun p m = record { pairs = p; marked = m }
+
+unfoldable pub beginOf : ℕ → ℕ → List ℕ → Begun → Begun
+beginOf W other codes B =
+    begun (overwrite (encodeTable W (λ u v. false)) (B .pairs))
+    (marks
+    (overwrite (mapl (λ v. unreached) (range (64 * W))) (B .marked .bounds))
+    (overwrite (mapl (λ v. other) (range (64 * W))) (B .marked .skips))
+    (overwrite (encodeRow W (rowBit W codes)) (B .marked .waiting)))
+
+-- ---- what the functions ask
+
+-- a link table and a search's memory of W words a row
+pub record Room (W : ℕ) (links hops even odd seen next : List ℕ) : Type 0 where
+  pub table : W * (64 * W) ≤ length links
+  pub hopPlaces : 64 * W ≤ length hops
+  pub evenRow : W ≤ length even
+  pub oddRow : W ≤ length odd
+  pub seenRow : W ≤ length seen
+  pub nextRow : W ≤ length next
