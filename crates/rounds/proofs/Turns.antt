@@ -162,3 +162,41 @@ module _ (W : ℕ) (links : List ℕ) where
       go : (k : ℕ) → runOf W links mark k M ≡ M
       go zero = refl
       go (suc k) = rw q
+
+-- where the loop of rounds stands: it goes on as from M₀, the pairs are counted, and the searches still to come have room
+pub record AtRound (W : ℕ) (links : List ℕ) (mark : ℕ) (M₀ M : Workspace) : Type 0 where
+  pub going : Going W links mark M₀ M
+  pub counted : Counted W (M .paired .pairs) (M .paired .count)
+  pub spare : M .searches + countb (rowBit W (M .marked .waiting)) (range (64 * W)) ≤ M₀ .searches + 64 * W
+
+pub at-start : (W : ℕ) (links : List ℕ) (mark : ℕ) (M : Workspace) → Counted W (M .paired .pairs) (M .paired .count) → AtRound W links mark M M
+at-start W links mark M k = record {
+  going = going-start W links mark M;
+  counted = k;
+  spare = omega (arith, count-le-length (rowBit W (M .marked .waiting)) (range (64 * W)), length-range (64 * W));
+}
+
+pub at-next : (W : ℕ) (links : List ℕ) (mark : ℕ) (M₀ M : Workspace) (T : Tables) (t : List ℕ) (n : ℕ) (m : Marks) (c s r : ℕ) → AtRound W links mark M₀ M → pickIn W links (M .marked .waiting) ≡ some r
+    → W ≤ length (M .marked .waiting) → workspace T (tally t n) m c s ≡ roundOf W links mark r M → AtRound W links mark M₀ (workspace T (tally t n) m c s)
+unfolding roundOf absorbOf
+at-next W links mark M₀ M T t n m c s r A q w e =
+    let p = picked-in W links (M .marked .waiting) r q in
+    let f : countb (rowBit W (m .waiting)) (range (64 * W)) < countb (rowBit W (M .marked .waiting)) (range (64 * W)) =
+    subst (λ (X : Workspace). countb (rowBit W (X .marked .waiting)) (range (64 * W)) < countb (rowBit W (M .marked .waiting)) (range (64 * W))) (sym e) (round-fewer W links mark r M (p .1) (p .0) w) in
+    let k : s ≡ M .searches + 1 = ap (λ (X : Workspace). X .searches) e in
+    record {
+      going = going-on W links mark M₀ M (workspace T (tally t n) m c s) r (A .going) q w e;
+      counted = round-counted W links mark r M T t n c s m (A .counted) e;
+      spare = omega (arith, A .spare);
+    }
+
+-- the measure: fewer depots remain
+pub fewer-remain : (W : ℕ) (links : List ℕ) (mark : ℕ) (M : Workspace) (T : Tables) (t : Tally) (m : Marks) (c s r : ℕ) → pickIn W links (M .marked .waiting) ≡ some r → W ≤ length (M .marked .waiting)
+    → workspace T t m c s ≡ roundOf W links mark r M → countb (rowBit W (m .waiting)) (range (64 * W)) < countb (rowBit W (M .marked .waiting)) (range (64 * W))
+fewer-remain W links mark M T t m c s r q w e =
+    let p = picked-in W links (M .marked .waiting) r q in
+    subst (λ (X : Workspace). countb (rowBit W (X .marked .waiting)) (range (64 * W)) < countb (rowBit W (M .marked .waiting)) (range (64 * W))) (sym e) (round-fewer W links mark r M (p .1) (p .0) w)
+
+-- one search more is still a number of 16 bits
+pub room-left : (W : ℕ) (links : List ℕ) (mark : ℕ) (M₀ M : Workspace) → AtRound W links mark M₀ M → M₀ .searches < 2 → W < 513 → M .searches < 65535
+room-left W links mark M₀ M A l m = omega (arith, A .spare)
