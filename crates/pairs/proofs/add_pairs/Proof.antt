@@ -41,9 +41,10 @@ returns c = add-end (c .before .before .before .loop .inv) (subst (NextIs _ _ _)
 
 put-pair-requires : tie.Need-put-pair-requires Inv-loop μ-loop
 put-pair-requires c κs =
-    let pre = c .before .before .before .before .before .before .before .before .before .pre in
-    let inside = is-next (c .before .before) .inside in
-    (holds-counted (c .before .before .before .before .before .before .loop .inv .holds) (pre .0 .positive) (pre .0 .most) (pre .0 .table), omega (arith, inside), omega (arith, inside))
+    let told = c .before .before in
+    let pre = told .before .before .before .before .before .before .before .pre in
+    let inside = is-next told .inside in
+    (holds-counted (told .before .before .before .before .loop .inv .holds) (pre .0 .positive) (pre .0 .most) (pre .0 .table), omega (arith, inside), omega (arith, inside))
 
 add-from : tie.Need-add-from Inv-loop μ-loop
 add-from c = omega (arith, is-next (c .before .before .before .before .before) .inside)
@@ -52,13 +53,16 @@ loop-less : tie.Need-loop-less Inv-loop μ-loop
 loop-less c = let n = is-next (c .before .before .before .before .before) in omega (arith, n .inside, n .after)
 
 loop-again : tie.Need-loop-again Inv-loop μ-loop
-loop-again c = add-low (c .before .before .before .before .before .before .before .before .before .loop .inv) (is-next (c .before .before .before .before .before)) _ _ (c .before .before .put-pair .ensures) (c .before .before .before .before .if1 .taken)
+loop-again c =
+    let told = c .before .before .before .before .before in
+    add-low (told .before .before .before .before .loop .inv) (is-next told) _ _ (c .before .before .put-pair .ensures) (c .before .before .before .before .if1 .taken)
 
 put-pair-requires-2 : tie.Need-put-pair-requires-2 Inv-loop μ-loop
 put-pair-requires-2 c κs =
-    let pre = c .before .before .before .before .before .before .before .before .before .before .pre in
-    let inside = is-next (c .before .before .before) .inside in
-    (holds-counted (c .before .before .before .before .before .before .before .loop .inv .holds) (pre .0 .positive) (pre .0 .most) (pre .0 .table), omega (arith, inside), omega (arith, inside))
+    let told = c .before .before .before in
+    let pre = told .before .before .before .before .before .before .before .pre in
+    let inside = is-next told .inside in
+    (holds-counted (told .before .before .before .before .loop .inv .holds) (pre .0 .positive) (pre .0 .most) (pre .0 .table), omega (arith, inside), omega (arith, inside))
 
 add-from-2 : tie.Need-add-from-2 Inv-loop μ-loop
 add-from-2 c = omega (arith, is-next (c .before .before .before .before .before .before) .inside)
@@ -67,7 +71,9 @@ loop-less-2 : tie.Need-loop-less-2 Inv-loop μ-loop
 loop-less-2 c = let n = is-next (c .before .before .before .before .before .before) in omega (arith, n .inside, n .after)
 
 loop-again-2 : tie.Need-loop-again-2 Inv-loop μ-loop
-loop-again-2 c = add-high (c .before .before .before .before .before .before .before .before .before .before .loop .inv) (is-next (c .before .before .before .before .before .before)) _ _ (c .before .before .put-pair2 .ensures) (c .before .before .before .before .if2 .taken)
+loop-again-2 c =
+    let told = c .before .before .before .before .before .before in
+    add-high (told .before .before .before .before .loop .inv) (is-next told) _ _ (c .before .before .put-pair2 .ensures) (c .before .before .before .before .if2 .taken)
 
 add-from-3 : tie.Need-add-from-3 Inv-loop μ-loop
 add-from-3 c = omega (arith, is-next (c .before .before) .inside)
@@ -76,7 +82,9 @@ loop-less-3 : tie.Need-loop-less-3 Inv-loop μ-loop
 loop-less-3 c = let n = is-next (c .before .before) in omega (arith, n .inside, n .after)
 
 loop-again-3 : tie.Need-loop-again-3 Inv-loop μ-loop
-loop-again-3 c = add-itself (c .before .before .before .before .before .before .loop .inv) (is-next (c .before .before)) (omega arith)
+loop-again-3 c =
+    let told = c .before .before in
+    add-itself (told .before .before .before .before .loop .inv) (is-next told) (omega arith)
 
 pub add-pairs-spec : {M : Type 1} → statement M
 add-pairs-spec =

@@ -62,15 +62,18 @@ returns c =
     row-end _ _ _ _ _ (c .before .before .before .before .before .loop .inv) (c .before .before .before .before .before .before .before .before .pre .1) none
 
 way-by-requires : tie.Need-way-by-requires Inv-loop μ-loop
-way-by-requires c κs = let pre = c .before .before .before .before .before .before .before .before .before .pre in (omega (arith, pre .0 .hopped), omega (arith, pre .0 .hopped, is-next c .inside))
+way-by-requires c κs =
+    let hopped = c .before .before .before .before .before .before .before .before .before .pre .0 .hopped in
+    (omega (arith, hopped), omega (arith, hopped, is-next c .inside))
 
 longer-requires : tie.Need-longer-requires Inv-loop μ-loop
 longer-requires c κs = search needs
 
 row-clear-requires : tie.Need-row-clear-requires Inv-loop μ-loop
 row-clear-requires c κs =
-    let i = c .before .before .before .before .before .before .before .before .before .before .loop .inv in
-    record { row = omega (arith, i .room, i .size); below = c .before .before .before .before .before .before .before .before .before .before .before .before .before .pre .1; column = is-next (c .before .before .before .before) .inside }
+    let told = c .before .before .before .before in
+    let i = told .before .before .before .before .before .before .loop .inv in
+    record { row = omega (arith, i .room, i .size); below = told .before .before .before .before .before .before .before .before .before .pre .1; column = is-next told .inside }
 
 add-from : tie.Need-add-from Inv-loop μ-loop
 add-from c = omega (arith, is-next (c .before .before .before .before .before .before .before) .inside)
@@ -80,12 +83,15 @@ loop-less c = let n = is-next (c .before .before .before .before .before .before
 
 loop-again : tie.Need-loop-again Inv-loop μ-loop
 loop-again c =
+    let told = c .before .before .before .before .before .before .before in
     let cleared = c .before .before .row-clear in
-    row-drop _ _ _ _ _ (c .before .before .before .before .before .before .before .before .before .before .before .before .before .loop .inv) (c .before .before .before .before .before .before .before .before .before .before .before .before .before .before .before .before .pre .1) (is-next (c .before .before .before .before .before .before .before))
+    row-drop _ _ _ _ _ (told .before .before .before .before .before .before .loop .inv) (told .before .before .before .before .before .before .before .before .before .pre .1) (is-next told)
     (cleared .ensures) (c .before .before .before .before .before .before .way-by .ensures) (c .before .before .before .before .before .longer .ensures) (c .before .before .before .before .if1 .taken) (cleared .kept .0)
 
 add-count : tie.Need-add-count Inv-loop μ-loop
-add-count c = let i = c .before .before .before .before .before .before .before .before .before .loop .inv in omega (arith, row-few i, i .within, c .before .before .before .before .before .before .before .before .before .before .before .before .pre .0 .most)
+add-count c =
+    let i = c .before .before .before .before .before .before .before .before .before .loop .inv in
+    omega (arith, row-few i, i .within, c .before .before .before .before .before .before .before .before .before .before .before .before .pre .0 .most)
 
 add-from-2 : tie.Need-add-from-2 Inv-loop μ-loop
 add-from-2 c = omega (arith, is-next (c .before .before .before) .inside)
@@ -95,7 +101,8 @@ loop-less-2 c = let n = is-next (c .before .before .before) in omega (arith, n .
 
 loop-again-2 : tie.Need-loop-again-2 Inv-loop μ-loop
 loop-again-2 c =
-    row-keep _ _ _ _ _ (c .before .before .before .before .before .before .before .before .before .loop .inv) (c .before .before .before .before .before .before .before .before .before .before .before .before .pre .1) (is-next (c .before .before .before))
+    let told = c .before .before .before in
+    row-keep _ _ _ _ _ (told .before .before .before .before .before .before .loop .inv) (told .before .before .before .before .before .before .before .before .before .pre .1) (is-next told)
     (c .before .before .way-by .ensures) (c .before .longer .ensures) (omega arith)
 
 pub drop-row-spec : {M : Type 1} → statement M

@@ -45,7 +45,8 @@ loop-less c = search needs
 loop-again : tie.Need-loop-again Inv-loop μ-loop
 loop-again c =
     let row = c .before .before .before .before .drop-row in
-    table-more _ _ _ _ (c .before .before .before .before .before .before .before .loop .inv) (c .before .before .before .before .before .before .loop-test .taken) (row .ensures) (c .longer .ensures) (c .before .before .before .before .before .before .before .before .before .before .pre .most) (row .kept .0)
+    table-more _ _ _ _ (c .before .before .before .before .before .before .before .loop .inv) (c .before .before .before .before .before .before .loop-test .taken)
+    (row .ensures) (c .longer .ensures) (c .before .before .before .before .before .before .before .before .before .before .pre .most) (row .kept .0)
 
 same-length : tie.Need-same-length Inv-loop μ-loop
 same-length c = c .before .loop .inv .size
