@@ -12,3 +12,5 @@ pub mod Settling
 pub mod StaleRow
 -- The loop of `drop_stale`: the stale pairs of the table, a row at a time.
 pub mod StaleTable
+-- What the callers keep: a counted table, its pairs, and what the greatest way says.
+pub mod Theorems

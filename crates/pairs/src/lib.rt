@@ -1,3 +1,5 @@
+// The pair table with the number of its pairs: a search's own pairs added, stale pairs dropped. A row of words may be up to 512 long.
+// What a function ensures of table and count is one equation, so that callers rewrite by it.
 ghost use mathlib.Core.Path.{_≡_};
 ghost use mathlib.Core.Bool.{_||_, _&&_};
 ghost use Prim.Native.Nat.{_+_, _*_, _<_, _≤_, min, max};

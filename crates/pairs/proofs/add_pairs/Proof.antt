@@ -17,7 +17,8 @@ abbrev μ-loop : tie.MeasureT-loop
 μ-loop pairs₀ last words r count sum₀ from₀ pairs sum from = 64 * words - from
 
 -- the member found
-is-next : (c : tie.After-known-told Inv-loop μ-loop) → IsNext (c .before .before .before .before .before .before .before .args .words) (c .before .before .before .before .before .before .before .args .last .now) (c .before .before .before .before .loop .from) (c .before .found .given .0 .0)
+is-next : (c : tie.After-known-told Inv-loop μ-loop) → let a = c .before .before .before .before .before .before .before .args in
+    IsNext (a .words) (a .last .now) (c .before .before .before .before .loop .from) (c .before .found .given .0 .0)
 is-next c = subst (NextIs _ _ _) (c .before .found .given .1) (c .before .before .before .next-member .ensures)
 
 loop-holds : tie.Need-loop-holds Inv-loop μ-loop
@@ -39,37 +40,51 @@ returns : tie.Need-returns Inv-loop μ-loop
 returns c = add-end (c .before .before .before .loop .inv) (subst (NextIs _ _ _) (c .enum-told .given .1) (c .before .before .next-member .ensures))
 
 put-pair-requires : tie.Need-put-pair-requires Inv-loop μ-loop
-put-pair-requires c κs = (let pre = c .before .before .before .before .before .before .before .before .before .pre .0 in holds-counted (c .before .before .before .before .before .before .loop .inv .holds) (pre .positive) (pre .most) (pre .table), c .before .before .before .before .before .before .before .before .before .pre .2, is-next (c .before .before) .inside)
+put-pair-requires c κs =
+    let told = c .before .before in
+    let pre = told .before .before .before .before .before .before .before .pre in
+    let inside = is-next told .inside in
+    (holds-counted (told .before .before .before .before .loop .inv .holds) (pre .0 .positive) (pre .0 .most) (pre .0 .table), omega (arith, inside), omega (arith, inside))
 
 add-from : tie.Need-add-from Inv-loop μ-loop
 add-from c = omega (arith, is-next (c .before .before .before .before .before) .inside)
 
 loop-less : tie.Need-loop-less Inv-loop μ-loop
-loop-less c = omega (arith, is-next (c .before .before .before .before .before) .inside, is-next (c .before .before .before .before .before) .after)
+loop-less c = let n = is-next (c .before .before .before .before .before) in omega (arith, n .inside, n .after)
 
 loop-again : tie.Need-loop-again Inv-loop μ-loop
-loop-again c = add-low (c .before .before .before .before .before .before .before .before .before .loop .inv) (is-next (c .before .before .before .before .before)) _ _ (c .before .before .put-pair .ensures) (c .before .before .before .before .if1 .taken)
+loop-again c =
+    let told = c .before .before .before .before .before in
+    add-low (told .before .before .before .before .loop .inv) (is-next told) _ _ (c .before .before .put-pair .ensures) (c .before .before .before .before .if1 .taken)
 
 put-pair-requires-2 : tie.Need-put-pair-requires-2 Inv-loop μ-loop
-put-pair-requires-2 c κs = (let pre = c .before .before .before .before .before .before .before .before .before .before .pre .0 in holds-counted (c .before .before .before .before .before .before .before .loop .inv .holds) (pre .positive) (pre .most) (pre .table), is-next (c .before .before .before) .inside, c .before .before .before .before .before .before .before .before .before .before .pre .2)
+put-pair-requires-2 c κs =
+    let told = c .before .before .before in
+    let pre = told .before .before .before .before .before .before .before .pre in
+    let inside = is-next told .inside in
+    (holds-counted (told .before .before .before .before .loop .inv .holds) (pre .0 .positive) (pre .0 .most) (pre .0 .table), omega (arith, inside), omega (arith, inside))
 
 add-from-2 : tie.Need-add-from-2 Inv-loop μ-loop
 add-from-2 c = omega (arith, is-next (c .before .before .before .before .before .before) .inside)
 
 loop-less-2 : tie.Need-loop-less-2 Inv-loop μ-loop
-loop-less-2 c = omega (arith, is-next (c .before .before .before .before .before .before) .inside, is-next (c .before .before .before .before .before .before) .after)
+loop-less-2 c = let n = is-next (c .before .before .before .before .before .before) in omega (arith, n .inside, n .after)
 
 loop-again-2 : tie.Need-loop-again-2 Inv-loop μ-loop
-loop-again-2 c = add-high (c .before .before .before .before .before .before .before .before .before .before .loop .inv) (is-next (c .before .before .before .before .before .before)) _ _ (c .before .before .put-pair2 .ensures) (c .before .before .before .before .if2 .taken)
+loop-again-2 c =
+    let told = c .before .before .before .before .before .before in
+    add-high (told .before .before .before .before .loop .inv) (is-next told) _ _ (c .before .before .put-pair2 .ensures) (c .before .before .before .before .if2 .taken)
 
 add-from-3 : tie.Need-add-from-3 Inv-loop μ-loop
 add-from-3 c = omega (arith, is-next (c .before .before) .inside)
 
 loop-less-3 : tie.Need-loop-less-3 Inv-loop μ-loop
-loop-less-3 c = omega (arith, is-next (c .before .before) .inside, is-next (c .before .before) .after)
+loop-less-3 c = let n = is-next (c .before .before) in omega (arith, n .inside, n .after)
 
 loop-again-3 : tie.Need-loop-again-3 Inv-loop μ-loop
-loop-again-3 c = add-itself (c .before .before .before .before .before .before .loop .inv) (is-next (c .before .before)) (omega arith)
+loop-again-3 c =
+    let told = c .before .before in
+    add-itself (told .before .before .before .before .loop .inv) (is-next told) (omega arith)
 
 pub add-pairs-spec : {M : Type 1} → statement M
 add-pairs-spec =

@@ -21,10 +21,17 @@ mul-loop : tie.Need-mul-loop Inv-loop μ-loop
 mul-loop c = omega (arith, c .before .before .before .pre .most)
 
 drop-row-requires : tie.Need-drop-row-requires Inv-loop μ-loop
-drop-row-requires c κs = let pre = c .before .before .before .before .before .pre in (record { positive = pre .positive; most = pre .most; table = omega (arith, c .before .before .loop .inv .size, pre .table); hopped = pre .hopped }, c .before .loop-test .taken)
+drop-row-requires c κs =
+    let pre = c .before .before .before .before .before .pre in
+    let size = c .before .before .loop .inv .size in
+    (record { positive = pre .positive; most = pre .most; table = omega (arith, size, pre .table); hopped = pre .hopped }, c .before .loop-test .taken)
 
 add-count : tie.Need-add-count Inv-loop μ-loop
-add-count c = let more = table-more _ _ _ _ (c .before .before .before .before .before .before .loop .inv) (c .before .before .before .before .before .loop-test .taken) (c .before .before .before .drop-row .ensures) refl (c .before .before .before .before .before .before .before .before .before .pre .most) (c .before .before .before .drop-row .kept .0) in omega (arith, more .few, more .within, c .before .before .before .before .before .before .before .before .before .pre .most)
+add-count c =
+    let row = c .before .before .before .drop-row in
+    let most = c .before .before .before .before .before .before .before .before .before .pre .most in
+    let more = table-more _ _ _ _ (c .before .before .before .before .before .before .loop .inv) (c .before .before .before .before .before .loop-test .taken) (row .ensures) refl most (row .kept .0) in
+    omega (arith, more .few, more .within, most)
 
 longer-requires : tie.Need-longer-requires Inv-loop μ-loop
 longer-requires c κs = search needs
@@ -36,7 +43,10 @@ loop-less : tie.Need-loop-less Inv-loop μ-loop
 loop-less c = search needs
 
 loop-again : tie.Need-loop-again Inv-loop μ-loop
-loop-again c = table-more _ _ _ _ (c .before .before .before .before .before .before .before .loop .inv) (c .before .before .before .before .before .before .loop-test .taken) (c .before .before .before .before .drop-row .ensures) (c .longer .ensures) (c .before .before .before .before .before .before .before .before .before .before .pre .most) (c .before .before .before .before .drop-row .kept .0)
+loop-again c =
+    let row = c .before .before .before .before .drop-row in
+    table-more _ _ _ _ (c .before .before .before .before .before .before .before .loop .inv) (c .before .before .before .before .before .before .loop-test .taken)
+    (row .ensures) (c .longer .ensures) (c .before .before .before .before .before .before .before .before .before .before .pre .most) (row .kept .0)
 
 same-length : tie.Need-same-length Inv-loop μ-loop
 same-length c = c .before .loop .inv .size

@@ -17,7 +17,9 @@ entered : (c : tie.After-slice-known) → let a = c .before .args in Holds (a .w
 entered c = holds-whole (c .before .pre .0) (λ i l. c .slice-known .given i .fits)
 
 row-test-requires : tie.Need-row-test-requires
-row-test-requires c κs = record { row = row-fits _ _ _ (c .before .before .pre .1) (c .before .before .pre .0 .table); below = c .before .before .pre .1; column = c .before .before .pre .2 }
+row-test-requires c κs =
+    let pre = c .before .before .pre in
+    record { row = row-fits _ _ _ (pre .1) (pre .0 .table); below = search needs; column = search needs }
 
 same-length : tie.Need-same-length
 same-length c = search needs
@@ -26,7 +28,9 @@ returns : tie.Need-returns
 returns c = put-old _ _ (entered (c .before .before .before)) (sym (c .before .row-test .ensures) ∙ c .if1 .taken) .is
 
 row-set-requires : tie.Need-row-set-requires
-row-set-requires c κs = record { row = row-fits _ _ _ (c .before .before .before .before .before .pre .1) (c .before .before .before .before .before .pre .0 .table); below = c .before .before .before .before .before .pre .1; column = c .before .before .before .before .before .pre .2 }
+row-set-requires c κs =
+    let pre = c .before .before .before .before .before .pre in
+    record { row = row-fits _ _ _ (pre .1) (pre .0 .table); below = search needs; column = search needs }
 
 add-result : tie.Need-add-result
 add-result c = omega (arith, tally-fits (c .before .before .before .before .before .before .before .before .pre .0))
@@ -35,8 +39,11 @@ same-length-2 : tie.Need-same-length-2
 same-length-2 c = search needs
 
 returns-2 : tie.Need-returns-2
-returns-2 c = ap (λ (t : List ℕ). tally t (c .before .before .before .before .before .before .before .before .args .count + 1)) (c .before .before .row-set .ensures)
-    ∙ put-new _ _ (entered (c .before .before .before .before .before .before .before)) (sym (c .before .before .before .before .before .row-test .ensures) ∙ c .before .before .before .before .if1 .left) (c .before .before .before .before .before .before .before .before .pre .1) (c .before .before .before .before .before .before .before .before .pre .2) .is
+returns-2 c =
+    let s = c .before .before .before .before .before .before .before .before in
+    let out = sym (c .before .before .before .before .before .row-test .ensures) ∙ c .before .before .before .before .if1 .left in
+    ap (λ (t : List ℕ). tally t (s .args .count + 1)) (c .before .before .row-set .ensures)
+    ∙ put-new _ _ (entered (c .before .before .before .before .before .before .before)) out (s .pre .1) (s .pre .2) .is
 
 pub put-pair-spec : {M : Type 1} → statement M
 put-pair-spec =

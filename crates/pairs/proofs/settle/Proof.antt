@@ -17,13 +17,15 @@ clear-requires : tie.Need-clear-requires
 clear-requires c κs = search needs
 
 add-pairs-requires : tie.Need-add-pairs-requires
-add-pairs-requires c κs = let pre = c .before .before .before .before .before .before .before .before .pre in (holds-counted (clear-holds _ _ _ (c .before .before .before .clear .ensures)) (pre .0 .positive) (pre .0 .most) (pre .0 .table), pre .1, pre .2)
+add-pairs-requires c κs =
+    let pre = c .before .before .before .before .before .before .before .before .pre in
+    (holds-counted (clear-holds _ _ _ (c .before .before .before .clear .ensures)) (pre .0 .positive) (pre .0 .most) (pre .0 .table), pre .1, pre .2)
 
 same-length : tie.Need-same-length
 same-length c = search needs
 
 returns : tie.Need-returns
-returns c = settle-above _ _ _ _ _ _ _ _ (clear-holds _ _ _ (c .before .before .before .before .before .before .clear .ensures)) (c .before .before .add-pairs .ensures) (c .before .before .before .before .before .before .before .before .if1 .taken)
+returns c = settle-above _ _ _ _ _ _ _ _ (clear-holds _ _ _ (c .before .before .before .before .before .before .clear .ensures)) (c .before .before .add-pairs .ensures) (omega arith)
 
 add-pairs-requires-2 : tie.Need-add-pairs-requires-2
 add-pairs-requires-2 c κs = search needs
