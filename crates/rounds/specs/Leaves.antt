@@ -3,9 +3,11 @@
 use mathlib.Core.Bool.{Bool, cond}
 use mathlib.Core.List.{List, [], _∷_}
 use Prim.Native.Nat.{ℕ}
+use lib.ListN.{length}
 use Rattle.lists.specs.Lists.{range, mapl, lastOr, overwrite}
 use Rattle.graph.specs.Network.{Network}
 use Rattle.graph.specs.Distance.{unreached}
+use Rattle.graph.specs.Chart.{countPairs}
 use Rattle.graph.specs.Rounds.{State, markOf, boundOf}
 use Rattle.rows.specs.Rows.{encodeTable}
 use Rattle.layers.specs.Layers.{Tables, searchLeaves}
@@ -35,3 +37,16 @@ roundsLeave K G S B = record {
   bounds = overwrite (mapl (λ v. cond (G .isOpen v) (boundOf (S .status v)) unreached) (range (places K))) (B .bounds);
   skips = overwrite (mapl (λ v. cond (G .isOpen v) (markOf (K .searchedMark) (K .otherMark) (S .status v)) (K .otherMark)) (range (places K))) (B .skips);
 }
+
+-- the figures beside them: chain, pair count, number of searches
+pub record Ran : Type 0 where
+  pub lent : Lent
+  pub chain : ℕ
+  pub count : ℕ
+  pub searches : ℕ
+
+abbrev pub ran : Lent → ℕ → ℕ → ℕ → Ran
+ran B c n s = record { lent = B; chain = c; count = n; searches = s }
+
+unfoldable pub ranBy : Shape → Network → State → Lent → Ran
+ranBy K G S B = ran (roundsLeave K G S B) (S .candidate) (countPairs (range (places K)) (S .pairs)) (length (S .references))

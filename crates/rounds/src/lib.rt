@@ -8,7 +8,6 @@ ghost use Rattle.layers.specs.Layers.{tables};
 ghost use Rattle.pairs.specs.Pairs.{tally, settleOf, Counted};
 ghost use Rattle.bounds.specs.Bounds.{marks, Fits};
 ghost use Rattle.rounds.specs.Workspace.{lastRow, absorbed, absorbing, workspace, roundOf, runOf, begun, beginOf, Room};
-use map::Record;
 use rows::Next;
 
 // ---- one round
@@ -187,18 +186,4 @@ pub fn begin(
     layers::fill(bounds, 64 * words, 65535);
     layers::fill(skips, 64 * words, other);
     rows::copy(waiting, codes, words);
-}
-
-// ---- the whole reckoning
-
-// The answer of a whole reckoning: the number of searches, or the refusal's number.
-pub enum Reckoning {
-    Searches(u16),
-    Refused(u8),
-}
-
-// What a whole reckoning leaves beside the lent tables: its answer and the record.
-pub struct Reckoned {
-    pub answer: Reckoning,
-    pub after: Record,
 }

@@ -21,7 +21,7 @@ use Rattle.bounds.proofs.pick_next.Reads as pick-next-reads
 use Rattle.rounds.proofs.round.Reads as round-reads
 
 abbrev Inv-loop : tie.InvT-loop
-Inv-loop hops₀ even₀ odd₀ seen₀ next₀ pairs₀ bounds₀ skips₀ waiting₀ links words mark now₀ hops even odd seen next pairs bounds skips waiting now = 
+Inv-loop hops₀ even₀ odd₀ seen₀ next₀ pairs₀ bounds₀ skips₀ waiting₀ links words mark now₀ hops even odd seen next pairs bounds skips waiting now =
     AtRound words links mark (workspace (tables hops₀ even₀ odd₀) (tally pairs₀ (now₀ .count)) (marks bounds₀ skips₀ waiting₀) (now₀ .candidate) (now₀ .searches)) (workspace (tables hops even odd) (tally pairs (now .count)) (marks bounds skips waiting) (now .candidate) (now .searches)) × (length hops ≡ length hops₀) × (length even ≡ length even₀) × (length odd ≡ length odd₀) × (length seen ≡ length seen₀) × (length next ≡ length next₀) × (length pairs ≡ length pairs₀) × (length bounds ≡ length bounds₀) × (length skips ≡ length skips₀) × (length waiting ≡ length waiting₀)
 
 abbrev μ-loop : tie.MeasureT-loop
@@ -37,7 +37,7 @@ loop-holds c = (at-start _ _ _ _ (c .before .before .before .before .before .bef
 
 -- src/lib.rt:149:13
 pick-next-requires : tie.Need-pick-next-requires Inv-loop μ-loop
-pick-next-requires c κs = 
+pick-next-requires c κs =
     let pre = c .before .before .before .before .before .before .before .before .before .before .before .before .pre in
     let v = c .before .loop .inv in
     (pre .2 .positive, pre .2 .most, omega (arith, pre .2 .row, v .9), pre .0 .table)
@@ -92,11 +92,10 @@ returns c = going-end _ _ _ _ _ (c .before .before .before .before .loop .inv .0
 
 -- src/lib.rt:153:13
 round-requires : tie.Need-round-requires Inv-loop μ-loop
-round-requires c κs = 
+round-requires c κs =
     let pre = c .before .before .before .before .before .before .before .before .before .before .before .before .before .before .before .before .before .before .before .before .before .before .before .before .before .pre in
     let v = c .before .before .before .before .before .before .before .before .before .before .before .before .before .before .loop .inv in
-    let p = picked-in _ _ _ _ (picked (c .before .before .before .before .before .before .before .before .before)) in
-    (
+    let p = picked-in _ _ _ _ (picked (c .before .before .before .before .before .before .before .before .before)) in (
       record {
         table = pre .0 .table;
         hopPlaces = omega (arith, pre .0 .hopPlaces, v .1);
@@ -119,13 +118,13 @@ round-requires c κs =
 
 -- src/lib.rt:148:5
 loop-less : tie.Need-loop-less Inv-loop μ-loop
-loop-less c = 
+loop-less c =
     let v = c .before .before .before .before .before .before .before .before .before .before .before .before .before .before .before .before .before .before .before .before .before .before .before .before .before .before .before .before .before .before .before .before .before .loop .inv in
     fewer-remain _ _ _ _ _ _ _ _ _ _ (picked (c .before .before .before .before .before .before .before .before .before .before .before .before .before .before .before .before .before .before .before .before .before .before .before .before .before .before .before .before)) (omega (arith, c .before .before .before .before .before .before .before .before .before .before .before .before .before .before .before .before .before .before .before .before .before .before .before .before .before .before .before .before .before .before .before .before .before .before .before .before .before .before .before .before .before .before .before .before .pre .2 .row, v .9)) (c .before .before .before .before .before .before .before .before .before .before .before .before .before .before .before .before .before .before .round .ensures)
 
 -- src/lib.rt:148:5
 loop-again : tie.Need-loop-again Inv-loop μ-loop
-loop-again c = 
+loop-again c =
     let v = c .before .before .before .before .before .before .before .before .before .before .before .before .before .before .before .before .before .before .before .before .before .before .before .before .before .before .before .before .before .before .before .before .before .loop .inv in
     let k = c .before .before .before .before .before .before .before .before .before .before .before .before .before .before .before .before .before .before .round .kept in
     (at-next _ _ _ _ _ _ _ _ _ _ _ _ (v .0) (picked (c .before .before .before .before .before .before .before .before .before .before .before .before .before .before .before .before .before .before .before .before .before .before .before .before .before .before .before .before)) (omega (arith, c .before .before .before .before .before .before .before .before .before .before .before .before .before .before .before .before .before .before .before .before .before .before .before .before .before .before .before .before .before .before .before .before .before .before .before .before .before .before .before .before .before .before .before .before .pre .2 .row, v .9)) (c .before .before .before .before .before .before .before .before .before .before .before .before .before .before .before .before .before .before .round .ensures), k .0 ∙ v .1, k .1 .0 ∙ v .2, k .1 .1 .0 ∙ v .3, k .1 .1 .1 .0 ∙ v .4, k .1 .1 .1 .1 .0 ∙ v .5, k .1 .1 .1 .1 .1 .0 ∙ v .6, k .1 .1 .1 .1 .1 .1 .0 ∙ v .7, k .1 .1 .1 .1 .1 .1 .1 .0 ∙ v .8, k .1 .1 .1 .1 .1 .1 .1 .1 .0 ∙ v .9)

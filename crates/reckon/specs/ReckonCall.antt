@@ -1,6 +1,6 @@
 -- THE WHOLE RECKONING on lent memory: its answer and every place that it leaves. The code's contract is one equation with `reckonCall`.
 -- Assumes nothing.
-use mathlib.Core.Bool.{not}
+use mathlib.Core.Bool.{Bool, not}
 use mathlib.Core.List.{List, [], _∷_}
 use Prim.Native.Nat.{ℕ, zero, suc}
 use lib.ListN.{length}
@@ -12,17 +12,21 @@ use Rattle.graph.specs.Rounds.{State, reckon}
 use Rattle.map.specs.Memory.{Shape, places, networkOf}
 use Rattle.map.specs.Sound.{soundLinks}
 use Rattle.map.specs.declared.Record.{Record}
 use Rattle.rounds.specs.Leaves.{Lent, roundsLeave}
 use Rattle.rounds.specs.Sizes.{Sizes, sizesOf, longEnough}
-use Rattle.rounds.specs.declared.Reckoning.{Reckoning}
-use Rattle.rounds.specs.declared.Reckoning.the-variants.{Searches, Refused}
-use Rattle.rounds.specs.declared.Reckoned.{Reckoned}
+use Rattle.reckon.specs.declared.Reckoning.{Reckoning}
+use Rattle.reckon.specs.declared.Reckoning.the-variants.{Searches, Refused}
+use Rattle.reckon.specs.declared.Reckoned.{Reckoned}
+
+-- refusals 2 and 3 of a map's links, each with its number
+unfoldable pub linkFaults : Shape → Record → List ℕ → List (Bool × ℕ)
+linkFaults K rec links =
+    let G = networkOf (K .words) (rec .codes) links in
+    (not (soundLinks G (rec .number)), 2) ∷ (not (connected G), 3) ∷ []
 
 -- the first refusal that holds: short, spoilt (links alone: a reckoning repairs figures), apart; 0: none
 unfoldable pub reckonRefusal : Shape → Record → List ℕ → Sizes → ℕ
-reckonRefusal K rec links sizes =
-    let G = networkOf (K .words) (rec .codes) links in
-    firstOf ((not (longEnough K sizes), 1) ∷ (not (soundLinks G (rec .number)), 2) ∷ (not (connected G), 3) ∷ [])
+reckonRefusal K rec links sizes = firstOf ((not (longEnough K sizes), 1) ∷ linkFaults K rec links)
 
 -- the record with the figures of a state
 unfoldable pub figuredBy : Shape → Record → State → Record
