@@ -1,24 +1,23 @@
 -- Where rounds begin in lent memory, and what they leave when none remains. Assumes nothing.
-use mathlib.Core.Path.{_≡_, refl, sym, ap, ap₂, _∙_, subst}
+use mathlib.Core.Path.{_≡_, refl, sym, ap, _∙_, subst}
 use mathlib.Core.Logic.{_⊎_, inl, inr}
-use mathlib.Core.Bool.{Bool, true, false, cond, not, _&&_}
-use mathlib.Core.List.{List, [], _∷_, _++_, List·Memᴰ}
+use mathlib.Core.Bool.{Bool, true, false, cond, _&&_}
+use mathlib.Core.List.{List, [], _∷_}
 use mathlib.Core.Option.{Option, none, some}
-use Prim.Native.Nat.{ℕ, zero, suc, _+_, _-_, _*_, _≤_, _<_}
+use Prim.Native.Nat.{ℕ, zero, suc, _+_, _-_, _*_, _≤_}
 use native.Mathlib.Nat.{le-of-lt, le-refl, suc-add, zero-add}
 use native.Mathlib.Omega.{arith}
-use lib.Dec.{T, eqb, ltb}
+use lib.Dec.{eqb}
 use lib.ListN.{length}
-use borrow.Author.Tests.{eq-eqb}
-use Rattle.lists.specs.Lists.{range, filterb, mapl, countb, sumOf, overwrite}
-use Rattle.lists.proofs.Tests.{look, t→true, true→t, clash}
-use Rattle.lists.proofs.Members.{filter-out, range-out}
+use Rattle.lists.specs.Lists.{range, mapl, countb, sumOf, overwrite}
+use Rattle.lists.proofs.Tests.{look, true→t, clash}
+use Rattle.lists.proofs.Members.{filter-out}
 use Rattle.lists.proofs.Counts.{count-le-length, count-none}
 use Rattle.lists.proofs.Fills.{fill-ext}
 use Rattle.graph.specs.Network.{Network}
-use Rattle.graph.specs.Distance.{vertices, unreached}
-use Rattle.graph.specs.Chart.{chart, ecc, Pairs, countPairs}
-use Rattle.graph.specs.Rounds.{Status, waiting, skipped, searched, isWaiting, markOf, boundOf, State, round, pick, remaining, orStop, rounds, start, reckon}
+use Rattle.graph.specs.Distance.{unreached}
+use Rattle.graph.specs.Chart.{chart, ecc, countPairs}
+use Rattle.graph.specs.Rounds.{Status, waiting, skipped, searched, isWaiting, markOf, boundOf, State, round, pick, remaining, orStop, rounds, start}
 use Rattle.graph.specs.Correct.{IsNet}
 use Rattle.graph.proofs.Metric.{ecc-small}
 use Rattle.graph.proofs.Round.{Invariant}
@@ -27,11 +26,10 @@ use Rattle.graph.proofs.Distances.{vertices-length}
 use Rattle.graph.proofs.Charts.{chart-metric, depot-in}
 use Rattle.rows.specs.Rows.{rowBit, encodeRow, encodeTable}
 use Rattle.rows.proofs.Wholes.{encode-row-ext}
-use Rattle.layers.specs.Layers.{Tables}
-use Rattle.map.specs.Memory.{Shape, places, IsShape, networkOf}
+use Rattle.map.specs.Memory.{Shape, IsShape, networkOf}
 use Rattle.pairs.specs.Pairs.{tally}
 use Rattle.bounds.specs.Bounds.{marks}
-use Rattle.rounds.specs.Leaves.{Lent, lent, searchAfter, roundsLeave}
+use Rattle.rounds.specs.Leaves.{lent, searchAfter, roundsLeave}
 use Rattle.rounds.specs.Workspace.{Workspace, workspace, runOf}
 use Rattle.rounds.proofs.Holding.{runBound, runMark, Origin, boundPlace, skipPlace, waitingPlace, Holds}
 use Rattle.rounds.proofs.Simulation.{Running, run-holds}

@@ -1,5 +1,5 @@
 -- What the code's workspace holds while the rounds go on: the state of the network's rounds. Assumes nothing.
-use mathlib.Core.Path.{_≡_, refl, sym, ap, _∙_}
+use mathlib.Core.Path.{_≡_, refl, sym, ap}
 use mathlib.Core.Bool.{Bool, cond, _&&_}
 use mathlib.Core.List.{List, [], _∷_, _++_}
 use Prim.Native.Nat.{ℕ, _*_}
@@ -10,11 +10,11 @@ use Rattle.lists.specs.Lists.{range, mapl, lastOr, overwrite}
 use Rattle.lists.proofs.Fills.{overwrite-twice, length-fill}
 use Rattle.graph.specs.Network.{Network}
 use Rattle.graph.specs.Distance.{unreached, dist}
-use Rattle.graph.specs.Chart.{Pairs, countPairs}
+use Rattle.graph.specs.Chart.{countPairs}
 use Rattle.graph.specs.Rounds.{Status, waiting, skipped, searched, isWaiting, State}
 use Rattle.rows.specs.Rows.{encodeRow, encodeTable}
 use Rattle.rows.proofs.Wholes.{row-over}
-use Rattle.layers.specs.Layers.{depthFrom, layerBit, Tables, tables, searchLeaves}
+use Rattle.layers.specs.Layers.{depthFrom, layerBit, Tables, searchLeaves}
 use Rattle.rounds.specs.Leaves.{searchAfter}
 use Rattle.rounds.specs.Workspace.{Workspace}
 

@@ -1,21 +1,21 @@
 -- The code's rounds over lent memory are the network's rounds, step by step. Assumes nothing.
-use mathlib.Core.Path.{_≡_, refl, sym, ap, ap₂, _∙_, subst, fun-ext}
+use mathlib.Core.Path.{_≡_, refl, sym, ap, ap₂, _∙_, subst}
 use mathlib.Core.Logic.{_⊎_, inl, inr}
 use mathlib.Core.Bool.{Bool, true, false, cond, not, _&&_}
-use mathlib.Core.List.{List, [], _∷_, _++_, List·Memᴰ, List·Memᴰ·head, List·Memᴰ·tail}
+use mathlib.Core.List.{List, [], _∷_, List·Memᴰ, List·Memᴰ·head, List·Memᴰ·tail}
 use mathlib.Core.Option.{Option, none, some}
 use Prim.Native.Nat.{ℕ, zero, suc, _+_, _*_, _≤_, _<_, min, max}
 use native.Mathlib.Nat.{le-of-lt, le-refl}
 use native.Mathlib.Omega.{arith}
 use lib.Dec.{T, eqb, ltb}
-use lib.ListN.{length, getD, length-append}
+use lib.ListN.{getD, length-append}
 use borrow.Author.Tests.{ltb-true, ltb-false, lt-ltb}
-use Rattle.lists.specs.Lists.{range, filterb, countb, memb, overwrite}
+use Rattle.lists.specs.Lists.{range, filterb, memb, overwrite}
 use Rattle.lists.proofs.Tests.{look, t→true, true→t, clash}
-use Rattle.lists.proofs.Members.{filter-in, filter-out, range-out}
+use Rattle.lists.proofs.Members.{filter-out, range-out}
 use Rattle.lists.proofs.Counts.{count-filter}
 use Rattle.lists.proofs.Fills.{fill-at}
-use Rattle.graph.specs.Network.{Network, IsSound}
+use Rattle.graph.specs.Network.{Network}
 use Rattle.graph.specs.Distance.{vertices, unreached, dist}
 use Rattle.graph.specs.Chart.{Chart, chart, ecc, Pairs, countPairs}
 use Rattle.graph.specs.Rounds.{Status, waiting, skipped, searched, isWaiting, State, offer, raise, joinPairs, round, better, pick, remaining, orStop, rounds}
@@ -23,17 +23,16 @@ use Rattle.graph.specs.Correct.{IsNet}
 use Rattle.graph.proofs.Metric.{IsMetric, ecc-small}
 use Rattle.graph.proofs.Round.{Fine, Invariant, round-keeps}
 use Rattle.graph.proofs.Rounds.{pick-in}
-use Rattle.graph.proofs.Charts.{chart-metric, depot-in, depot-out}
-use Rattle.rows.specs.Rows.{rowBit, tableBit, encodeRow, encodeTable}
+use Rattle.graph.proofs.Charts.{chart-metric, depot-out}
+use Rattle.rows.specs.Rows.{rowBit, tableBit, encodeTable}
 use Rattle.rows.proofs.Written.{row-at}
-use Rattle.layers.specs.Layers.{tableNetwork, depthFrom, Tables, tables, Searched, searchLeaves, searchTable}
+use Rattle.layers.specs.Layers.{tableNetwork, Tables, searchLeaves, searchTable}
 use Rattle.layers.proofs.Theorems.{table-depth, table-leaves, depth-is}
 use Rattle.map.specs.Memory.{networkOf}
-use Rattle.pairs.specs.Pairs.{Tally, tally, tallyOf, settleOf}
+use Rattle.pairs.specs.Pairs.{Tally, tallyOf, settleOf}
 use Rattle.bounds.specs.Bounds.{pickIn}
-use Rattle.rounds.specs.Leaves.{searchAfter}
 use Rattle.rounds.specs.Workspace.{Workspace, lastRow, absorbOf, roundOf, orEnd, runOf, absorbing}
-use Rattle.rounds.proofs.Holding.{runBound, Origin, Holds, waitingPlace, after-over, after-snoc}
+use Rattle.rounds.proofs.Holding.{Origin, Holds, waitingPlace, after-over, after-snoc}
 use Rattle.rounds.proofs.Pairing.{settle-is}
 use Rattle.rounds.proofs.Marking.{IsLow, bounds-after, skips-after, waiting-after}
 

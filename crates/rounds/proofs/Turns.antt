@@ -6,7 +6,6 @@ use mathlib.Core.List.{List, []}
 use mathlib.Core.Option.{Option, none, some}
 use Prim.Native.Nat.{ℕ, zero, suc, _+_, _*_, _%_, _≤_, _<_}
 use native.Mathlib.Nat.{lt-irrefl}
-use native.Mathlib.Numerals.{add-one}
 use native.Mathlib.Omega.{arith}
 use lib.Dec.{eqb, ltb}
 use lib.ListN.{length}
@@ -16,17 +15,14 @@ use Rattle.lists.proofs.Tests.{look, clash, and-true, eq-or-ne}
 use Rattle.lists.proofs.Members.{length-range, filter-out, range-in, range-out}
 use Rattle.lists.proofs.Counts.{count-lt, count-le-length}
 use Rattle.graph.specs.Chart.{chart, Pairs}
-use Rattle.graph.specs.Rounds.{pick}
 use Rattle.graph.proofs.Rounds.{pick-in}
 use Rattle.rows.specs.Rows.{rowBit, tableBit, encodeRow, putBit, InTable}
-use Rattle.rows.specs.declared.Next.{Next}
-use Rattle.rows.specs.declared.Next.the-variants.{At, Nothing}
 use Rattle.rows.proofs.Written.{row-at, table-zero}
 use Rattle.rows.proofs.Puts.{put-here, put-rest}
 use Rattle.layers.specs.Layers.{tableNetwork, Tables, tables, Searched, searched, searchTable}
 use Rattle.pairs.specs.Pairs.{Tally, tally, tallyOf, pairsWith, settleOf, Counted}
-use Rattle.pairs.proofs.Tallies.{Holds, holds-counted}
-use Rattle.bounds.specs.Bounds.{Marks, marks, leaveOf, boundAfter, waitingAfter, relaxOf, pickOf, pickIn}
+use Rattle.pairs.proofs.Tallies.{holds-counted}
+use Rattle.bounds.specs.Bounds.{Marks, marks, leaveOf, waitingAfter, relaxOf, pickIn}
 use Rattle.rounds.specs.Workspace.{Workspace, workspace, lastRow, Absorbed, absorbed, absorbing, absorbOf, roundOf, orEnd, runOf, Begun, begun, beginOf}
 use Rattle.rounds.proofs.Finish.{cleared-table}
 
