@@ -20,10 +20,10 @@ use Rattle.graph.specs.Opening.{shrunkCandidate}
 use Rattle.graph.proofs.Metric.{IsMetric, ecc-ge, ecc-small}
 use Rattle.graph.proofs.Round.{Fine, Invariant, round-keeps, round-still, round-done}
 
-module _ (C : Chart) (metric : IsMetric C) where
-  -- ---- the pick
+-- ---- the pick
 
-  pick-in : (xs : List ℕ) (r : ℕ) → pick C xs ≡ some r → List·Memᴰ r xs
+module _ (C : Chart) where
+  pub pick-in : (xs : List ℕ) (r : ℕ) → pick C xs ≡ some r → List·Memᴰ r xs
   unfolding pick better
   pick-in [] r q = let z : _≡_ {A = ℕ} 0 1 = cc in absurd (lt-irrefl 0 (omega arith))
   pick-in (x ∷ xs) r q = go (pick C xs) refl (λ w h. pick-in xs w h)
@@ -39,11 +39,12 @@ module _ (C : Chart) (metric : IsMetric C) where
           at true k = List·Memᴰ·tail (Memᴰ·cast (sym k) (ih w h))
           at false k = List·Memᴰ·head (sym k)
 
-  pick-none : (xs : List ℕ) → pick C xs ≡ none → (v : ℕ) → List·Memᴰ v xs → ⊥
+  pub pick-none : (xs : List ℕ) → pick C xs ≡ none → (v : ℕ) → List·Memᴰ v xs → ⊥
   unfolding pick
   pick-none [] q v m = List·Memᴰ·not-nil m
   pick-none (x ∷ xs) q v m = let z : _≡_ {A = ℕ} 0 1 = cc in absurd (lt-irrefl 0 (omega arith))
 
+module _ (C : Chart) (metric : IsMetric C) where
   -- ---- the rounds
 
   unfoldable pub waitingCount : State → ℕ
@@ -59,7 +60,7 @@ module _ (C : Chart) (metric : IsMetric C) where
         none-left q = count-none (λ v. isWaiting (S .status v)) (C .depots) (λ v m. at v m (look (isWaiting (S .status v))))
           where
             at : (v : ℕ) → List·Memᴰ v (C .depots) → (isWaiting (S .status v) ≡ true) ⊎ (isWaiting (S .status v) ≡ false) → isWaiting (S .status v) ≡ false
-            at v m (inl h) = absurd (pick-none (remaining C S) q v (filter-in (λ v. isWaiting (S .status v)) (C .depots) m h))
+            at v m (inl h) = absurd (pick-none C (remaining C S) q v (filter-in (λ v. isWaiting (S .status v)) (C .depots) m h))
             at v m (inr h) = h
 
         fresh : (r : ℕ) → List·Memᴰ r (C .depots) → isWaiting (S .status r) ≡ true → memb r (S .references) ≡ false
@@ -78,14 +79,14 @@ module _ (C : Chart) (metric : IsMetric C) where
             → Invariant C metric top (orStop o S (λ r. rounds C k (round C r S))) × (waitingCount (orStop o S (λ r. rounds C k (round C r S))) ≡ 0)
         go none q ih = (I, none-left q)
         go (some r) q ih =
-            let x = filter-out (λ v. isWaiting (S .status v)) (C .depots) (pick-in (remaining C S) r q) in
+            let x = filter-out (λ v. isWaiting (S .status v)) (C .depots) (pick-in C (remaining C S) r q) in
             let f : waitingCount (round C r S) < waitingCount S = fewer r (x .0) (x .1) in
             ih (round C r S) (round-keeps C metric S r (x .0) top I most topSmall (fresh r (x .0) (x .1))) (omega arith)
 
     -- ---- at the end
 
     -- every depot has been searched or skipped
-    ended : (S : State) → waitingCount S ≡ 0 → (v : ℕ) → List·Memᴰ v (C .depots) → isWaiting (S .status v) ≡ false
+    pub ended : (S : State) → waitingCount S ≡ 0 → (v : ℕ) → List·Memᴰ v (C .depots) → isWaiting (S .status v) ≡ false
     unfolding waitingCount
     ended S z v m = count-zero (λ v. isWaiting (S .status v)) (C .depots) z m
 

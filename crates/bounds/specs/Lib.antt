@@ -1,0 +1,2 @@
+-- Bounds, marks and the remaining depots, and the next reference.
+pub mod Bounds

@@ -1,0 +1,16 @@
+-- Sums, counts and greatest values over a range, a number at a time.
+pub mod Ranges
+-- The number of pairs: one pair more, no pairs, and how many there can be.
+pub mod PairCounts
+-- A table with the number of its pairs: how it is read, and one pair put.
+pub mod Tallies
+-- The loop of `add_pairs`: r with the members of a row, a member at a time.
+pub mod Adding
+-- What a search does to the pairs: r's own alone, r's own added, or nothing.
+pub mod Settling
+-- The loop of `drop_row`: the stale pairs of one row, a member at a time.
+pub mod StaleRow
+-- The loop of `drop_stale`: the stale pairs of the table, a row at a time.
+pub mod StaleTable
+-- What the callers keep: a counted table, its pairs, and what the greatest way says.
+pub mod Theorems

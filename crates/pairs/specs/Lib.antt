@@ -1,0 +1,2 @@
+-- The pair table with the number of its pairs: pairs added and stale pairs dropped.
+pub mod Pairs

@@ -1,0 +1,130 @@
+-- The refusals of a reckoning, and what an accepted one leaves. Assumes nothing.
+use mathlib.Core.Path.{_≡_, refl, sym, ap, ap₂, _∙_, subst}
+use mathlib.Core.Bool.{Bool, true, false, not}
+use mathlib.Core.List.{List, [], _∷_}
+use Prim.Native.Nat.{ℕ, zero, suc, _*_, _≤_, _<_}
+use native.Mathlib.Omega.{arith}
+use lib.ListN.{length}
+use borrow.Author.Tests.{not-false}
+use Rattle.lists.specs.Lists.{range, firstOf, overwrite}
+use Rattle.lists.proofs.Members.{first-zero}
+use Rattle.lists.proofs.Fills.{overwrite-length}
+use Rattle.graph.specs.Network.{Network, IsSound}
+use Rattle.graph.specs.Distance.{unreached, connected}
+use Rattle.graph.specs.Chart.{chart, countPairs}
+use Rattle.graph.specs.Rounds.{State, rounds, start, reckon}
+use Rattle.graph.specs.Correct.{IsNet}
+use Rattle.graph.proofs.Connected.{connected-iff}
+use Rattle.rows.specs.Rows.{tableBit, encodeTable}
+use Rattle.layers.specs.Layers.{Tables, tables}
+use Rattle.map.specs.Memory.{Shape, places, tableWords, IsShape, base, networkOf}
+use Rattle.map.specs.Sound.{soundLinks}
+use Rattle.map.specs.declared.Record.{Record}
+use Rattle.map.proofs.Theorems.{sound-links-iff}
+use Rattle.pairs.specs.Pairs.{tally, tallyOf, Counted}
+use Rattle.pairs.proofs.Tallies.{Holds, holds-counted}
+use Rattle.bounds.specs.Bounds.{marks}
+use Rattle.rounds.specs.Leaves.{Lent, lent, Ran, ran, roundsLeave, ranBy}
+use Rattle.rounds.specs.Sizes.{Sizes, sizes, sizesOf, longEnough}
+use Rattle.rounds.specs.Workspace.{Workspace, workspace, runOf, Begun, begun, beginOf}
+use Rattle.rounds.proofs.Holding.{Origin}
+use Rattle.rounds.proofs.Finish.{start-holds, start-running, run-leaves, run-figures, count-no-pairs}
+use Rattle.reckon.specs.ReckonCall.{linkFaults, reckonRefusal, figuredBy, ReckonLeft, reckonLeft, reckonGiven, reckonCall}
+use Rattle.reckon.specs.declared.Reckoning.the-variants.{Searches, Refused}
+use Rattle.reckon.specs.declared.Reckoned.{Reckoned}
+use Rattle.reckon.proofs.Longs.{AreLong, are-long}
+
+pub base-shape : IsShape base
+base-shape = record { positive = omega arith; most = omega arith; searchedFree = omega arith; otherFree = omega arith; marksDiffer = λ e. omega arith }
+
+-- ---- the refusals, by the code's tests
+
+module _ (K : Shape) (rec : Record) (links : List ℕ) (z : Sizes) where
+  abbrev G : Network
+  G = networkOf (K .words) (rec .codes) links
+
+  pub refused-short : longEnough K z ≡ false → 1 ≡ reckonRefusal K rec links z
+  unfolding reckonRefusal linkFaults firstOf
+  refused-short a = rw a
+
+  pub refused-spoilt : longEnough K z ≡ true → soundLinks G (rec .number) ≡ false → 2 ≡ reckonRefusal K rec links z
+  unfolding reckonRefusal linkFaults firstOf
+  refused-spoilt a b = rw (a, b)
+
+  pub refused-apart : longEnough K z ≡ true → soundLinks G (rec .number) ≡ true → connected G ≡ false → 3 ≡ reckonRefusal K rec links z
+  unfolding reckonRefusal linkFaults firstOf
+  refused-apart a b c = rw (a, b, c)
+
+  pub refused-never : longEnough K z ≡ true → soundLinks G (rec .number) ≡ true → connected G ≡ true → 0 ≡ reckonRefusal K rec links z
+  unfolding reckonRefusal linkFaults firstOf
+  refused-never a b c = rw (a, b, c)
+
+  -- none holds: whole buffers, and a network that a map can hold
+  pub granted-long : reckonRefusal K rec links z ≡ 0 → AreLong K z
+  unfolding reckonRefusal
+  granted-long e = are-long K z (not-false (longEnough K z) (first-zero (not (longEnough K z)) 0 (linkFaults K rec links) e .0))
+
+  pub granted-net : IsShape K → reckonRefusal K rec links z ≡ 0 → IsNet (networkOf (K .words) (rec .codes) links)
+  unfolding reckonRefusal linkFaults networkOf
+  granted-net shape e =
+      let a = first-zero (not (longEnough K z)) 0 _ e in
+      let b = first-zero (not (soundLinks G (rec .number))) 1 _ (a .1) in
+      let c = first-zero (not (connected G)) 2 [] (b .1) in
+      let s : IsSound G = sound-links-iff (K .words) (rec .codes) links (rec .number) .0 (not-false (soundLinks G (rec .number)) (b .0)) .isSound in
+      let m : G .limit < unreached = omega (arith, shape .most) in
+      record { sound = s; connected = connected-iff G s m .0 (not-false (connected G) (c .0)); small = m }
+
+pub sound-by : (W : ℕ) (codes links : List ℕ) (number : ℕ) → soundLinks (networkOf W codes links) number ≡ true → IsSound (networkOf W codes links)
+sound-by W codes links number e = sound-links-iff W codes links number .0 e .isSound
+
+-- ---- the start of the rounds has no pair
+
+pub begun-counted : (W other : ℕ) (codes : List ℕ) (B : Begun) (pairs bounds skips waiting : List ℕ) → 0 < W → W < 513 → W * (64 * W) ≤ length (B .pairs)
+    → begun pairs (marks bounds skips waiting) ≡ beginOf W other codes B → Counted W pairs 0
+unfolding beginOf tallyOf
+begun-counted W other codes B pairs bounds skips waiting p m l e =
+    let q : tally pairs 0 ≡ tallyOf W (λ u v. false) (B .pairs) = ap₂ tally (ap (λ (x : Begun). x .pairs) e) (sym (count-no-pairs (64 * W))) in
+    holds-counted {P = λ u v. false} {t₀ = B .pairs} (record { is = q }) p m l
+
+-- ---- the whole reckoning of a network, from the two calls
+
+module _ (K : Shape) (shape : IsShape K) (codes links : List ℕ) (net : IsNet (networkOf (K .words) codes links)) where
+  abbrev N : Network
+  N = networkOf (K .words) codes links
+
+  pub reckoned-is : (B : Lent) (row pairs bounds skips waiting : List ℕ) (M′ : Workspace) → begun pairs (marks bounds skips waiting) ≡ beginOf (K .words) (K .otherMark) codes (begun (B .pairs) (marks (B .bounds) (B .skips) row))
+      → M′ ≡ runOf (K .words) links (K .searchedMark) (64 * K .words) (workspace (B .searched) (tally pairs 0) (marks bounds skips waiting) 0 0)
+      → ran (lent (M′ .paired .pairs) (M′ .searched) (M′ .marked .bounds) (M′ .marked .skips)) (M′ .candidate) (M′ .paired .count) (M′ .searches) ≡ ranBy K (networkOf (K .words) codes links) (reckon (chart (networkOf (K .words) codes links))) B
+  unfolding ranBy reckon beginOf
+  reckoned-is B row pairs bounds skips waiting M′ b e =
+      let O : Origin = record { searched = B .searched; pairs = B .pairs; bounds = B .bounds; skips = B .skips; waiting = row } in
+      let M : Workspace = workspace (B .searched) (tally pairs 0) (marks bounds skips waiting) 0 0 in
+      let H = start-holds K shape codes links net 0 O pairs bounds skips waiting (ap (λ (x : Begun). x .pairs) b) (ap (λ (x : Begun). x .marked .bounds) b) (ap (λ (x : Begun). x .marked .skips) b) (ap (λ (x : Begun). x .marked .waiting) b) in
+      let R = start-running K shape codes links net 0 (omega arith) in
+      let figures = run-figures K shape codes links net (start 0) R O M M′ H e in
+      rw (run-leaves K shape codes links net (start 0) R O M M′ H e, figures .0, figures .1, figures .2)
+
+-- ---- the call
+
+module _ (K : Shape) (shape : IsShape K) (rec : Record) (links p h b s x y : List ℕ) where
+  abbrev B : Lent
+  B = lent p (tables h x y) b s
+
+  abbrev z : Sizes
+  z = sizes (length links) (length p) (length h) (length b) (length s) (length x) (length y)
+
+  pub refused-call : (k : ℕ) → k ≡ reckonRefusal K rec links z → (k ≡ 0 → ⊥) → reckonLeft (record { answer = Refused k; after = rec }) B ≡ reckonCall K rec links B
+  unfolding reckonCall reckonGiven sizesOf
+  refused-call k e n = go k n ∙ ap (λ (m : ℕ). reckonGiven m K rec links B) e
+    where
+      go : (k : ℕ) → (k ≡ 0 → ⊥) → reckonLeft (record { answer = Refused k; after = rec }) B ≡ reckonGiven k K rec links B
+      go zero n = absurd (n refl)
+      go (suc k) n = refl
+
+  pub accepted-call : 0 ≡ reckonRefusal K rec links z → (B′ : Lent) (c n k : ℕ)
+      → ran B′ c n k ≡ ranBy K (networkOf (K .words) (rec .codes) links) (reckon (chart (networkOf (K .words) (rec .codes) links))) B
+      → reckonLeft (record { answer = Searches k; after = record { codes = rec .codes; number = rec .number; chain = c; count = n } }) B′ ≡ reckonCall K rec links B
+  unfolding reckonCall reckonGiven ranBy figuredBy sizesOf
+  accepted-call q B′ c n k e =
+      ap (λ (r : Ran). reckonLeft (record { answer = Searches (r .searches); after = record { codes = rec .codes; number = rec .number; chain = r .chain; count = r .count } }) (r .lent)) e
+      ∙ ap (λ (m : ℕ). reckonGiven m K rec links B) q

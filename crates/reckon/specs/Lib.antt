@@ -1,0 +1,2 @@
+-- The whole reckoning as a call on lent memory.
+pub mod ReckonCall

@@ -1,0 +1,51 @@
+-- THE WHOLE RECKONING on lent memory: its answer and every place that it leaves. The code's contract is one equation with `reckonCall`.
+-- Assumes nothing.
+use mathlib.Core.Bool.{Bool, not}
+use mathlib.Core.List.{List, [], _∷_}
+use Prim.Native.Nat.{ℕ, zero, suc}
+use lib.ListN.{length}
+use Rattle.lists.specs.Lists.{range, firstOf}
+use Rattle.graph.specs.Network.{Network}
+use Rattle.graph.specs.Distance.{connected}
+use Rattle.graph.specs.Chart.{chart, countPairs}
+use Rattle.graph.specs.Rounds.{State, reckon}
+use Rattle.map.specs.Memory.{Shape, places, networkOf}
+use Rattle.map.specs.Sound.{soundLinks}
+use Rattle.map.specs.declared.Record.{Record}
+use Rattle.rounds.specs.Leaves.{Lent, roundsLeave}
+use Rattle.rounds.specs.Sizes.{Sizes, sizesOf, longEnough}
+use Rattle.reckon.specs.declared.Reckoning.{Reckoning}
+use Rattle.reckon.specs.declared.Reckoning.the-variants.{Searches, Refused}
+use Rattle.reckon.specs.declared.Reckoned.{Reckoned}
+
+-- refusals 2 and 3 of a map's links, each with its number
+unfoldable pub linkFaults : Shape → Record → List ℕ → List (Bool × ℕ)
+linkFaults K rec links =
+    let G = networkOf (K .words) (rec .codes) links in
+    (not (soundLinks G (rec .number)), 2) ∷ (not (connected G), 3) ∷ []
+
+-- the first refusal that holds: short, spoilt (links alone: a reckoning repairs figures), apart; 0: none
+unfoldable pub reckonRefusal : Shape → Record → List ℕ → Sizes → ℕ
+reckonRefusal K rec links sizes = firstOf ((not (longEnough K sizes), 1) ∷ linkFaults K rec links)
+
+-- the record with the figures of a state
+unfoldable pub figuredBy : Shape → Record → State → Record
+figuredBy K rec S = record { codes = rec .codes; number = rec .number; chain = S .candidate; count = countPairs (range (places K)) (S .pairs) }
+
+-- what the call leaves: its answer (the number of searches, or the refusal's number) with the record, and the lent tables
+pub record ReckonLeft : Type 0 where
+  pub reckoned : Reckoned
+  pub lent : Lent
+
+abbrev pub reckonLeft : Reckoned → Lent → ReckonLeft
+reckonLeft r B = record { reckoned = r; lent = B }
+
+unfoldable pub reckonGiven : ℕ → Shape → Record → List ℕ → Lent → ReckonLeft
+reckonGiven zero K rec links B =
+    let G = networkOf (K .words) (rec .codes) links in
+    let S = reckon (chart G) in
+    record { reckoned = record { answer = Searches (length (S .references)); after = figuredBy K rec S }; lent = roundsLeave K G S B }
+reckonGiven (suc k) K rec links B = record { reckoned = record { answer = Refused (suc k); after = rec }; lent = B }
+
+unfoldable pub reckonCall : Shape → Record → List ℕ → Lent → ReckonLeft
+reckonCall K rec links B = reckonGiven (reckonRefusal K rec links (sizesOf links B)) K rec links B

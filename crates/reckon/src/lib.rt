@@ -1,0 +1,167 @@
+ghost use mathlib.Core.Path.{_≡_};
+ghost use Prim.Native.Nat.{_≤_};
+ghost use lib.ListN.{length};
+ghost use Rattle.graph.specs.Chart.{chart};
+ghost use Rattle.graph.specs.Rounds.{reckon};
+ghost use Rattle.graph.specs.Correct.{IsNet};
+ghost use Rattle.layers.specs.Layers.{tables};
+ghost use Rattle.map.specs.Memory.{base, networkOf};
+ghost use Rattle.rounds.specs.Leaves.{lent, ran, ranBy};
+ghost use Rattle.rounds.specs.Sizes.{sizes, longEnough};
+ghost use Rattle.reckon.specs.ReckonCall.{reckonRefusal, reckonLeft, reckonCall};
+use map::Record;
+use rounds::Tally;
+
+// The answer of a whole reckoning: the number of searches, or the refusal's number.
+pub enum Reckoning {
+    Searches(u16),
+    Refused(u8),
+}
+
+// What a whole reckoning leaves beside the lent tables: its answer and the record.
+pub struct Reckoned {
+    pub answer: Reckoning,
+    pub after: Record,
+}
+
+// Whether the seven buffers of a reckoning or an opening have their named sizes.
+pub fn are_long(
+    links: usize,
+    pairs: usize,
+    hops: usize,
+    bounds: usize,
+    skips: usize,
+    even: usize,
+    odd: usize,
+) -> bool
+    ensures { λ r. ⌜ r ≡ longEnough base (sizes links pairs hops bounds skips even odd) ⌝ }
+{
+    if links < 1024 {
+        return false;
+    }
+    if pairs < 1024 {
+        return false;
+    }
+    if hops < 256 {
+        return false;
+    }
+    if bounds < 256 {
+        return false;
+    }
+    if skips < 256 {
+        return false;
+    }
+    if even < 4 {
+        return false;
+    }
+    4 <= odd
+}
+
+// The first refusal of a reckoning that holds, 0 for none, by the lengths of the lent tables. It only reads.
+fn reckon_refusal(
+    rec: Record,
+    links: &[u64],
+    pairs: usize,
+    hops: usize,
+    bounds: usize,
+    skips: usize,
+    even: usize,
+    odd: usize,
+) -> u8
+    ensures { λ r. ⌜ r ≡ reckonRefusal base rec (now (links .entry)) (sizes (length (now (links .entry))) pairs hops bounds skips even odd) ⌝ }
+{
+    if !are_long(links.len(), pairs, hops, bounds, skips, even, odd) {
+        return 1;
+    }
+    let codes = rec.codes;
+    if !map::links_are_sound(links, &codes, 4, rec.number) {
+        return 2;
+    }
+    if !search::map_is_connected(links, &codes) {
+        return 3;
+    }
+    0
+}
+
+// The whole reckoning of a sound, connected map.
+fn reckon_map(
+    pairs: &mut [u64],
+    hops: &mut [u16],
+    bounds: &mut [u16],
+    skips: &mut [u16],
+    even: &mut [u64],
+    odd: &mut [u64],
+    codes: &[u64],
+    links: &[u64],
+) -> Tally
+    requires { ⌜ (1024 ≤ length (now links)) × (1024 ≤ length (now pairs)) × (256 ≤ length (now hops)) × (256 ≤ length (now bounds)) × (256 ≤ length (now skips)) × (4 ≤ length (now even)) × (4 ≤ length (now odd)) × (4 ≤ length (now codes)) × IsNet (networkOf 4 (now codes) (now links)) ⌝ }
+    ensures { λ t. ⌜ ran (lent (now (pairs .exit)) (tables (now (hops .exit)) (now (even .exit)) (now (odd .exit))) (now (bounds .exit)) (now (skips .exit))) (t .candidate) (t .count) (t .searches) ≡ ranBy base (networkOf 4 (now (codes .entry)) (now (links .entry))) (reckon (chart (networkOf 4 (now (codes .entry)) (now (links .entry))))) (lent (now (pairs .entry)) (tables (now (hops .entry)) (now (even .entry)) (now (odd .entry))) (now (bounds .entry)) (now (skips .entry))) ⌝ }
+{
+    let mut waiting = [0u64; 4];
+    let mut seen = [0u64; 4];
+    let mut next = [0u64; 4];
+    rounds::begin(pairs, bounds, skips, &mut waiting, codes, 4, 257);
+    let none = Tally {
+        candidate: 0,
+        count: 0,
+        searches: 0,
+    };
+    rounds::run_rounds(
+        hops,
+        even,
+        odd,
+        &mut seen,
+        &mut next,
+        pairs,
+        bounds,
+        skips,
+        &mut waiting,
+        links,
+        4,
+        256,
+        none,
+    )
+}
+
+// The whole reckoning: chain, pairs and pair count afresh, whatever figures stood there; or the first refusal that holds, and then nothing is changed.
+pub fn reckon_all(
+    pairs: &mut [u64],
+    hops: &mut [u16],
+    bounds: &mut [u16],
+    skips: &mut [u16],
+    even: &mut [u64],
+    odd: &mut [u64],
+    rec: Record,
+    links: &[u64],
+) -> Reckoned
+    ensures { λ r. ⌜ reckonLeft r (lent (now (pairs .exit)) (tables (now (hops .exit)) (now (even .exit)) (now (odd .exit))) (now (bounds .exit)) (now (skips .exit))) ≡ reckonCall base rec (now (links .entry)) (lent (now (pairs .entry)) (tables (now (hops .entry)) (now (even .entry)) (now (odd .entry))) (now (bounds .entry)) (now (skips .entry))) ⌝ }
+{
+    let refusal = reckon_refusal(
+        rec,
+        links,
+        pairs.len(),
+        hops.len(),
+        bounds.len(),
+        skips.len(),
+        even.len(),
+        odd.len(),
+    );
+    if refusal != 0 {
+        return Reckoned {
+            answer: Reckoning::Refused(refusal),
+            after: rec,
+        };
+    }
+    let codes = rec.codes;
+    let got = reckon_map(pairs, hops, bounds, skips, even, odd, &codes, links);
+    let after = Record {
+        codes: codes,
+        number: rec.number,
+        chain: got.candidate,
+        count: got.count,
+    };
+    Reckoned {
+        answer: Reckoning::Searches(got.searches),
+        after: after,
+    }
+}

@@ -1,0 +1,233 @@
+-- The code's rounds over lent memory are the network's rounds, step by step. Assumes nothing.
+use mathlib.Core.Path.{_≡_, refl, sym, ap, ap₂, _∙_, subst}
+use mathlib.Core.Logic.{_⊎_, inl, inr}
+use mathlib.Core.Bool.{Bool, true, false, cond, not, _&&_}
+use mathlib.Core.List.{List, [], _∷_, List·Memᴰ, List·Memᴰ·head, List·Memᴰ·tail}
+use mathlib.Core.Option.{Option, none, some}
+use Prim.Native.Nat.{ℕ, zero, suc, _+_, _*_, _≤_, _<_, min, max}
+use native.Mathlib.Nat.{le-of-lt, le-refl}
+use native.Mathlib.Omega.{arith}
+use lib.Dec.{T, eqb, ltb}
+use lib.ListN.{getD, length-append}
+use borrow.Author.Tests.{ltb-true, ltb-false, lt-ltb}
+use Rattle.lists.specs.Lists.{range, filterb, memb, overwrite}
+use Rattle.lists.proofs.Tests.{look, t→true, true→t, clash}
+use Rattle.lists.proofs.Members.{filter-out, range-out}
+use Rattle.lists.proofs.Counts.{count-filter}
+use Rattle.lists.proofs.Fills.{fill-at}
+use Rattle.graph.specs.Network.{Network}
+use Rattle.graph.specs.Distance.{vertices, unreached, dist}
+use Rattle.graph.specs.Chart.{Chart, chart, ecc, Pairs, countPairs}
+use Rattle.graph.specs.Rounds.{Status, waiting, skipped, searched, isWaiting, State, offer, raise, joinPairs, round, better, pick, remaining, orStop, rounds}
+use Rattle.graph.specs.Correct.{IsNet}
+use Rattle.graph.proofs.Metric.{IsMetric, ecc-small}
+use Rattle.graph.proofs.Round.{Fine, Invariant, round-keeps}
+use Rattle.graph.proofs.Rounds.{pick-in}
+use Rattle.graph.proofs.Charts.{chart-metric, depot-out}
+use Rattle.rows.specs.Rows.{rowBit, tableBit, encodeTable}
+use Rattle.rows.proofs.Written.{row-at}
+use Rattle.layers.specs.Layers.{tableNetwork, Tables, searchLeaves, searchTable}
+use Rattle.layers.proofs.Theorems.{table-depth, table-leaves, depth-is}
+use Rattle.map.specs.Memory.{networkOf}
+use Rattle.pairs.specs.Pairs.{Tally, tallyOf, settleOf}
+use Rattle.bounds.specs.Bounds.{pickIn}
+use Rattle.rounds.specs.Workspace.{Workspace, lastRow, absorbOf, roundOf, orEnd, runOf, absorbing}
+use Rattle.rounds.proofs.Holding.{Origin, Holds, waitingPlace, after-over, after-snoc}
+use Rattle.rounds.proofs.Pairing.{settle-is}
+use Rattle.rounds.proofs.Marking.{IsLow, bounds-after, skips-after, waiting-after}
+
+-- ---- lists
+
+filter-twice : (p q : ℕ → Bool) (xs : List ℕ) → filterb p (filterb q xs) ≡ filterb (λ v. q v && p v) xs
+unfolding filterb
+filter-twice p q [] = refl
+filter-twice p q (x ∷ xs) = go (q x) (p x) (filter-twice p q xs) refl
+  where
+    go : (a b : Bool) → filterb p (filterb q xs) ≡ filterb (λ v. q v && p v) xs → p x ≡ b
+        → filterb p (cond a (x ∷ filterb q xs) (filterb q xs)) ≡ cond (a && b) (x ∷ filterb (λ v. q v && p v) xs) (filterb (λ v. q v && p v) xs)
+    go true true ih e = rw (e, ih)
+    go true false ih e = rw (e, ih)
+    go false b ih e = ih
+
+filter-same : (p q : ℕ → Bool) (xs : List ℕ) → ((v : ℕ) → List·Memᴰ v xs → p v ≡ q v) → filterb p xs ≡ filterb q xs
+unfolding filterb
+filter-same p q [] h = refl
+filter-same p q (x ∷ xs) h = rw (h x (List·Memᴰ·head refl), filter-same p q xs (λ v m. h v (List·Memᴰ·tail m)))
+
+-- the pick looks at degrees alone
+pick-same : (C D : Chart) → ((v : ℕ) → C .degree v ≡ D .degree v) → (xs : List ℕ) → pick C xs ≡ pick D xs
+unfolding pick better
+pick-same C D h [] = refl
+pick-same C D h (x ∷ xs) = ap (λ (o : Option ℕ). some (better C x o)) (pick-same C D h xs) ∙ ap some (go (pick D xs))
+  where
+    go : (o : Option ℕ) → better C x o ≡ better D x o
+    go none = refl
+    go (some w) = rw (h x, h w)
+
+module _ (W mark other : ℕ) (most : W < 513) (codes links : List ℕ) (net : IsNet (networkOf W codes links)) where
+  abbrev G : Network
+  G = networkOf W codes links
+
+  abbrev metric : IsMetric (chart G)
+  metric = chart-metric G net
+
+  limit-is : G .limit ≡ 64 * W
+  unfolding networkOf
+  limit-is = refl
+
+  links-are : G .linked ≡ tableBit W links
+  unfolding networkOf
+  links-are = refl
+
+  -- what the rounds keep
+  pub record Running (S : State) : Type 0 where
+    pub inv : Invariant (chart G) metric unreached S
+    pub low : (v : ℕ) → G .isOpen v ≡ true → IsLow (S .status v)
+
+  top : (v : ℕ) → chart G .isDestination v ≡ true → ecc (chart G) v ≤ unreached
+  top v t = le-of-lt (ecc-small (chart G) metric v (metric .inside v t))
+
+  status-is : (r : ℕ) (S : State) (v : ℕ) → round (chart G) r S .status v ≡ cond (eqb v r) (searched (ecc (chart G) r)) (offer (raise (chart G) r (ecc (chart G) r) (S .candidate)) r (ecc (chart G) r + dist G r v) (S .status v))
+  unfolding round chart
+  status-is r S v = refl
+
+  low-offer : (c r x : ℕ) (s : Status) → IsLow s → IsLow (offer c r x s)
+  unfolding offer
+  low-offer c r x (waiting b g) l = go (ltb (min x b) c)
+    where
+      go : (t : Bool) → IsLow (cond t (skipped (min x b) (cond (ltb x b) r g)) (waiting (min x b) (cond (ltb x b) r g)))
+      go true = omega arith
+      go false = omega arith
+  low-offer c r x (skipped b g) l = l
+  low-offer c r x (searched e) l = l
+
+  pub running-round : (S : State) (r : ℕ) → Running S → List·Memᴰ r (chart G .depots) → memb r (S .references) ≡ false → Running (round (chart G) r S)
+  running-round S r R m f = record {
+    inv = round-keeps (chart G) metric S r m unreached (R .inv) top (le-refl unreached) f;
+    low = λ v ov. subst IsLow (sym (status-is r S v)) (go v ov (eqb v r));
+  }
+    where
+      go : (v : ℕ) → G .isOpen v ≡ true → (b : Bool) → IsLow (cond b (searched (ecc (chart G) r)) (offer (raise (chart G) r (ecc (chart G) r) (S .candidate)) r (ecc (chart G) r + dist G r v) (S .status v)))
+      go v ov true = le-of-lt (ecc-small (chart G) metric r m)
+      go v ov false = low-offer (raise (chart G) r (ecc (chart G) r) (S .candidate)) r (ecc (chart G) r + dist G r v) (S .status v) (R .low v ov)
+
+  -- ---- one round
+
+  module _ (O : Origin) (S : State) (M : Workspace) (H : Holds W mark other G O S M) (R : Running S) (r : ℕ) (m : List·Memᴰ r (chart G .depots)) (fresh : memb r (S .references) ≡ false) where
+    open-r : T (G .isOpen r)
+    open-r = depot-out G m
+
+    below-r : r < 64 * W
+    below-r = subst (λ (n : ℕ). r < n) limit-is (net .sound .below r open-r)
+
+    e : ℕ
+    e = ecc (chart G) r
+
+    c′ : ℕ
+    c′ = cond (ltb (M .candidate) (ecc (chart G) r)) (ecc (chart G) r) (M .candidate)
+
+    raised : c′ ≡ raise (chart G) r (ecc (chart G) r) (S .candidate)
+    unfolding raise c′ chart
+    raised = rw (t→true (G .isOpen r) open-r, H .candidate-is) (go (look (ltb (S .candidate) (ecc (chart G) r))))
+      where
+        go : (ltb (S .candidate) (ecc (chart G) r) ≡ true) ⊎ (ltb (S .candidate) (ecc (chart G) r) ≡ false)
+            → cond (ltb (S .candidate) (ecc (chart G) r)) (ecc (chart G) r) (S .candidate) ≡ max (ecc (chart G) r) (S .candidate)
+        go (inl q) = let l : S .candidate < ecc (chart G) r = ltb-true (S .candidate) (ecc (chart G) r) q in rw q (omega arith)
+        go (inr q) = let l : ecc (chart G) r ≤ S .candidate = ltb-false (S .candidate) (ecc (chart G) r) q in rw q (omega arith)
+
+    hop : (v : ℕ) → v < 64 * W → getD (searchLeaves W G r (O .searched) .hops) v 0 ≡ dist G r v
+    unfolding searchLeaves
+    hop v l = fill-at (dist G r) (O .searched .hops) (64 * W) v 0 l
+
+    low-c : c′ ≤ unreached
+    unfolding round
+    low-c = subst (λ (n : ℕ). n ≤ unreached) (sym raised) (running-round S r R m fresh .inv .bounded)
+
+    pub absorb : Holds W mark other G O (round (chart G) r S) (absorbOf W mark r (ecc (chart G) r) (searchLeaves W G r (O .searched)) M)
+    unfolding absorbOf absorbing round c′ tallyOf
+    absorb = record {
+      tables-are = after-snoc W G (S .references) r (O .searched);
+      pairs-are = ap (λ (t : Tally). t .pairs) tally-is ∙ pairs-of;
+      count-is = ap (λ (t : Tally). t .count) tally-is ∙ count-of;
+      bounds-are = bounds-after W mark other G S (round (chart G) r S) r (ecc (chart G) r) c′ below-r (t→true (G .isOpen r) open-r) st (R .low) low-c (O .bounds) (O .skips) (O .waiting) (searchLeaves W G r (O .searched) .hops) hop (M .marked) (H .bounds-are) (H .skips-are) (H .waiting-is);
+      skips-are = skips-after W mark other G S (round (chart G) r S) r (ecc (chart G) r) c′ below-r (t→true (G .isOpen r) open-r) st (R .low) low-c (O .bounds) (O .skips) (O .waiting) (searchLeaves W G r (O .searched) .hops) hop (M .marked) (H .bounds-are) (H .skips-are) (H .waiting-is);
+      waiting-is = waiting-after W mark other G S (round (chart G) r S) r (ecc (chart G) r) c′ below-r (t→true (G .isOpen r) open-r) st (R .low) low-c (O .bounds) (O .skips) (O .waiting) (searchLeaves W G r (O .searched) .hops) hop (M .marked) (H .bounds-are) (H .skips-are) (H .waiting-is);
+      candidate-is = raised;
+      searches-are = ap (λ (n : ℕ). n + 1) (H .searches-are) ∙ sym (length-append (S .references) (r ∷ []));
+    }
+      where
+        st : (v : ℕ) → round (chart G) r S .status v ≡ cond (eqb v r) (searched (ecc (chart G) r)) (offer c′ r (ecc (chart G) r + dist G r v) (S .status v))
+        st v = status-is r S v ∙ ap (λ (n : ℕ). cond (eqb v r) (searched (ecc (chart G) r)) (offer n r (ecc (chart G) r + dist G r v) (S .status v))) (sym raised)
+
+        P′ : Pairs
+        P′ = joinPairs (chart G) r (ecc (chart G) r) (S .candidate) (S .pairs)
+
+        tally-is : settleOf W (lastRow (ecc (chart G) r) (searchLeaves W G r (O .searched))) r (ecc (chart G) r) (M .candidate) (M .paired) ≡ tallyOf W P′ (O .pairs)
+        tally-is =
+            ap (λ (n : ℕ). settleOf W (lastRow (ecc (chart G) r) (searchLeaves W G r (O .searched))) r (ecc (chart G) r) n (M .paired)) (H .candidate-is)
+            ∙ settle-is W G net limit-is r open-r (O .searched) (S .candidate) (S .pairs) (M .paired .pairs) (O .pairs) (M .paired .count) (H .pairs-are) (H .count-is)
+
+        pairs-of : tallyOf W P′ (O .pairs) .pairs ≡ overwrite (encodeTable W P′) (O .pairs)
+        pairs-of = refl
+
+        count-of : tallyOf W P′ (O .pairs) .count ≡ countPairs (range (64 * W)) P′
+        count-of = refl
+
+    round-is : roundOf W links mark r M ≡ absorbOf W mark r (ecc (chart G) r) (searchLeaves W G r (O .searched)) M
+    unfolding roundOf searchTable
+    round-is =
+        ap₂ (λ (d : ℕ) (t : Tables). absorbOf W mark r d t M)
+        (table-depth G (net .sound) (net .small) r open-r W links limit-is links-are ∙ depth-is G net r open-r)
+        (table-leaves G (net .sound) (net .small) r open-r W links (M .searched) limit-is links-are
+        ∙ ap (searchLeaves W G r) (H .tables-are) ∙ after-over W G (S .references) r (O .searched))
+
+    pub round-holds : Holds W mark other G O (round (chart G) r S) (roundOf W links mark r M)
+    round-holds = subst (Holds W mark other G O (round (chart G) r S)) (sym round-is) absorb
+
+  -- ---- the pick
+
+  degree-is : (v : ℕ) → chart (tableNetwork W links) .degree v ≡ chart G .degree v
+  unfolding chart tableNetwork networkOf vertices
+  degree-is v =
+      count-filter (λ u. ltb u (64 * W)) (tableBit W links v) (range (64 * W)) (λ u q. below u q)
+      ∙ sym (count-filter (rowBit W codes) (tableBit W links v) (range (64 * W)) (λ u q. t→true (rowBit W codes u) (net .sound .ends v u (true→t q))))
+    where
+      below : (u : ℕ) → tableBit W links v u ≡ true → ltb u (64 * W) ≡ true
+      below u q = lt-ltb u (64 * W) (subst (λ (n : ℕ). u < n) limit-is (net .sound .below u (net .sound .ends v u (true→t q))))
+
+  pub pick-is : (O : Origin) (S : State) (M : Workspace) → Holds W mark other G O S M → pickIn W links (M .marked .waiting) ≡ pick (chart G) (remaining (chart G) S)
+  unfolding pickIn remaining chart vertices networkOf waitingPlace
+  pick-is O S M H =
+      pick-same (chart (tableNetwork W links)) (chart G) degree-is (filterb (rowBit W (M .marked .waiting)) (range (64 * W)))
+      ∙ ap (pick (chart G))
+      (filter-same (rowBit W (M .marked .waiting)) (λ v. rowBit W codes v && isWaiting (S .status v)) (range (64 * W))
+      (λ v k. ap (λ (l : List ℕ). rowBit W l v) (H .waiting-is) ∙ row-at W (waitingPlace G S) (O .waiting) v (range-out (64 * W) k))
+      ∙ sym (filter-twice (λ v. isWaiting (S .status v)) (rowBit W codes) (range (64 * W))))
+
+  -- a picked depot is open, waits and was not searched
+  pub picked : (S : State) → Running S → (r : ℕ) → pick (chart G) (remaining (chart G) S) ≡ some r → List·Memᴰ r (chart G .depots) × (memb r (S .references) ≡ false)
+  unfolding remaining
+  picked S R r q =
+      let x = filter-out (λ v. isWaiting (S .status v)) (chart G .depots) (pick-in (chart G) (remaining (chart G) S) r q) in
+      (x .0, at (S .status r) (x .1) (R .inv .fine r (x .0)))
+    where
+      at : (s : Status) → isWaiting s ≡ true → Fine (chart G) metric (S .candidate) (S .references) r s → memb r (S .references) ≡ false
+      at (waiting b g) w f = f .0
+      at (skipped b g) w f = f .0
+      at (searched e) w f = absurd (clash w refl)
+
+  -- ---- rounds until none remains
+
+  pub run-holds : (k : ℕ) (O : Origin) (S : State) (M : Workspace) → Holds W mark other G O S M → Running S → Holds W mark other G O (rounds (chart G) k S) (runOf W links mark k M) × Running (rounds (chart G) k S)
+  unfolding rounds runOf orEnd
+  run-holds zero O S M H R = (H, R)
+  run-holds (suc k) O S M H R =
+      rw (pick-is O S M H)
+      (go (pick (chart G) (remaining (chart G) S)) refl (λ r q. let p = picked S R r q in
+      run-holds k O (round (chart G) r S) (roundOf W links mark r M) (round-holds O S M H R r (p .0) (p .1)) (running-round S r R (p .0) (p .1))))
+    where
+      go : (o : Option ℕ) → pick (chart G) (remaining (chart G) S) ≡ o
+          → ((r : ℕ) → pick (chart G) (remaining (chart G) S) ≡ some r → Holds W mark other G O (rounds (chart G) k (round (chart G) r S)) (runOf W links mark k (roundOf W links mark r M)) × Running (rounds (chart G) k (round (chart G) r S)))
+          → Holds W mark other G O (orStop o S (λ r. rounds (chart G) k (round (chart G) r S))) (orEnd o M (λ r. runOf W links mark k (roundOf W links mark r M))) × Running (orStop o S (λ r. rounds (chart G) k (round (chart G) r S)))
+      go none q ih = (H, R)
+      go (some r) q ih = ih r q

@@ -1,0 +1,198 @@
+-- The code's functions, put together: one round, and the loop of rounds. Assumes nothing.
+use mathlib.Core.Path.{_≡_, refl, sym, ap, ap₂, _∙_, subst}
+use mathlib.Core.Logic.{_≢_, _⊎_, inl, inr}
+use mathlib.Core.Bool.{Bool, true, false, cond, not, _&&_, _||_}
+use mathlib.Core.List.{List, []}
+use mathlib.Core.Option.{Option, none, some}
+use Prim.Native.Nat.{ℕ, zero, suc, _+_, _*_, _%_, _≤_, _<_}
+use native.Mathlib.Nat.{lt-irrefl}
+use native.Mathlib.Omega.{arith}
+use lib.Dec.{eqb, ltb}
+use lib.ListN.{length}
+use borrow.Author.Tests.{eq-eqb, ne-eqb, lt-ltb, le-ltb}
+use Rattle.lists.specs.Lists.{range, filterb, mapl, countb, overwrite}
+use Rattle.lists.proofs.Tests.{look, clash, and-true, eq-or-ne}
+use Rattle.lists.proofs.Members.{length-range, filter-out, range-in, range-out}
+use Rattle.lists.proofs.Counts.{count-lt, count-le-length}
+use Rattle.graph.specs.Chart.{chart, Pairs}
+use Rattle.graph.proofs.Rounds.{pick-in}
+use Rattle.rows.specs.Rows.{rowBit, tableBit, encodeRow, putBit, InTable}
+use Rattle.rows.proofs.Written.{row-at, table-zero}
+use Rattle.rows.proofs.Puts.{put-here, put-rest}
+use Rattle.layers.specs.Layers.{tableNetwork, Tables, tables, Searched, searched, searchTable}
+use Rattle.pairs.specs.Pairs.{Tally, tally, tallyOf, pairsWith, settleOf, Counted}
+use Rattle.pairs.proofs.Tallies.{holds-counted}
+use Rattle.bounds.specs.Bounds.{Marks, marks, leaveOf, waitingAfter, relaxOf, pickIn}
+use Rattle.rounds.specs.Workspace.{Workspace, workspace, lastRow, Absorbed, absorbed, absorbing, absorbOf, roundOf, orEnd, runOf, Begun, begun, beginOf}
+use Rattle.rounds.proofs.Finish.{cleared-table}
+
+-- ---- the leaves
+
+pub raise-higher : (c e : ℕ) → c < e → e ≡ cond (ltb c e) e c
+raise-higher c e l = rw (lt-ltb c e l)
+
+pub raise-same : (c e : ℕ) → e ≤ c → c ≡ cond (ltb c e) e c
+raise-same c e l = rw (le-ltb c e l)
+
+pub settle-even : (W r e c : ℕ) (even odd : List ℕ) (t t′ : Tally) → e % 2 ≡ 0 → t′ ≡ settleOf W even r e c t → t′ ≡ settleOf W (lastRow e (tables [] even odd)) r e c t
+settle-even W r e c even odd t t′ q h = rw (eq-eqb (e % 2) 0 q) h
+
+pub settle-odd : (W r e c : ℕ) (even odd : List ℕ) (t t′ : Tally) → (e % 2 ≡ 0 → ⊥) → t′ ≡ settleOf W odd r e c t → t′ ≡ settleOf W (lastRow e (tables [] even odd)) r e c t
+settle-odd W r e c even odd t t′ q h = rw (ne-eqb (e % 2) 0 q) h
+
+-- ---- a search taken in
+
+pub absorb-is : (W mark r e : ℕ) (T : Tables) (A : Absorbed) (t : Tally) (c : ℕ) (m m′ : Marks) → t ≡ settleOf W (lastRow e T) r e (A .candidate) (A .paired)
+    → c ≡ cond (ltb (A .candidate) e) e (A .candidate) → m ≡ leaveOf W r e mark (A .marked) → m′ ≡ relaxOf W (T .hops) r e c m → absorbed t m′ c ≡ absorbing W mark r e T A
+unfolding absorbing
+absorb-is W mark r e T A t c m m′ a b d f = rw (f, d, a, b)
+
+pub round-is-absorbed : (W : ℕ) (links : List ℕ) (mark r : ℕ) (M : Workspace) (e : ℕ) (T : Tables) (t : Tally) (m : Marks) (c n : ℕ) → searched e T ≡ searchTable W links r (M .searched)
+    → absorbed t m c ≡ absorbing W mark r e T (absorbed (M .paired) (M .marked) (M .candidate)) → n ≡ M .searches + 1 → workspace T t m c n ≡ roundOf W links mark r M
+unfolding roundOf absorbOf
+round-is-absorbed W links mark r M e T t m c n s a k =
+    ap₂ (λ (A : Absorbed) (x : ℕ). workspace T (A .paired) (A .marked) (A .candidate) x) a k
+    ∙ ap (λ (X : Searched). absorbOf W mark r (X .depth) (X .left) M) s
+
+-- ---- the start
+
+pub begin-is : (W other : ℕ) (codes : List ℕ) (B : Begun) (pairs bounds skips waiting : List ℕ) → pairs ≡ overwrite (encodeRow (W * (64 * W)) (λ v. false)) (B .pairs)
+    → bounds ≡ overwrite (mapl (λ v. 65535) (range (64 * W))) (B .marked .bounds) → skips ≡ overwrite (mapl (λ v. other) (range (64 * W))) (B .marked .skips)
+    → waiting ≡ overwrite (encodeRow W (rowBit W codes)) (B .marked .waiting) → begun pairs (marks bounds skips waiting) ≡ beginOf W other codes B
+unfolding beginOf
+begin-is W other codes B pairs bounds skips waiting p b s w = rw (p, b, s, w) (ap (λ (l : List ℕ). begun l (beginOf W other codes B .marked)) (cleared-table W (B .pairs)))
+
+-- ---- the pairs stay counted
+
+pub settle-counted : (W : ℕ) (last : List ℕ) (r e c : ℕ) (t t′ : List ℕ) (n n′ : ℕ) → Counted W t n → tally t′ n′ ≡ settleOf W last r e c (tally t n) → Counted W t′ n′
+unfolding settleOf
+settle-counted W last r e c t t′ n n′ k h = go (ltb c e) (eqb e c && not (eqb e 0)) h
+  where
+    new : (P : Pairs) → tally t′ n′ ≡ tallyOf W P t → Counted W t′ n′
+    new P q = holds-counted (record { is = q }) (k .positive) (k .most) (k .table)
+
+    go : (a b : Bool) → tally t′ n′ ≡ cond a (tallyOf W (pairsWith W last r) t) (cond b (tallyOf W (λ u v. tableBit W t u v || pairsWith W last r u v) t) (tally t n)) → Counted W t′ n′
+    go true b q = new (pairsWith W last r) q
+    go false true q = new (λ u v. tableBit W t u v || pairsWith W last r u v) q
+    go false false q = subst (λ (x : Tally). Counted W (x .pairs) (x .count)) (sym q) k
+
+pub round-counted : (W : ℕ) (links : List ℕ) (mark r : ℕ) (M : Workspace) (T : Tables) (t : List ℕ) (n c k : ℕ) (m : Marks) → Counted W (M .paired .pairs) (M .paired .count)
+    → workspace T (tally t n) m c k ≡ roundOf W links mark r M → Counted W t n
+unfolding roundOf absorbOf absorbing
+round-counted W links mark r M T t n c k m h e = settle-counted W _ r _ (M .candidate) (M .paired .pairs) t (M .paired .count) n h (ap (λ (X : Workspace). X .paired) e)
+
+-- ---- a round takes a depot away
+
+module _ (W : ℕ) (links : List ℕ) where
+  pub picked-in : (waiting : List ℕ) (r : ℕ) → pickIn W links waiting ≡ some r → (r < 64 * W) × (rowBit W waiting r ≡ true)
+  unfolding pickIn
+  picked-in waiting r q =
+      let x = filter-out (rowBit W waiting) (range (64 * W)) (pick-in (chart (tableNetwork W links)) (filterb (rowBit W waiting) (range (64 * W))) r q) in
+      (range-out (64 * W) (x .0), x .1)
+
+  left-bit : (r e mark : ℕ) (m : Marks) → r < 64 * W → W ≤ length (m .waiting) → (v : ℕ) → rowBit W (leaveOf W r e mark m .waiting) v ≡ true → (v ≢ r) × (rowBit W (m .waiting) v ≡ true)
+  unfolding leaveOf
+  left-bit r e mark m l w v h = go (eq-or-ne v r)
+    where
+      in-table : InTable W (m .waiting) 0 r
+      in-table = record { row = omega arith; below = omega arith; column = l }
+
+      go : (v ≡ r) ⊎ (v ≢ r) → (v ≢ r) × (rowBit W (m .waiting) v ≡ true)
+      go (inl q) = absurd (clash (ap (rowBit W (putBit W 0 r false (m .waiting))) (sym q) ∙ h) (sym (table-zero W (putBit W 0 r false (m .waiting)) r) ∙ put-here W 0 r false (m .waiting) in-table))
+      go (inr n) = (n, sym (table-zero W (m .waiting) v) ∙ sym (put-rest W 0 r false (m .waiting) in-table 0 v (λ z. n (z .1))) ∙ table-zero W (putBit W 0 r false (m .waiting)) v ∙ h)
+
+  pub round-fewer : (mark r : ℕ) (M : Workspace) → rowBit W (M .marked .waiting) r ≡ true → r < 64 * W → W ≤ length (M .marked .waiting)
+      → countb (rowBit W (roundOf W links mark r M .marked .waiting)) (range (64 * W)) < countb (rowBit W (M .marked .waiting)) (range (64 * W))
+  unfolding roundOf absorbOf absorbing relaxOf waitingAfter
+  round-fewer mark r M o l w = count-lt after (rowBit W (M .marked .waiting)) (range (64 * W)) (λ v m h. stays v (range-out (64 * W) m) h .1) (range-in (64 * W) l) gone o
+    where
+      after : ℕ → Bool
+      after = rowBit W (roundOf W links mark r M .marked .waiting)
+
+      stays : (v : ℕ) → v < 64 * W → after v ≡ true → (v ≢ r) × (rowBit W (M .marked .waiting) v ≡ true)
+      stays v k h = left-bit r _ mark (M .marked) l w v (and-true (rowBit W (leaveOf W r _ mark (M .marked) .waiting) v) _ (sym (row-at W _ _ v k) ∙ h) .0)
+
+      gone : after r ≡ false
+      gone = go (look (after r))
+        where
+          go : (after r ≡ true) ⊎ (after r ≡ false) → after r ≡ false
+          go (inl h) = absurd (stays r l h .0 refl)
+          go (inr h) = h
+
+  -- ---- the loop
+
+  -- from the workspace M the rounds end where they end from M₀
+  pub record Going (mark : ℕ) (M₀ M : Workspace) : Type 0 where
+    pub fuel : ℕ
+    pub same : runOf W links mark (64 * W) M₀ ≡ runOf W links mark fuel M
+    pub enough : countb (rowBit W (M .marked .waiting)) (range (64 * W)) ≤ fuel
+
+  pub going-start : (mark : ℕ) (M : Workspace) → Going mark M M
+  going-start mark M = record { fuel = 64 * W; same = refl; enough = few }
+    where
+      few : countb (rowBit W (M .marked .waiting)) (range (64 * W)) ≤ 64 * W
+      few = omega (arith, count-le-length (rowBit W (M .marked .waiting)) (range (64 * W)), length-range (64 * W))
+
+  pub going-on : (mark : ℕ) (M₀ M M′ : Workspace) (r : ℕ) → Going mark M₀ M → pickIn W links (M .marked .waiting) ≡ some r → W ≤ length (M .marked .waiting) → M′ ≡ roundOf W links mark r M → Going mark M₀ M′
+  unfolding runOf orEnd
+  going-on mark M₀ M M′ r G q w e = go (G .fuel) (G .same) (G .enough)
+    where
+      p : (r < 64 * W) × (rowBit W (M .marked .waiting) r ≡ true)
+      p = picked-in (M .marked .waiting) r q
+
+      fewer : countb (rowBit W (M′ .marked .waiting)) (range (64 * W)) < countb (rowBit W (M .marked .waiting)) (range (64 * W))
+      fewer = subst (λ (X : Workspace). countb (rowBit W (X .marked .waiting)) (range (64 * W)) < countb (rowBit W (M .marked .waiting)) (range (64 * W))) (sym e) (round-fewer mark r M (p .1) (p .0) w)
+
+      go : (k : ℕ) → runOf W links mark (64 * W) M₀ ≡ runOf W links mark k M → countb (rowBit W (M .marked .waiting)) (range (64 * W)) ≤ k → Going mark M₀ M′
+      go zero s n = absurd (lt-irrefl 0 (omega (arith, fewer)))
+      go (suc k) s n = record {
+        fuel = k;
+        same = s ∙ ap (λ (o : Option ℕ). orEnd o M (λ x. runOf W links mark k (roundOf W links mark x M))) q ∙ ap (runOf W links mark k) (sym e);
+        enough = omega (arith, fewer);
+      }
+
+  pub going-end : (mark : ℕ) (M₀ M : Workspace) → Going mark M₀ M → pickIn W links (M .marked .waiting) ≡ none → M ≡ runOf W links mark (64 * W) M₀
+  unfolding runOf orEnd
+  going-end mark M₀ M G q = sym (G .same ∙ go (G .fuel))
+    where
+      go : (k : ℕ) → runOf W links mark k M ≡ M
+      go zero = refl
+      go (suc k) = rw q
+
+-- where the loop of rounds stands: it goes on as from M₀, the pairs are counted, and the searches still to come have room
+pub record AtRound (W : ℕ) (links : List ℕ) (mark : ℕ) (M₀ M : Workspace) : Type 0 where
+  pub going : Going W links mark M₀ M
+  pub counted : Counted W (M .paired .pairs) (M .paired .count)
+  pub spare : M .searches + countb (rowBit W (M .marked .waiting)) (range (64 * W)) ≤ M₀ .searches + 64 * W
+
+pub at-start : (W : ℕ) (links : List ℕ) (mark : ℕ) (M : Workspace) → Counted W (M .paired .pairs) (M .paired .count) → AtRound W links mark M M
+at-start W links mark M k = record {
+  going = going-start W links mark M;
+  counted = k;
+  spare = omega (arith, count-le-length (rowBit W (M .marked .waiting)) (range (64 * W)), length-range (64 * W));
+}
+
+pub at-next : (W : ℕ) (links : List ℕ) (mark : ℕ) (M₀ M : Workspace) (T : Tables) (t : List ℕ) (n : ℕ) (m : Marks) (c s r : ℕ) → AtRound W links mark M₀ M → pickIn W links (M .marked .waiting) ≡ some r
+    → W ≤ length (M .marked .waiting) → workspace T (tally t n) m c s ≡ roundOf W links mark r M → AtRound W links mark M₀ (workspace T (tally t n) m c s)
+unfolding roundOf absorbOf
+at-next W links mark M₀ M T t n m c s r A q w e =
+    let p = picked-in W links (M .marked .waiting) r q in
+    let f : countb (rowBit W (m .waiting)) (range (64 * W)) < countb (rowBit W (M .marked .waiting)) (range (64 * W)) =
+    subst (λ (X : Workspace). countb (rowBit W (X .marked .waiting)) (range (64 * W)) < countb (rowBit W (M .marked .waiting)) (range (64 * W))) (sym e) (round-fewer W links mark r M (p .1) (p .0) w) in
+    let k : s ≡ M .searches + 1 = ap (λ (X : Workspace). X .searches) e in
+    record {
+      going = going-on W links mark M₀ M (workspace T (tally t n) m c s) r (A .going) q w e;
+      counted = round-counted W links mark r M T t n c s m (A .counted) e;
+      spare = omega (arith, A .spare);
+    }
+
+-- the measure: fewer depots remain
+pub fewer-remain : (W : ℕ) (links : List ℕ) (mark : ℕ) (M : Workspace) (T : Tables) (t : Tally) (m : Marks) (c s r : ℕ) → pickIn W links (M .marked .waiting) ≡ some r → W ≤ length (M .marked .waiting)
+    → workspace T t m c s ≡ roundOf W links mark r M → countb (rowBit W (m .waiting)) (range (64 * W)) < countb (rowBit W (M .marked .waiting)) (range (64 * W))
+fewer-remain W links mark M T t m c s r q w e =
+    let p = picked-in W links (M .marked .waiting) r q in
+    subst (λ (X : Workspace). countb (rowBit W (X .marked .waiting)) (range (64 * W)) < countb (rowBit W (M .marked .waiting)) (range (64 * W))) (sym e) (round-fewer W links mark r M (p .1) (p .0) w)
+
+-- one search more is still a number of 16 bits
+pub room-left : (W : ℕ) (links : List ℕ) (mark : ℕ) (M₀ M : Workspace) → AtRound W links mark M₀ M → M₀ .searches < 2 → W < 513 → M .searches < 65535
+room-left W links mark M₀ M A l m = omega (arith, A .spare)

@@ -1,0 +1,52 @@
+-- WHAT ROUNDS LEAVE in lent memory (document 01, 'Opening a depot', fourth paragraph), by the state of the network's rounds.
+-- Assumes nothing.
+use mathlib.Core.Bool.{Bool, cond}
+use mathlib.Core.List.{List, [], _∷_}
+use Prim.Native.Nat.{ℕ}
+use lib.ListN.{length}
+use Rattle.lists.specs.Lists.{range, mapl, lastOr, overwrite}
+use Rattle.graph.specs.Network.{Network}
+use Rattle.graph.specs.Distance.{unreached}
+use Rattle.graph.specs.Chart.{countPairs}
+use Rattle.graph.specs.Rounds.{State, markOf, boundOf}
+use Rattle.rows.specs.Rows.{encodeTable}
+use Rattle.layers.specs.Layers.{Tables, searchLeaves}
+use Rattle.map.specs.Memory.{Shape, places}
+
+-- "Hop table and layer rows are left as the call's last search leaves them; a call without a search leaves them unchanged"
+unfoldable pub searchAfter : ℕ → Network → List ℕ → Tables → Tables
+searchAfter W G [] B = B
+searchAfter W G (r ∷ rs) B = searchLeaves W G (lastOr r rs) B
+
+-- the tables of a reckoning or opening, the link table apart
+pub record Lent : Type 0 where
+  pub pairs : List ℕ
+  pub searched : Tables
+  pub bounds : List ℕ
+  pub skips : List ℕ
+
+abbrev pub lent : List ℕ → Tables → List ℕ → List ℕ → Lent
+lent p T b s = record { pairs = p; searched = T; bounds = b; skips = s }
+
+-- "The skip table holds, for a skipped depot, the earliest reference that gave its bound; 256 for a searched depot; 257 for any other. The bound
+-- table holds the bound when the depot was skipped, its eccentricity if searched, 65,535 otherwise."
+unfoldable pub roundsLeave : Shape → Network → State → Lent → Lent
+roundsLeave K G S B = record {
+  pairs = overwrite (encodeTable (K .words) (S .pairs)) (B .pairs);
+  searched = searchAfter (K .words) G (S .references) (B .searched);
+  bounds = overwrite (mapl (λ v. cond (G .isOpen v) (boundOf (S .status v)) unreached) (range (places K))) (B .bounds);
+  skips = overwrite (mapl (λ v. cond (G .isOpen v) (markOf (K .searchedMark) (K .otherMark) (S .status v)) (K .otherMark)) (range (places K))) (B .skips);
+}
+
+-- the figures beside them: chain, pair count, number of searches
+pub record Ran : Type 0 where
+  pub lent : Lent
+  pub chain : ℕ
+  pub count : ℕ
+  pub searches : ℕ
+
+abbrev pub ran : Lent → ℕ → ℕ → ℕ → Ran
+ran B c n s = record { lent = B; chain = c; count = n; searches = s }
+
+unfoldable pub ranBy : Shape → Network → State → Lent → Ran
+ranBy K G S B = ran (roundsLeave K G S B) (S .candidate) (countPairs (range (places K)) (S .pairs)) (length (S .references))

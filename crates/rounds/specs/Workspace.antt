@@ -1,0 +1,92 @@
+-- THE ROUNDS IN CODE, over lists of words and numbers, for any number of words per row. Nobody has to believe these:
+-- proofs/Theorems says that they leave what the network's own rounds (graph, Rounds.antt) leave.
+-- Assumes nothing.
+use mathlib.Core.Bool.{false, cond}
+use mathlib.Core.List.{List}
+use mathlib.Core.Option.{Option, none, some}
+use Prim.Native.Nat.{ℕ, zero, suc, _+_, _*_, _%_, _≤_}
+use lib.Dec.{eqb, ltb}
+use lib.ListN.{length}
+use Rattle.lists.specs.Lists.{range, mapl, overwrite}
+use Rattle.graph.specs.Distance.{unreached}
+use Rattle.rows.specs.Rows.{rowBit, encodeRow, encodeTable}
+use Rattle.layers.specs.Layers.{Tables, searchTable}
+use Rattle.pairs.specs.Pairs.{Tally, settleOf}
+use Rattle.bounds.specs.Bounds.{Marks, marks, leaveOf, relaxOf, pickIn}
+
+pub record Workspace : Type 0 where
+  pub searched : Tables
+  pub paired : Tally
+  pub marked : Marks
+  pub candidate : ℕ
+  pub searches : ℕ
+
+-- the last layer's row
+abbrev pub lastRow : ℕ → Tables → List ℕ
+lastRow e T = cond (eqb (e % 2) 0) (T .even) (T .odd)
+
+abbrev pub workspace : Tables → Tally → Marks → ℕ → ℕ → Workspace
+workspace T t m c n = record { searched = T; paired = t; marked = m; candidate = c; searches = n }
+
+-- what a finished search from r, with its last layer at distance e and its tables T, does to pairs, marks and candidate
+pub record Absorbed : Type 0 where
+  pub paired : Tally
+  pub marked : Marks
+  pub candidate : ℕ
+
+abbrev pub absorbed : Tally → Marks → ℕ → Absorbed
+absorbed t m c = record { paired = t; marked = m; candidate = c }
+
+unfoldable pub absorbing : ℕ → ℕ → ℕ → ℕ → Tables → Absorbed → Absorbed
+absorbing W mark r e T A =
+    let c = cond (ltb (A .candidate) e) e (A .candidate) in
+    record {
+      paired = settleOf W (lastRow e T) r e (A .candidate) (A .paired);
+      marked = relaxOf W (T .hops) r e c (leaveOf W r e mark (A .marked));
+      candidate = c;
+    }
+
+unfoldable pub absorbOf : ℕ → ℕ → ℕ → ℕ → Tables → Workspace → Workspace
+absorbOf W mark r e T M =
+    let A = absorbing W mark r e T (absorbed (M .paired) (M .marked) (M .candidate)) in
+    workspace T (A .paired) (A .marked) (A .candidate) (M .searches + 1)
+
+unfoldable pub roundOf : ℕ → List ℕ → ℕ → ℕ → Workspace → Workspace
+roundOf W links mark r M = let S = searchTable W links r (M .searched) in absorbOf W mark r (S .depth) (S .left) M
+
+unfoldable pub orEnd : Option ℕ → Workspace → (ℕ → Workspace) → Workspace
+orEnd none M f = M
+orEnd (some r) M f = f r
+
+unfoldable pub runOf : ℕ → List ℕ → ℕ → ℕ → Workspace → Workspace
+runOf W links mark zero M = M
+runOf W links mark (suc k) M = orEnd (pickIn W links (M .marked .waiting)) M (λ r. runOf W links mark k (roundOf W links mark r M))
+
+-- ---- the start
+
+-- no pair, no bound, no mark, every open depot remaining
+pub record Begun : Type 0 where
+  pub pairs : List ℕ
+  pub marked : Marks
+
+abbrev pub begun : List ℕ → Marks → Begun
+begun p m = record { pairs = p; marked = m }
+
+unfoldable pub beginOf : ℕ → ℕ → List ℕ → Begun → Begun
+beginOf W other codes B =
+    begun (overwrite (encodeTable W (λ u v. false)) (B .pairs))
+    (marks
+    (overwrite (mapl (λ v. unreached) (range (64 * W))) (B .marked .bounds))
+    (overwrite (mapl (λ v. other) (range (64 * W))) (B .marked .skips))
+    (overwrite (encodeRow W (rowBit W codes)) (B .marked .waiting)))
+
+-- ---- what the functions ask
+
+-- a link table and a search's memory of W words a row
+pub record Room (W : ℕ) (links hops even odd seen next : List ℕ) : Type 0 where
+  pub table : W * (64 * W) ≤ length links
+  pub hopPlaces : 64 * W ≤ length hops
+  pub evenRow : W ≤ length even
+  pub oddRow : W ≤ length odd
+  pub seenRow : W ≤ length seen
+  pub nextRow : W ≤ length next
