@@ -2,3 +2,5 @@
 pub mod Lendings
 -- The memory of a network, written, read back, whole.
 pub mod Memories
+-- What no refusal says; refusals 2 and 3 never come in a history.
+pub mod Grants
