@@ -4,3 +4,5 @@ pub mod Lendings
 pub mod Memories
 -- What no refusal says; refusals 2 and 3 never come in a history.
 pub mod Grants
+-- What an opening leaves on true stored figures.
+pub mod Openings
