@@ -6,3 +6,5 @@ pub mod Memories
 pub mod Grants
 -- What an opening leaves on true stored figures.
 pub mod Openings
+-- A call's marks, number of searches and cover.
+pub mod Marks
