@@ -8,3 +8,5 @@ pub mod Grants
 pub mod Openings
 -- A call's marks, number of searches and cover.
 pub mod Marks
+-- THE THEOREMS: demands 2 and 3.
+pub mod Theorems
