@@ -8,5 +8,7 @@ pub mod Grants
 pub mod Openings
 -- A call's marks, number of searches and cover.
 pub mod Marks
+-- One call of a history.
+pub mod Steps
 -- THE THEOREMS: demands 2 and 3.
 pub mod Theorems

@@ -1,7 +1,7 @@
 -- THE THEOREMS of this crate: demands 2 and 3 of the opening call, for every shape of a map. Assumes nothing.
 use mathlib.Core.Path.{_≡_, sym, ap, _∙_, subst}
 use mathlib.Core.List.{List}
-use Prim.Native.Nat.{ℕ, zero, _<_}
+use Prim.Native.Nat.{ℕ, _<_}
 use Rattle.rows.specs.Rows.{tableBit}
 use Rattle.graph.specs.Network.{AreTrue}
 use Rattle.graph.specs.Opening.{Notice}
