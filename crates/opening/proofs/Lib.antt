@@ -10,5 +10,7 @@ pub mod Openings
 pub mod Marks
 -- One call of a history.
 pub mod Steps
+-- The empty map.
+pub mod Empties
 -- THE THEOREMS: demands 2 and 3.
 pub mod Theorems
