@@ -12,5 +12,7 @@ pub mod Marks
 pub mod Steps
 -- The empty map.
 pub mod Empties
+-- Lists of calls.
+pub mod Runs
 -- THE THEOREMS: demands 2 and 3.
 pub mod Theorems
