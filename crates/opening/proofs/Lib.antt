@@ -14,5 +14,7 @@ pub mod Steps
 pub mod Empties
 -- Lists of calls.
 pub mod Runs
+-- Arrival order.
+pub mod Orders
 -- THE THEOREMS: demands 2 and 3.
 pub mod Theorems
