@@ -81,9 +81,6 @@ module _ (K : Shape) (shape : IsShape K) (rec : Record) (links pairs : List ℕ)
       let s = granted-links .isSound in
       record { sound = s; connected = connected-iff N s limit-small .0 (granted-sound .2); small = limit-small }
 
-  pub granted-held : IsHeld K N
-  granted-held = record { net = granted-net; limit = limit-is }
-
   pub granted-notice : firstOf (noticeFaults N o) ≡ 0
   granted-notice = granted-sound .3
 

@@ -104,14 +104,14 @@ module _ (K : Shape) (G : Network) (held : IsHeld K G) where
 
   -- ---- WHAT IS WRITTEN IS READ
 
-  pub network-read : (codes links : List ℕ) → networkOf (K .words) (overwrite (encodeRow (K .words) (G .isOpen)) codes) (overwrite (encodeTable (K .words) (G .linked)) links) ≡ G
+  network-read : (codes links : List ℕ) → networkOf (K .words) (overwrite (encodeRow (K .words) (G .isOpen)) codes) (overwrite (encodeTable (K .words) (G .linked)) links) ≡ G
   unfolding networkOf
   network-read codes links =
       network-path (sym (held .limit))
       (λ c. row-read (K .words) (G .isOpen) codes c ∙ unguarded (ltb c (places K)) (G .isOpen c) (λ o. lt-ltb c (places K) (open-below c (true→t o))))
       (λ u v. table-read (K .words) (G .linked) links u v ∙ unguarded (ltb u (places K) && ltb v (places K)) (G .linked u v) (both-below (G .linked) linked-open u v))
 
-  pub pairs-read : (pairs : List ℕ) → tableBit (K .words) (overwrite (encodeTable (K .words) (farthest G)) pairs) ≡ farthest G
+  pairs-read : (pairs : List ℕ) → tableBit (K .words) (overwrite (encodeTable (K .words) (farthest G)) pairs) ≡ farthest G
   pairs-read pairs =
       fun-ext (λ u. fun-ext (λ v. table-read (K .words) (farthest G) pairs u v
       ∙ unguarded (ltb u (places K) && ltb v (places K)) (farthest G u v) (both-below (farthest G) farthest-open u v)))

@@ -107,7 +107,7 @@ module _ (K : Shape) (shape : IsShape K) (G : Network) (held : IsHeld K G) (c : 
   abbrev refusal : ℕ
   refusal = openRefusal K (M .rec) L (B .pairs) (sizesOf L B) (c .notice)
 
-  pub refusal-is : refusal ≡ plainRefusal K G (feedOf K c)
+  refusal-is : refusal ≡ plainRefusal K G (feedOf K c)
   unfolding plainRefusal feedOf
   refusal-is =
       ap (λ (s : Sizes). openRefusal K (M .rec) L (B .pairs) s (c .notice)) sizes-are

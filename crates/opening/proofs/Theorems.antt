@@ -23,7 +23,7 @@ use Rattle.opening.proofs.Grants.{held-after}
 use Rattle.opening.proofs.Openings.{opened-writes}
 use Rattle.opening.proofs.Marks.{opened-marked}
 use Rattle.opening.proofs.Empties.{empty-held, empty-memory}
-use Rattle.opening.proofs.Runs.{fed-snoc, call-marked as step-marked, IsRun, run}
+use Rattle.opening.proofs.Runs.{fed-snoc, call-marked, IsRun, run}
 use Rattle.opening.proofs.Orders.{order-free}
 
 -- ---- DEMAND 2 for openings, on any lent memory
@@ -39,18 +39,19 @@ module _ (K : Shape) (shape : IsShape K) (rec : Record) (links : List ℕ) (B : 
       (written-represents K (networkAfter K rec links o) (held-after K shape rec links (B .pairs) (sizesOf links B) o ok low) (record { links = links; pairs = B .pairs; rec = rec }))
 
   -- on any stored figures: marks, number of searches, bound and cover
-  call-marked : IsMarked K (networkAfter K rec links o) (referencesOf K rec links B o) (openCall K rec links B o)
+  accepted-marked : IsMarked K (networkAfter K rec links o) (referencesOf K rec links B o) (openCall K rec links B o)
   unfolding openCall referencesOf
-  call-marked =
+  accepted-marked =
       subst (λ (k : ℕ). IsMarked K (networkAfter K rec links o) (referencesBy k K rec links B o) (openGiven k K rec links B o)) (sym ok)
       (opened-marked K shape rec links B o ok low)
 
 pub demand2 : (K : Shape) → IsShape K → Demand2 K (openCall K)
-demand2 K shape = record { figures = opened-represents K shape; marks = call-marked K shape }
+demand2 K shape = record { figures = opened-represents K shape; marks = accepted-marked K shape }
 
 -- ---- DEMAND 3
 
 module _ (K : Shape) (shape : IsShape K) where
+  -- from the empty map: answers and memory are the plain list's
   all-run : (cs : List Call) → AreCalls K cs → IsRun K shape (emptyNetwork (places K)) cs
   all-run cs calls = run K shape (emptyNetwork (places K)) (empty-held K shape) cs calls
 
@@ -73,7 +74,7 @@ module _ (K : Shape) (shape : IsShape K) where
       let H = plainNext (plainRefusal K G (feedOf K c)) G (c .notice) in
       subst (λ (N : Network). IsMarked K N (searchedIn K (openCall K) cs c) (callStep (openCall K) (memoryAfterAll K (openCall K) cs) c)) (sym (fed-snoc K (emptyNetwork (places K)) cs c))
       (subst (λ (M : Memory). IsMarked K H (referencesOf K (M .rec) (lend (c .links) (M .links)) (lentOf M c) (c .notice)) (callStep (openCall K) M c)) (sym (memory-is cs before))
-      (step-marked K shape G (all-run cs before .isHeld) c call))
+      (call-marked K shape G (all-run cs before .isHeld) c call))
 
 pub demand3 : (K : Shape) → IsShape K → Demand3 K (openCall K)
 demand3 K shape = record {
