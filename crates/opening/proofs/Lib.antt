@@ -1,0 +1,20 @@
+-- A table lent and restored.
+pub mod Lendings
+-- The memory of a network, written, read back, whole.
+pub mod Memories
+-- What no refusal says; refusals 2 and 3 never come in a history.
+pub mod Grants
+-- What an opening leaves on true stored figures.
+pub mod Openings
+-- A call's marks, number of searches and cover.
+pub mod Marks
+-- One call of a history.
+pub mod Steps
+-- The empty map.
+pub mod Empties
+-- Lists of calls.
+pub mod Runs
+-- Arrival order.
+pub mod Orders
+-- THE THEOREMS: demands 2 and 3.
+pub mod Theorems

@@ -1,0 +1,157 @@
+-- THE MEMORY OF A NETWORK: its map written over a memory, read back and representing it; and the whole memory that a history leaves.
+-- Assumes nothing.
+use mathlib.Core.Path.{_≡_, refl, sym, ap, _∙_, subst, fun-ext}
+use mathlib.Core.Logic.{_↔_}
+use mathlib.Core.Bool.{Bool, true, false, _&&_}
+use mathlib.Core.List.{List}
+use Prim.Native.Nat.{ℕ, _<_}
+use lib.Dec.{T, ltb}
+use lib.ListN.{length}
+use borrow.Author.Tests.{lt-ltb}
+use Rattle.lists.specs.Lists.{range, countb, overwrite}
+use Rattle.lists.proofs.Tests.{true→t, and-intro}
+use Rattle.lists.proofs.Counts.{length-count}
+use Rattle.rows.specs.Rows.{tableBit, encodeRow, encodeTable}
+use Rattle.rows.proofs.Written.{row-at, row-read, table-at, table-read, encode-table-length}
+use Rattle.graph.specs.Network.{Network, IsFarthest}
+use Rattle.graph.specs.Distance.{vertices}
+use Rattle.graph.specs.Chart.{diameter, farthest, countPairs}
+use Rattle.graph.specs.Correct.{IsNet}
+use Rattle.graph.proofs.Theorems.{diameter-is, farthest-is}
+use Rattle.map.specs.Memory.{Shape, places, tableWords, networkOf}
+use Rattle.map.specs.declared.Record.{Record}
+use Rattle.opening.specs.History.{Memory}
+use Rattle.opening.specs.Represents.{Represents}
+use Rattle.opening.proofs.Lendings.{overwrite-all}
+
+-- ---- networks and memories are equal by their fields
+
+pub network-path : {A B : Network} → A .limit ≡ B .limit → ((c : ℕ) → A .isOpen c ≡ B .isOpen c) → ((u v : ℕ) → A .linked u v ≡ B .linked u v) → A ≡ B
+network-path p q r = λ i. record { limit = p i; isOpen = λ c. q c i; linked = λ u v. r u v i }
+
+pub record-path : {A B : Record} → A .codes ≡ B .codes → A .number ≡ B .number → A .chain ≡ B .chain → A .count ≡ B .count → A ≡ B
+record-path p q r s = λ i. record { codes = p i; number = q i; chain = r i; count = s i }
+
+pub memory-path : {A B : Memory} → A .links ≡ B .links → A .pairs ≡ B .pairs → A .rec ≡ B .rec → A ≡ B
+memory-path p q r = λ i. record { links = p i; pairs = q i; rec = r i }
+
+-- ---- a network that a map of this shape can hold
+
+pub record IsHeld (K : Shape) (G : Network) : Type 0 where
+  pub net : IsNet G
+  pub limit : G .limit ≡ places K
+
+-- the map of a network written over a memory's tables and open set
+unfoldable pub writeMap : Shape → Network → Memory → Memory
+writeMap K G M = record {
+  links = overwrite (encodeTable (K .words) (G .linked)) (M .links);
+  pairs = overwrite (encodeTable (K .words) (farthest G)) (M .pairs);
+  rec = record {
+    codes = overwrite (encodeRow (K .words) (G .isOpen)) (M .rec .codes);
+    number = length (vertices G);
+    chain = diameter G;
+    count = countPairs (range (places K)) (farthest G);
+  };
+}
+
+-- the same alone: the whole memory of the network
+unfoldable pub memoryFor : Shape → Network → Memory
+memoryFor K G = record {
+  links = encodeTable (K .words) (G .linked);
+  pairs = encodeTable (K .words) (farthest G);
+  rec = record {
+    codes = encodeRow (K .words) (G .isOpen);
+    number = length (vertices G);
+    chain = diameter G;
+    count = countPairs (range (places K)) (farthest G);
+  };
+}
+
+-- a record and tables say a network, with its figures
+pub record Says (K : Shape) (G : Network) (rec : Record) (links stored : List ℕ) : Type 0 where
+  pub network : networkOf (K .words) (rec .codes) links ≡ G
+  pub pairs : tableBit (K .words) stored ≡ farthest G
+  pub number : rec .number ≡ length (vertices G)
+  pub chain : rec .chain ≡ diameter G
+  pub count : rec .count ≡ countPairs (range (places K)) (farthest G)
+
+-- a test that implies its guard needs none
+unguarded : (g x : Bool) → (x ≡ true → g ≡ true) → (g && x) ≡ x
+unguarded true x h = refl
+unguarded false true h = h refl
+unguarded false false h = refl
+
+module _ (K : Shape) (G : Network) (held : IsHeld K G) where
+  -- ---- codes, links and pairs lie below the places
+
+  pub open-below : (v : ℕ) → T (G .isOpen v) → v < places K
+  open-below v o = subst (λ (n : ℕ). v < n) (held .limit) (held .net .sound .below v o)
+
+  linked-open : (u v : ℕ) → T (G .linked u v) → T (G .isOpen u) × T (G .isOpen v)
+  linked-open u v l = (held .net .sound .ends v u (held .net .sound .symmetric u v l), held .net .sound .ends u v l)
+
+  farthest-open : (u v : ℕ) → T (farthest G u v) → T (G .isOpen u) × T (G .isOpen v)
+  farthest-open u v h = let p = farthest-is G (held .net) u v .0 h in (p .first, p .second)
+
+  both-below : (f : ℕ → ℕ → Bool) → ((u v : ℕ) → T (f u v) → T (G .isOpen u) × T (G .isOpen v)) → (u v : ℕ) → f u v ≡ true → (ltb u (places K) && ltb v (places K)) ≡ true
+  both-below f ends u v e =
+      let o = ends u v (true→t e) in
+      and-intro (lt-ltb u (places K) (open-below u (o .0))) (lt-ltb v (places K) (open-below v (o .1)))
+
+  pub number-is : length (vertices G) ≡ countb (G .isOpen) (range (places K))
+  unfolding vertices
+  number-is = length-count (G .isOpen) (range (G .limit)) ∙ ap (λ (n : ℕ). countb (G .isOpen) (range n)) (held .limit)
+
+  -- ---- WHAT IS WRITTEN IS READ
+
+  network-read : (codes links : List ℕ) → networkOf (K .words) (overwrite (encodeRow (K .words) (G .isOpen)) codes) (overwrite (encodeTable (K .words) (G .linked)) links) ≡ G
+  unfolding networkOf
+  network-read codes links =
+      network-path (sym (held .limit))
+      (λ c. row-read (K .words) (G .isOpen) codes c ∙ unguarded (ltb c (places K)) (G .isOpen c) (λ o. lt-ltb c (places K) (open-below c (true→t o))))
+      (λ u v. table-read (K .words) (G .linked) links u v ∙ unguarded (ltb u (places K) && ltb v (places K)) (G .linked u v) (both-below (G .linked) linked-open u v))
+
+  pairs-read : (pairs : List ℕ) → tableBit (K .words) (overwrite (encodeTable (K .words) (farthest G)) pairs) ≡ farthest G
+  pairs-read pairs =
+      fun-ext (λ u. fun-ext (λ v. table-read (K .words) (farthest G) pairs u v
+      ∙ unguarded (ltb u (places K) && ltb v (places K)) (farthest G u v) (both-below (farthest G) farthest-open u v)))
+
+  pub written-says : (M : Memory) → Says K G (writeMap K G M .rec) (writeMap K G M .links) (writeMap K G M .pairs)
+  unfolding writeMap
+  written-says M = record {
+    network = network-read (M .rec .codes) (M .links);
+    pairs = pairs-read (M .pairs);
+    number = refl;
+    chain = refl;
+    count = refl;
+  }
+
+  -- a written map represents the network
+  pub written-represents : (M : Memory) → Represents K (writeMap K G M) G
+  unfolding writeMap
+  written-represents M = record {
+    codes = λ c l. row-at (K .words) (G .isOpen) (M .rec .codes) c l;
+    number = refl;
+    links = λ u v p q. table-at (K .words) (G .linked) (M .links) u v p q;
+    chain = diameter-is G (held .net);
+    pairs = λ u v p q. subst (λ (b : Bool). T b ↔ IsFarthest G (G .isOpen) u v) (sym (table-at (K .words) (farthest G) (M .pairs) u v p q)) (farthest-is G (held .net) u v);
+    count = ap (countPairs (range (places K))) (sym (pairs-read (M .pairs)));
+  }
+
+-- ---- the memory of a network is its map written over itself
+
+pub links-length : (K : Shape) (G : Network) → length (memoryFor K G .links) ≡ tableWords K
+unfolding memoryFor
+links-length K G = encode-table-length (K .words) (G .linked)
+
+pub pairs-length : (K : Shape) (G : Network) → length (memoryFor K G .pairs) ≡ tableWords K
+unfolding memoryFor
+pairs-length K G = encode-table-length (K .words) (farthest G)
+
+pub memory-written : (K : Shape) (G : Network) → memoryFor K G ≡ writeMap K G (memoryFor K G)
+unfolding memoryFor writeMap
+memory-written K G =
+    memory-path
+    (sym (overwrite-all (encodeTable (K .words) (G .linked)) (encodeTable (K .words) (G .linked)) refl))
+    (sym (overwrite-all (encodeTable (K .words) (farthest G)) (encodeTable (K .words) (farthest G)) refl))
+    (record-path (sym (overwrite-all (encodeRow (K .words) (G .isOpen)) (encodeRow (K .words) (G .isOpen)) refl)) refl refl refl)

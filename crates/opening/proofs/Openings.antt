@@ -1,0 +1,128 @@
+-- WHAT AN OPENING LEAVES on true stored figures, whatever words stood there: the map of the network with the depot, written over them, and how the
+-- chain moved. And the opening call of specs/OpenCall.antt, opened one step at a time. Assumes nothing.
+use mathlib.Core.Path.{_≡_, refl, ap, _∙_}
+use mathlib.Core.Bool.{cond}
+use mathlib.Core.List.{List}
+use Prim.Native.Nat.{ℕ, zero, _+_, _<_}
+use native.Mathlib.Nat.{lt-irrefl}
+use native.Mathlib.Omega.{arith}
+use lib.ListN.{length}
+use borrow.Author.Tests.{lt-ltb, le-ltb, eq-eqb, ne-eqb}
+use Rattle.lists.specs.Lists.{range, mapl, overwrite}
+use Rattle.rows.specs.Rows.{tableBit, encodeRow, encodeTable}
+use Rattle.graph.specs.Network.{Network, AreTrue}
+use Rattle.graph.specs.Rounds.{markOf}
+use Rattle.graph.specs.Chart.{Pairs, diameter, farthest, countPairs}
+use Rattle.graph.specs.Opening.{Notice, Change, grew, kept, shrank, Opened}
+use Rattle.graph.specs.Correct.{Moved, IsOpened}
+use Rattle.graph.proofs.Theorems.{true-chain, true-pairs, figures-are, opening-correct}
+use Rattle.map.specs.Memory.{Shape, IsShape, places, networkOf}
+use Rattle.map.specs.declared.Record.{Record}
+use Rattle.rounds.specs.Leaves.{Lent, roundsLeave}
+use Rattle.rounds.specs.Sizes.{sizesOf}
+use Rattle.opening.specs.OpenCall.{changeOf, openRefusal, networkAfter, openedBy, openGiven, referencesBy}
+use Rattle.opening.specs.PlainList.{moved}
+use Rattle.opening.specs.Demand2.{mapAfter}
+use Rattle.opening.proofs.Memories.{IsHeld, Says, record-path, memory-path, writeMap}
+use Rattle.opening.proofs.Grants.{granted-net, granted-notice, granted-low, held-after, number-after}
+
+-- ---- the call's definitions, one step each
+
+module _ (K : Shape) (rec : Record) (links : List ℕ) (B : Lent) (o : Notice) where
+  abbrev H : Network
+  H = networkAfter K rec links o
+
+  abbrev x : Opened
+  x = openedBy K rec links (B .pairs) o
+
+  pub given-outcome : openGiven zero K rec links B o .report .outcome ≡ changeOf (x .change)
+  unfolding openGiven
+  given-outcome = refl
+
+  pub given-searches : openGiven zero K rec links B o .report .searches ≡ length (x .final .references)
+  unfolding openGiven
+  given-searches = refl
+
+  pub given-number : openGiven zero K rec links B o .after .number ≡ rec .number + 1
+  unfolding openGiven
+  given-number = refl
+
+  pub given-chain : openGiven zero K rec links B o .after .chain ≡ x .final .candidate
+  unfolding openGiven
+  given-chain = refl
+
+  given-codes : openGiven zero K rec links B o .after .codes ≡ overwrite (encodeRow (K .words) (H .isOpen)) (rec .codes)
+  unfolding openGiven
+  given-codes = refl
+
+  given-count : openGiven zero K rec links B o .after .count ≡ countPairs (range (places K)) (x .final .pairs)
+  unfolding openGiven
+  given-count = refl
+
+  given-links : openGiven zero K rec links B o .links ≡ overwrite (encodeTable (K .words) (H .linked)) links
+  unfolding openGiven
+  given-links = refl
+
+  given-pairs : openGiven zero K rec links B o .lent .pairs ≡ overwrite (encodeTable (K .words) (x .final .pairs)) (B .pairs)
+  unfolding openGiven roundsLeave
+  given-pairs = refl
+
+  pub given-skips : openGiven zero K rec links B o .lent .skips
+      ≡ overwrite (mapl (λ v. cond (H .isOpen v) (markOf (K .searchedMark) (K .otherMark) (x .final .status v)) (K .otherMark)) (range (places K))) (B .skips)
+  unfolding openGiven roundsLeave
+  given-skips = refl
+
+  pub given-references : referencesBy zero K rec links B o ≡ x .final .references
+  unfolding referencesBy
+  given-references = refl
+
+-- ---- how the chain moved
+
+moved-is : (c : Change) (D E : ℕ) → Moved c D E → changeOf c ≡ moved D E
+unfolding moved changeOf
+moved-is grew D E l = rw (lt-ltb D E l)
+moved-is kept D E l = rw (le-ltb D E (omega arith), eq-eqb D E l)
+moved-is shrank D E l = rw (le-ltb D E (omega arith), ne-eqb D E (λ q. lt-irrefl D (omega arith)))
+
+-- ---- AN OPENING THAT IS NOT REFUSED, on true stored figures
+
+module _ (K : Shape) (shape : IsShape K) (rec : Record) (links : List ℕ) (B : Lent) (o : Notice) (ok : openRefusal K rec links (B .pairs) (sizesOf links B) o ≡ 0) (low : o .code < places K)
+    (were : AreTrue (networkOf (K .words) (rec .codes) links) (networkOf (K .words) (rec .codes) links .isOpen) (rec .chain) (tableBit (K .words) (B .pairs))) where
+  opened-correct : IsOpened (networkAfter K rec links o) (rec .chain) (openedBy K rec links (B .pairs) o)
+  unfolding networkAfter openedBy
+  opened-correct =
+      opening-correct (networkOf (K .words) (rec .codes) links) (granted-net K shape rec links (B .pairs) (sizesOf links B) o ok) o
+      (granted-low K shape rec links (B .pairs) (sizesOf links B) o ok low) (granted-notice K shape rec links (B .pairs) (sizesOf links B) o ok)
+      (rec .chain) (tableBit (K .words) (B .pairs)) were
+
+  chain-is : openedBy K rec links (B .pairs) o .final .candidate ≡ diameter (networkAfter K rec links o)
+  chain-is =
+      true-chain (networkAfter K rec links o) (held-after K shape rec links (B .pairs) (sizesOf links B) o ok low .net)
+      (openedBy K rec links (B .pairs) o .final .candidate) (openedBy K rec links (B .pairs) o .final .pairs) (opened-correct .figures)
+
+  pairs-are : openedBy K rec links (B .pairs) o .final .pairs ≡ farthest (networkAfter K rec links o)
+  pairs-are =
+      true-pairs (networkAfter K rec links o) (held-after K shape rec links (B .pairs) (sizesOf links B) o ok low .net)
+      (openedBy K rec links (B .pairs) o .final .candidate) (openedBy K rec links (B .pairs) o .final .pairs) (opened-correct .figures)
+
+  pub opened-moved : openGiven zero K rec links B o .report .outcome ≡ moved (rec .chain) (diameter (networkAfter K rec links o))
+  opened-moved =
+      given-outcome K rec links B o
+      ∙ moved-is (openedBy K rec links (B .pairs) o .change) (rec .chain) (openedBy K rec links (B .pairs) o .final .candidate) (opened-correct .change)
+      ∙ ap (moved (rec .chain)) chain-is
+
+  pub opened-writes : mapAfter (openGiven zero K rec links B o) ≡ writeMap K (networkAfter K rec links o) (record { links = links; pairs = B .pairs; rec = rec })
+  unfolding writeMap
+  opened-writes =
+      memory-path
+      (given-links K rec links B o)
+      (given-pairs K rec links B o ∙ ap (λ (P : Pairs). overwrite (encodeTable (K .words) P) (B .pairs)) pairs-are)
+      (record-path (given-codes K rec links B o)
+      (given-number K rec links B o ∙ number-after K shape rec links (B .pairs) (sizesOf links B) o ok low)
+      (given-chain K rec links B o ∙ chain-is)
+      (given-count K rec links B o ∙ ap (countPairs (range (places K))) pairs-are))
+
+-- a memory that says a network's figures stores true ones
+pub says-true : (K : Shape) (G : Network) → IsHeld K G → (rec : Record) (links pairs : List ℕ) → Says K G rec links pairs
+    → AreTrue (networkOf (K .words) (rec .codes) links) (networkOf (K .words) (rec .codes) links .isOpen) (rec .chain) (tableBit (K .words) pairs)
+says-true K G held rec links pairs s = rw (s .network, s .pairs, s .chain) (figures-are G (held .net))

@@ -1,0 +1,27 @@
+-- DEMAND 2 FOR OPENINGS, on any lent memory. On true stored figures the map afterwards is that of the network with the depot; on any stored
+-- figures that are not refused, marks, number of searches, bound and cover hold (AUDIT F3).
+-- Assumes nothing.
+use mathlib.Core.Path.{_≡_}
+use mathlib.Core.List.{List}
+use Prim.Native.Nat.{ℕ, _<_}
+use Rattle.graph.specs.Network.{AreTrue}
+use Rattle.graph.specs.Opening.{Notice}
+use Rattle.rows.specs.Rows.{tableBit}
+use Rattle.map.specs.Memory.{Shape, places, networkOf}
+use Rattle.map.specs.declared.Record.{Record}
+use Rattle.rounds.specs.Leaves.{Lent}
+use Rattle.rounds.specs.Sizes.{sizesOf}
+use Rattle.opening.specs.OpenCall.{openRefusal, networkAfter, referencesOf, OpenLeft}
+use Rattle.opening.specs.History.{Memory, Step}
+use Rattle.opening.specs.Represents.{Represents, IsMarked}
+
+-- the map among what an opening leaves
+abbrev pub mapAfter : OpenLeft → Memory
+mapAfter l = record { links = l .links; pairs = l .lent .pairs; rec = l .after }
+
+pub record Demand2 (K : Shape) (step : Step) : Type 0 where
+  pub figures : (rec : Record) (links : List ℕ) (B : Lent) (o : Notice) → openRefusal K rec links (B .pairs) (sizesOf links B) o ≡ 0 → o .code < places K
+      → AreTrue (networkOf (K .words) (rec .codes) links) (networkOf (K .words) (rec .codes) links .isOpen) (rec .chain) (tableBit (K .words) (B .pairs))
+      → Represents K (mapAfter (step rec links B o)) (networkAfter K rec links o)
+  pub marks : (rec : Record) (links : List ℕ) (B : Lent) (o : Notice) → openRefusal K rec links (B .pairs) (sizesOf links B) o ≡ 0 → o .code < places K
+      → IsMarked K (networkAfter K rec links o) (referencesOf K rec links B o) (step rec links B o)

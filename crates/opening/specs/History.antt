@@ -1,0 +1,97 @@
+-- LISTS OF OPENING CALLS on one map: how each call is lent the map, and what the map is after it. `step` is the call: `openCall K` of the
+-- specification, or the code's own.
+-- Assumes nothing.
+use mathlib.Core.List.{List, [], _∷_, _++_}
+use Prim.Native.Nat.{ℕ, _+_, min}
+use lib.ListN.{length, take, drop}
+use Rattle.graph.specs.Opening.{Notice}
+use Rattle.layers.specs.Layers.{Tables}
+use Rattle.map.specs.Memory.{Shape, tableWords}
+use Rattle.map.specs.Empty.{zeros, emptyRecord}
+use Rattle.map.specs.declared.Record.{Record}
+use Rattle.rounds.specs.Leaves.{Lent}
+use Rattle.rounds.specs.Sizes.{Sizes}
+use Rattle.outcome.specs.declared.Outcome.{Outcome}
+use Rattle.opening.specs.OpenCall.{OpenLeft}
+use Rattle.opening.specs.PlainList.{Feed}
+
+-- "The map is link table, pair table and record, empty when all zero."
+pub record Memory : Type 0 where
+  pub links : List ℕ
+  pub pairs : List ℕ
+  pub rec : Record
+
+unfoldable pub emptyMemory : Shape → Memory
+emptyMemory K = record { links = zeros (tableWords K); pairs = zeros (tableWords K); rec = emptyRecord (K .words) }
+
+-- how a table of the map is lent: its first k words alone, or whole, with further words of the caller's behind it
+pub data Part : Type 0 where
+  first : ℕ → Part
+  whole : List ℕ → Part
+
+unfoldable pub lend : Part → List ℕ → List ℕ
+lend (first k) t = take k t
+lend (whole xs) t = t ++ xs
+
+-- "A table lent too short is the first part of the map's, whose rest stays.": the map's table t after a call left l in the lent words
+unfoldable pub restore : Part → List ℕ → List ℕ → List ℕ
+restore (first k) t l = l ++ drop k t
+restore (whole xs) t l = take (length t) l
+
+-- a call: the notice, how the two tables are lent, and whatever the other lent memory holds
+pub record Call : Type 0 where
+  pub notice : Notice
+  pub links : Part
+  pub pairs : Part
+  pub searched : Tables
+  pub bounds : List ℕ
+  pub skips : List ℕ
+
+unfoldable pub lentOf : Memory → Call → Lent
+lentOf M c = record { pairs = lend (c .pairs) (M .pairs); searched = c .searched; bounds = c .bounds; skips = c .skips }
+
+-- a call of one shape: record, link table, other tables and notice in
+abbrev pub Step : Type 0
+Step = Record → List ℕ → Lent → Notice → OpenLeft
+
+unfoldable pub callStep : Step → Memory → Call → OpenLeft
+callStep step M c = step (M .rec) (lend (c .links) (M .links)) (lentOf M c) (c .notice)
+
+unfoldable pub memoryAfter : Memory → Call → OpenLeft → Memory
+memoryAfter M c l = record {
+  links = restore (c .links) (M .links) (l .links);
+  pairs = restore (c .pairs) (M .pairs) (l .lent .pairs);
+  rec = l .after;
+}
+
+-- the memory after a list of calls, "each call getting the map as the last one left it and nothing else writing it meanwhile"; their answers
+unfoldable pub runMemory : Step → Memory → List Call → Memory
+runMemory step M [] = M
+runMemory step M (c ∷ cs) = runMemory step (memoryAfter M c (callStep step M c)) cs
+
+unfoldable pub runAnswers : Step → Memory → List Call → List Outcome
+runAnswers step M [] = []
+runAnswers step M (c ∷ cs) = let l = callStep step M c in l .report .outcome ∷ runAnswers step (memoryAfter M c l) cs
+
+-- what the plain list is fed of a call
+unfoldable pub lentSize : ℕ → Part → ℕ
+lentSize size (first k) = min k size
+lentSize size (whole xs) = size + length xs
+
+unfoldable pub feedOf : Shape → Call → Feed
+feedOf K c = record {
+  notice = c .notice;
+  sizes = record {
+    links = lentSize (tableWords K) (c .links);
+    pairs = lentSize (tableWords K) (c .pairs);
+    hops = length (c .searched .hops);
+    bounds = length (c .bounds);
+    skips = length (c .skips);
+    even = length (c .searched .even);
+    odd = length (c .searched .odd);
+  };
+}
+
+unfoldable pub feedsOf : Shape → List Call → List Feed
+feedsOf K [] = []
+feedsOf K (c ∷ cs) = feedOf K c ∷ feedsOf K cs
