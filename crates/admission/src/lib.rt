@@ -1,14 +1,15 @@
-// Whether a notice may be opened (refusals 5 to 8). A row of words may be 4 to 512 long: a code is a
+// Whether a notice may be opened (refusals 5 to 8), and the links of the depot that it opens. A row of words may be 4 to 512 long: a code is a
 // byte, and so stands in a row.
 ghost use mathlib.Core.Path.{_≡_};
-ghost use mathlib.Core.Bool.{_&&_, not};
+ghost use mathlib.Core.Bool.{_&&_, _||_, not};
 ghost use mathlib.Core.List.{[]};
-ghost use Prim.Native.Nat.{_<_, _≤_};
+ghost use Prim.Native.Nat.{_*_, _<_, _≤_};
+ghost use lib.Dec.{eqb};
 ghost use lib.ListN.{length};
-ghost use Rattle.lists.specs.Lists.{allb, firstOf};
+ghost use Rattle.lists.specs.Lists.{allb, memb, overwrite, firstOf};
 ghost use Rattle.graph.specs.Distance.{vertices};
 ghost use Rattle.graph.specs.Opening.{strictlyRising, isEmpty, noticeFaults};
-ghost use Rattle.rows.specs.Rows.{rowBit};
+ghost use Rattle.rows.specs.Rows.{rowBit, tableBit, encodeTable};
 ghost use Rattle.map.specs.Memory.{networkOf};
 
 // ---- refusals 5 to 8
@@ -72,4 +73,21 @@ pub fn notice_refusal(codes: &[u64], words: usize, code: u8, neighbours: &[u8]) 
         return 8;
     }
     0
+}
+
+// ---- the links of a new depot
+
+// Links a code with each neighbour, both ways.
+pub fn link_depot(links: &mut [u64], words: usize, code: u8, neighbours: &[u8])
+    requires { ⌜ (4 ≤ words) × (words < 513) × (words * (64 * words) ≤ length (now links)) ⌝ }
+    ensures { λ r. ⌜ now (links .exit) ≡ overwrite (encodeTable words (λ u v. (eqb u code && memb v (now (neighbours .entry))) || (eqb v code && memb u (now (neighbours .entry))) || tableBit words (now (links .entry)) u v)) (now (links .entry)) ⌝ }
+{
+    let a = code as usize;
+    let mut i: usize = 0;
+    while i < neighbours.len() {
+        let v = neighbours[i] as usize;
+        rows::row_set(links, words, a, v);
+        rows::row_set(links, words, v, a);
+        i += 1;
+    }
 }
