@@ -1,0 +1,6 @@
+-- Lists read by place.
+pub mod Listed
+-- The refusals of a notice one by one.
+pub mod Notices
+-- The links of a new depot, neighbour by neighbour.
+pub mod Linking
