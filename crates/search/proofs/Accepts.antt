@@ -1,7 +1,7 @@
 -- The refusals of a search one by one, and what an accepted one leaves. Assumes nothing.
 use mathlib.Core.Path.{_≡_, refl, sym, ap, ap₂, _∙_}
 use mathlib.Core.Bool.{true, false, not, _&&_}
-use mathlib.Core.List.{List, []}
+use mathlib.Core.List.{List, [], _∷_}
 use Prim.Native.Nat.{ℕ, zero, suc, _*_, _%_, _≤_, _<_}
 use native.Mathlib.Omega.{arith}
 use lib.Dec.{T, leb}
@@ -23,7 +23,8 @@ use Rattle.map.specs.Memory.{Shape, places, tableWords, IsShape, base, networkO
 use Rattle.map.specs.Sound.{soundLinks}
 use Rattle.map.specs.declared.Record.{Record}
 use Rattle.map.proofs.Theorems.{sound-links-iff}
-use Rattle.search.specs.SearchCall.{searchRoom, searchRefusal, searchLeft, searchGiven, searchCall, lastLayer}
+use Rattle.search.specs.SearchCall.{searchRoom, searchRefusal, SearchLeft, searchLeft, searchGiven, searchCall, lastLayer, rowsLeft, rowsOf}
+use Rattle.search.specs.declared.Found.{Found}
 use Rattle.search.specs.declared.Found.the-variants.{Reached, Refused}
 
 -- ---- what no refusal says
@@ -173,3 +174,14 @@ module _ (e : ℕ) (even odd : List ℕ) where
 
   pub last-short-odd : (e % 2 ≡ 0 → ⊥) → length odd < 4 → odd ≡ lastLayer 4 e even odd
   last-short-odd q l = sym (take-all 4 odd (omega arith)) ∙ last-odd q
+
+-- ---- the call that hands back both rows, by the answer
+
+module _ (left : SearchLeft) (r : Found) (hops even odd : List ℕ) (old : ℕ) (is : searchLeft r (tables hops even odd) ≡ left) where
+  pub rows-reached : (e : ℕ) (last : List ℕ) → r ≡ Reached e → last ≡ lastLayer 4 e even odd → rowsLeft (last ∷ even ∷ odd ∷ []) hops 0 e ≡ rowsOf 4 left old
+  unfolding rowsOf
+  rows-reached e last q t = rw (← is, q, t)
+
+  pub rows-refused : (k : ℕ) → r ≡ Refused k → rowsLeft ([] ∷ even ∷ odd ∷ []) hops k old ≡ rowsOf 4 left old
+  unfolding rowsOf
+  rows-refused k q = rw (← is, q)
