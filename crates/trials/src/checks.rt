@@ -1,0 +1,201 @@
+// The checks of a map's memory and its emptying, on good and broken memory.
+use crate::compare::all;
+use crate::faults::first_words;
+use crate::flags;
+use crate::flags::place;
+use crate::networks;
+use crate::networks::Plan;
+use crate::tally;
+use crate::tally::Tally;
+use crate::tally::both;
+use crate::tally::seen;
+use map::Emptying;
+use map::Record;
+
+// Whether two answers are the same.
+fn equal(a: bool, b: bool) -> bool {
+    if a { b } else { !b }
+}
+
+// ---- links
+
+fn links_are(t: Tally, links: &[u64; 1024], codes: &[u64; 4], number: u16, want: bool) -> Tally {
+    seen(
+        t,
+        equal(map::links_are_sound(links, codes, 4, number), want),
+    )
+}
+
+// A random network of 200 depots, sound; then with one bit turned over, and with another number open.
+pub fn links() -> Tally {
+    let p = Plan {
+        kind: 6,
+        size: 200,
+        spread: 1,
+        shift: 5,
+    };
+    let mut depots = [0u8; 256];
+    let mut near = [0u8; 65536];
+    let mut links = [0u64; 1024];
+    let mut codes = [0u64; 4];
+    networks::build(&mut depots, &mut near, p);
+    flags::pack(&mut links, 1024, &near);
+    flags::pack(&mut codes, 4, &depots);
+    let mut t = links_are(tally::start(), &links, &codes, 200, true);
+    t = links_are(t, &links, &codes, 199, false);
+    t = links_are(t, &links, &codes, 201, false);
+    let mut i = 0;
+    while i < 1024 {
+        let at = 64 * i + i % 64;
+        flags::flip(&mut links, at);
+        t = links_are(t, &links, &codes, 200, false);
+        flags::flip(&mut links, at);
+        i += 1;
+    }
+    links_are(t, &links, &codes, 200, true)
+}
+
+// ---- figures
+
+fn figures_are(
+    t: Tally,
+    pairs: &[u64; 1024],
+    codes: &[u64; 4],
+    chain: u16,
+    count: u32,
+    want: bool,
+) -> Tally {
+    seen(
+        t,
+        equal(map::figures_are_sound(pairs, codes, 4, chain, count), want),
+    )
+}
+
+// Whether a pair bit may stand, the codes 0 to 99 being open.
+fn may_stand(u: usize, v: usize) -> bool {
+    if v <= u {
+        return false;
+    }
+    v < 100
+}
+
+// A single pair bit, counted rightly and wrongly.
+fn one_pair(t: Tally, codes: &[u64; 4], u: usize, v: usize) -> Tally {
+    let mut pairs = [0u64; 1024];
+    flags::flip(&mut pairs, place(u, v));
+    let t = figures_are(t, &pairs, codes, 3, 1, may_stand(u, v));
+    let t = figures_are(t, &pairs, codes, 3, 0, false);
+    figures_are(t, &pairs, codes, 3, 2, false)
+}
+
+// Single pairs all over: rising, falling, level, closed ends.
+pub fn pairs() -> Tally {
+    let mut codes = [0u64; 4];
+    let depots = [1u8; 100];
+    flags::pack(&mut codes, 4, &depots);
+    let mut t = tally::start();
+    let mut i = 0;
+    while i < 1024 {
+        t = one_pair(t, &codes, i % 128, 16 * (i / 128) + i % 16);
+        i += 1;
+    }
+    t
+}
+
+// All pairs of 256 depots, with every chain from 0 to 300: sound up to 255.
+pub fn chains() -> Tally {
+    let codes = [18446744073709551615u64; 4];
+    let mut near = [0u8; 65536];
+    rising(&mut near);
+    let mut pairs = [0u64; 1024];
+    flags::pack(&mut pairs, 1024, &near);
+    let mut t = tally::start();
+    let mut chain: u16 = 0;
+    while chain < 300 {
+        t = figures_are(t, &pairs, &codes, chain, 32640, chain < 256);
+        chain += 1;
+    }
+    t
+}
+
+// Sets bit i if it is that of two codes u < v.
+fn set_rising(near: &mut [u8], i: usize) {
+    if i / 256 < i % 256 {
+        flags::put(near, i, 1);
+    }
+}
+
+// Sets the bit of every two codes u < v.
+fn rising(near: &mut [u8]) {
+    let mut i = 0;
+    while i < 65536 {
+        set_rising(near, i);
+        i += 1;
+    }
+}
+
+// ---- emptying
+
+// Whether the record is that before the call.
+fn is_kept(r: Record) -> bool {
+    let codes = r.codes;
+    both(
+        both(all(&codes, 0, 9), r.number == 5),
+        both(r.chain == 6, r.count == 8),
+    )
+}
+
+// Whether the record is all zero.
+fn is_zero(r: Record) -> bool {
+    let codes = r.codes;
+    both(
+        both(all(&codes, 0, 0), r.number == 0),
+        both(r.chain == 0, r.count == 0),
+    )
+}
+
+// Whether the first 1,024 words are zero and the rest as before.
+fn is_cleared(words: &mut [u64]) -> bool {
+    if !all(&*words, 1024, 7) {
+        return false;
+    }
+    all(&*first_words(words, 1024), 0, 0)
+}
+
+// Emptying tables of n and m words.
+fn empty(t: Tally, n: usize, m: usize) -> Tally {
+    let mut links = [7u64; 1030];
+    let mut pairs = [7u64; 1030];
+    let rec = Record {
+        codes: [9u64; 4],
+        number: 5,
+        chain: 6,
+        count: 8,
+    };
+    let left = map::empty_map(first_words(&mut links, n), first_words(&mut pairs, m), rec);
+    let answer = left.answer;
+    let after = left.after;
+    match answer {
+        Emptying::Done => {
+            let room = both(1024 <= n, 1024 <= m);
+            let cleared = both(is_cleared(&mut links), is_cleared(&mut pairs));
+            seen(t, both(room, both(cleared, is_zero(after))))
+        }
+        Emptying::Refused(k) => {
+            let short = !both(1024 <= n, 1024 <= m);
+            let kept = both(all(&links, 0, 7), all(&pairs, 0, 7));
+            seen(t, both(both(short, k == 1), both(kept, is_kept(after))))
+        }
+    }
+}
+
+// Short, exact and longer tables.
+pub fn emptying() -> Tally {
+    let t = empty(tally::start(), 1024, 1024);
+    let t = empty(t, 1030, 1024);
+    let t = empty(t, 1024, 1030);
+    let t = empty(t, 1023, 1024);
+    let t = empty(t, 1024, 1023);
+    let t = empty(t, 0, 1030);
+    empty(t, 1023, 1023)
+}
