@@ -3,11 +3,12 @@ use crate::compare::all;
 use crate::faults::first_words;
 use crate::flags;
 use crate::flags::place;
-use crate::networks;
 use crate::networks::Plan;
+use crate::searches::lend;
 use crate::tally;
 use crate::tally::Tally;
 use crate::tally::both;
+use crate::tally::print;
 use crate::tally::seen;
 use map::Emptying;
 use map::Record;
@@ -26,33 +27,47 @@ fn links_are(t: Tally, links: &[u64; 1024], codes: &[u64; 4], number: u16, want:
     )
 }
 
-// A random network of 200 depots, sound; then with one bit turned over, and with another number open.
-pub fn links() -> Tally {
-    let p = Plan {
+// A bit turned over.
+fn turned(t: Tally, links: &mut [u64; 1024], codes: &[u64; 4], i: usize) -> Tally {
+    flags::flip(links, i);
+    let r = links_are(t, &*links, codes, 200, false);
+    flags::flip(links, i);
+    r
+}
+
+// A bit of every word turned over.
+fn all_turned(t: Tally, links: &mut [u64; 1024], codes: &[u64; 4]) -> Tally {
+    let mut r = t;
+    let mut i = 0;
+    while i < 1024 {
+        r = turned(r, links, codes, 64 * i + i % 64);
+        i += 1;
+    }
+    r
+}
+
+// A sound table, with the number open and with others.
+fn numbered(links: &[u64; 1024], codes: &[u64; 4]) -> Tally {
+    let t = links_are(tally::start(), links, codes, 200, true);
+    let t = links_are(t, links, codes, 199, false);
+    links_are(t, links, codes, 201, false)
+}
+
+// A random network of 200 depots.
+fn links() -> Tally {
+    let mut depots = [0u8; 256];
+    let mut near = [0u8; 65536];
+    let mut links = [0u64; 1024];
+    let mut codes = [0u64; 4];
+    let random = Plan {
         kind: 6,
         size: 200,
         spread: 1,
         shift: 5,
     };
-    let mut depots = [0u8; 256];
-    let mut near = [0u8; 65536];
-    let mut links = [0u64; 1024];
-    let mut codes = [0u64; 4];
-    networks::build(&mut depots, &mut near, p);
-    flags::pack(&mut links, 1024, &near);
-    flags::pack(&mut codes, 4, &depots);
-    let mut t = links_are(tally::start(), &links, &codes, 200, true);
-    t = links_are(t, &links, &codes, 199, false);
-    t = links_are(t, &links, &codes, 201, false);
-    let mut i = 0;
-    while i < 1024 {
-        let at = 64 * i + i % 64;
-        flags::flip(&mut links, at);
-        t = links_are(t, &links, &codes, 200, false);
-        flags::flip(&mut links, at);
-        i += 1;
-    }
-    links_are(t, &links, &codes, 200, true)
+    lend(&mut links, &mut codes, &mut depots, &mut near, random);
+    let t = numbered(&links, &codes);
+    all_turned(t, &mut links, &codes)
 }
 
 // ---- figures
@@ -89,21 +104,21 @@ fn one_pair(t: Tally, codes: &[u64; 4], u: usize, v: usize) -> Tally {
 }
 
 // Single pairs all over: rising, falling, level, closed ends.
-pub fn pairs() -> Tally {
+fn pairs() -> Tally {
     let mut codes = [0u64; 4];
     let depots = [1u8; 100];
     flags::pack(&mut codes, 4, &depots);
     let mut t = tally::start();
     let mut i = 0;
-    while i < 1024 {
-        t = one_pair(t, &codes, i % 128, 16 * (i / 128) + i % 16);
+    while i < 512 {
+        t = one_pair(t, &codes, i % 128, 32 * (i / 128) + i % 32);
         i += 1;
     }
     t
 }
 
 // All pairs of 256 depots, with every chain from 0 to 300: sound up to 255.
-pub fn chains() -> Tally {
+fn chains() -> Tally {
     let codes = [18446744073709551615u64; 4];
     let mut near = [0u8; 65536];
     rising(&mut near);
@@ -162,6 +177,26 @@ fn is_cleared(words: &mut [u64]) -> bool {
     all(&*first_words(words, 1024), 0, 0)
 }
 
+// Whether emptying tables with room, or without, left all zero or all as before.
+fn left_right(
+    answer: Emptying,
+    after: Record,
+    links: &mut [u64],
+    pairs: &mut [u64],
+    room: bool,
+) -> bool {
+    match answer {
+        Emptying::Done => {
+            let cleared = both(is_cleared(links), is_cleared(pairs));
+            both(room, both(cleared, is_zero(after)))
+        }
+        Emptying::Refused(k) => {
+            let kept = both(all(&*links, 0, 7), all(&*pairs, 0, 7));
+            both(equal(room, false), both(k == 1, both(kept, is_kept(after))))
+        }
+    }
+}
+
 // Emptying tables of n and m words.
 fn empty(t: Tally, n: usize, m: usize) -> Tally {
     let mut links = [7u64; 1030];
@@ -175,27 +210,23 @@ fn empty(t: Tally, n: usize, m: usize) -> Tally {
     let left = map::empty_map(first_words(&mut links, n), first_words(&mut pairs, m), rec);
     let answer = left.answer;
     let after = left.after;
-    match answer {
-        Emptying::Done => {
-            let room = both(1024 <= n, 1024 <= m);
-            let cleared = both(is_cleared(&mut links), is_cleared(&mut pairs));
-            seen(t, both(room, both(cleared, is_zero(after))))
-        }
-        Emptying::Refused(k) => {
-            let short = !both(1024 <= n, 1024 <= m);
-            let kept = both(all(&links, 0, 7), all(&pairs, 0, 7));
-            seen(t, both(both(short, k == 1), both(kept, is_kept(after))))
-        }
-    }
+    let room = both(1024 <= n, 1024 <= m);
+    seen(t, left_right(answer, after, &mut links, &mut pairs, room))
 }
 
 // Short, exact and longer tables.
-pub fn emptying() -> Tally {
+fn emptying() -> Tally {
     let t = empty(tally::start(), 1024, 1024);
     let t = empty(t, 1030, 1024);
     let t = empty(t, 1024, 1030);
     let t = empty(t, 1023, 1024);
     let t = empty(t, 1024, 1023);
-    let t = empty(t, 0, 1030);
-    empty(t, 1023, 1023)
+    empty(t, 0, 1030)
+}
+
+pub fn all_groups() {
+    print(b"links checked", links());
+    print(b"figures checked: single pairs", pairs());
+    print(b"figures checked: chains", chains());
+    print(b"emptying", emptying());
 }

@@ -3,12 +3,13 @@ use crate::compare::all;
 use crate::compare::same;
 use crate::flags;
 use crate::flags::place;
-use crate::networks;
 use crate::networks::Plan;
+use crate::searches::lend;
 use crate::searches::record;
 use crate::tally;
 use crate::tally::Tally;
 use crate::tally::both;
+use crate::tally::print;
 use crate::tally::seen;
 use map::Record;
 use search::Found;
@@ -45,12 +46,23 @@ fn named() -> Sizes {
     }
 }
 
-// The refusal that a search with buffers of these sizes answers, 0 for none; 99 where it is refused and a place was changed all the same.
+// The refusal of an answer, 0 for none; 99 where a refused call changed a place all the same.
+fn number_of(answer: Found, hops: &[u16], even: &[u64], odd: &[u64]) -> u8 {
+    let Found::Refused(k) = answer else {
+        return 0;
+    };
+    let clean = [7u16; 260];
+    if both(same(hops, &clean), both(all(even, 0, 7), all(odd, 0, 7))) {
+        return k;
+    }
+    99
+}
+
+// The refusal that a search with buffers of these sizes answers.
 fn answer_of(links: &[u64], rec: Record, sizes: Sizes, s: u8) -> u8 {
     let mut hops = [7u16; 260];
     let mut even = [7u64; 6];
     let mut odd = [7u64; 6];
-    let clean = [7u16; 260];
     let answer = search::search_from(
         first_hops(&mut hops, sizes.hops),
         first_words(&mut even, sizes.even),
@@ -59,43 +71,12 @@ fn answer_of(links: &[u64], rec: Record, sizes: Sizes, s: u8) -> u8 {
         links,
         s,
     );
-    let Found::Refused(k) = answer else {
-        return 0;
-    };
-    if both(same(&hops, &clean), both(all(&even, 0, 7), all(&odd, 0, 7))) {
-        return k;
-    }
-    99
+    number_of(answer, &hops, &even, &odd)
 }
 
 // A search from s with the named sizes, whose refusal is k.
 fn gives(t: Tally, links: &[u64], rec: Record, s: u8, k: u8) -> Tally {
     seen(t, answer_of(links, rec, named(), s) == k)
-}
-
-// ---- the memory that is broken: a grid of 100 depots of the codes 0 to 99
-
-fn grid() -> Plan {
-    Plan {
-        kind: 4,
-        size: 100,
-        spread: 0,
-        shift: 0,
-    }
-}
-
-fn grid_links(links: &mut [u64]) {
-    let mut depots = [0u8; 256];
-    let mut near = [0u8; 65536];
-    networks::build(&mut depots, &mut near, grid());
-    flags::pack(links, 1024, &near);
-}
-
-fn grid_codes(codes: &mut [u64]) {
-    let mut depots = [0u8; 256];
-    let mut near = [0u8; 65536];
-    networks::build(&mut depots, &mut near, grid());
-    flags::pack(codes, 4, &depots);
 }
 
 // ---- one bit alone: never the same both ways round, or a depot's own
@@ -107,19 +88,23 @@ fn flip_one(t: Tally, links: &mut [u64], rec: Record, u: usize, v: usize) -> Tal
     r
 }
 
-// Bits all over the rows: open or closed, linked or not; and the depots' own.
-pub fn single_bits() -> Tally {
-    let mut links = [0u64; 1024];
-    let mut codes = [0u64; 4];
-    grid_links(&mut links);
-    grid_codes(&mut codes);
-    let rec = record(codes, 100);
+// Bits all over the rows: open or closed, linked or not; and the codes' own.
+fn single_bits(links: &mut [u64], rec: Record) -> Tally {
     let mut t = tally::start();
     let mut i = 0;
     while i < 1024 {
-        t = flip_one(t, &mut links, rec, i % 256, (37 * i + i / 256) % 256);
-        t = flip_one(t, &mut links, rec, i % 256, i % 256);
+        t = flip_one(t, links, rec, i % 256, (37 * i + i / 256) % 256);
         i += 1;
+    }
+    t
+}
+
+fn own_bits(links: &mut [u64], rec: Record) -> Tally {
+    let mut t = tally::start();
+    let mut u = 0;
+    while u < 256 {
+        t = flip_one(t, links, rec, u, u);
+        u += 1;
     }
     t
 }
@@ -127,25 +112,18 @@ pub fn single_bits() -> Tally {
 // ---- a bit both ways round, of a closed code
 
 fn flip_two(t: Tally, links: &mut [u64], rec: Record, u: usize, v: usize) -> Tally {
-    flags::flip(links, place(u, v));
-    flags::flip(links, place(v, u));
+    flags::flip_both(links, u, v);
     let r = gives(t, &*links, rec, 0, 2);
-    flags::flip(links, place(u, v));
-    flags::flip(links, place(v, u));
+    flags::flip_both(links, u, v);
     r
 }
 
-// Links of every code with a closed one.
-pub fn closed_ends() -> Tally {
-    let mut links = [0u64; 1024];
-    let mut codes = [0u64; 4];
-    grid_links(&mut links);
-    grid_codes(&mut codes);
-    let rec = record(codes, 100);
+// Links of every code with a closed one, 100 to 255.
+fn closed_ends(links: &mut [u64], rec: Record) -> Tally {
     let mut t = tally::start();
     let mut u = 0;
     while u < 256 {
-        t = flip_two(t, &mut links, rec, u, 100 + (u + 57) % 156);
+        t = flip_two(t, links, rec, u, 100 + (u + 57) % 156);
         u += 1;
     }
     t
@@ -154,16 +132,12 @@ pub fn closed_ends() -> Tally {
 // ---- the record
 
 // Every number open but the right one.
-pub fn numbers() -> Tally {
-    let mut links = [0u64; 1024];
-    let mut codes = [0u64; 4];
-    grid_links(&mut links);
-    grid_codes(&mut codes);
+fn numbers(links: &[u64], codes: [u64; 4]) -> Tally {
     let mut t = tally::start();
     let mut n = 0;
     while n < 300 {
         if n != 100 {
-            t = gives(t, &links, record(codes, n), 0, 2);
+            t = gives(t, links, record(codes, n), 0, 2);
         }
         n += 1;
     }
@@ -181,15 +155,11 @@ fn turn(t: Tally, links: &[u64], codes: [u64; 4], v: usize) -> Tally {
 }
 
 // Every code of the open set turned over, the number open with it.
-pub fn open_sets() -> Tally {
-    let mut links = [0u64; 1024];
-    let mut codes = [0u64; 4];
-    grid_links(&mut links);
-    grid_codes(&mut codes);
+fn open_sets(links: &[u64], codes: [u64; 4]) -> Tally {
     let mut t = tally::start();
     let mut v = 0;
     while v < 256 {
-        t = turn(t, &links, codes, v);
+        t = turn(t, links, codes, v);
         v += 1;
     }
     t
@@ -252,16 +222,11 @@ fn try_sizes(t: Tally, links: &mut [u64], rec: Record, i: usize) -> Tally {
 }
 
 // All 81.
-pub fn buffers() -> Tally {
-    let mut links = [255u64; 1030];
-    let mut codes = [0u64; 4];
-    grid_links(&mut links);
-    grid_codes(&mut codes);
-    let rec = record(codes, 100);
+fn buffers(links: &mut [u64], rec: Record) -> Tally {
     let mut t = tally::start();
     let mut i = 0;
     while i < 81 {
-        t = try_sizes(t, &mut links, rec, i);
+        t = try_sizes(t, links, rec, i);
         i += 1;
     }
     t
@@ -278,7 +243,7 @@ fn gives_short(t: Tally, links: &[u64], rec: Record, s: u8) -> Tally {
 }
 
 // The closed code 200 on a map with more and more faults: absent; apart too, where 150 opens; spoilt too; short too.
-fn more_faults(links: &[u64], codes: [u64; 4]) -> Tally {
+fn order(links: &[u64], codes: [u64; 4]) -> Tally {
     let t = gives(tally::start(), links, record(codes, 100), 200, 4);
     let mut more = codes;
     flags::flip(&mut more, 150);
@@ -287,24 +252,58 @@ fn more_faults(links: &[u64], codes: [u64; 4]) -> Tally {
     gives_short(t, links, record(more, 100), 200)
 }
 
-// The refusals in order.
-pub fn order() -> Tally {
-    let mut links = [0u64; 1024];
-    let mut codes = [0u64; 4];
-    grid_links(&mut links);
-    grid_codes(&mut codes);
-    more_faults(&links, codes)
-}
-
 // The empty map is not apart: every code is absent.
-pub fn empty_map() -> Tally {
+fn empty_map() -> Tally {
     let links = [0u64; 1024];
     let rec = record([0u64; 4], 0);
     let mut t = tally::start();
-    let mut s: u8 = 0;
-    while s < 255 {
-        t = gives(t, &links, rec, s, 4);
+    let mut s: u16 = 0;
+    while s < 256 {
+        t = gives(t, &links, rec, s as u8, 4);
         s += 1;
     }
-    gives(t, &links, rec, 255, 4)
+    t
+}
+
+// ---- the groups, on a grid of 100 depots of the codes 0 to 99
+
+fn group(links: &mut [u64], codes: [u64; 4], k: u8) -> Tally {
+    match k {
+        0 => single_bits(links, record(codes, 100)),
+        1 => own_bits(links, record(codes, 100)),
+        2 => closed_ends(links, record(codes, 100)),
+        3 => numbers(&*links, codes),
+        4 => open_sets(&*links, codes),
+        5 => buffers(links, record(codes, 100)),
+        _ => order(&*links, codes),
+    }
+}
+
+fn on_grid(k: u8) -> Tally {
+    let mut depots = [0u8; 256];
+    let mut near = [0u8; 65536];
+    let mut links = [255u64; 1030];
+    let mut codes = [0u64; 4];
+    let grid = Plan {
+        kind: 4,
+        size: 100,
+        spread: 0,
+        shift: 0,
+    };
+    lend(&mut links, &mut codes, &mut depots, &mut near, grid);
+    group(&mut links, codes, k)
+}
+
+pub fn spoilt() {
+    print(b"spoilt: a single bit", on_grid(0));
+    print(b"spoilt: a code's own bit", on_grid(1));
+    print(b"spoilt: a link to a closed code, both ways", on_grid(2));
+    print(b"spoilt: the number open", on_grid(3));
+}
+
+pub fn others() {
+    print(b"spoilt or apart: a code of the open set", on_grid(4));
+    print(b"short, exact and longer buffers", on_grid(5));
+    print(b"the first refusal of several, in order", on_grid(6));
+    print(b"absent: every code of an empty map", empty_map());
 }

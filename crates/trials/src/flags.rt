@@ -60,6 +60,12 @@ pub fn flip(words: &mut [u64], i: usize) {
     }
 }
 
+// Turns the bits v of row u and u of row v over.
+pub fn flip_both(words: &mut [u64], u: usize, v: usize) {
+    flip(words, place(u, v));
+    flip(words, place(v, u));
+}
+
 // Bit i of a packed table, 0 past the end.
 pub fn bit(words: &[u64], i: usize) -> u8 {
     let w = i / 64;

@@ -8,6 +8,7 @@ use crate::plain;
 use crate::tally;
 use crate::tally::Tally;
 use crate::tally::both;
+use crate::tally::print;
 use crate::tally::seen;
 use map::Record;
 use search::Found;
@@ -22,7 +23,16 @@ pub fn record(codes: [u64; 4], number: usize) -> Record {
     }
 }
 
-// The call that hands back the rows: the refusal k or none, every number and every place lent.
+// What the call that hands back the rows left, the refusal being k or none: every place lent.
+fn rows_are(last: &[u64], even: &[u64], odd: &[u64], want: &[u16], ecc: u16, k: u8) -> bool {
+    if k != 0 {
+        return both(ecc == 9999, compare::refused(last, even, odd));
+    }
+    let e = plain::greatest(want);
+    both(ecc == e, compare::accepted(last, even, odd, want, e))
+}
+
+// A search by the call that hands back the rows.
 fn by_rows(links: &[u64], rec: Record, s: u8, want: &[u16], k: u8) -> bool {
     let mut hops = [7u16; 260];
     let mut even = [7u64; 6];
@@ -42,52 +52,29 @@ fn by_rows(links: &[u64], rec: Record, s: u8, want: &[u16], k: u8) -> bool {
     let last = parts[0];
     let first = parts[1];
     let second = parts[2];
-    if refusal != k {
-        return false;
-    }
-    if !same(&hops, want) {
-        return false;
-    }
-    if k != 0 {
-        return both(ecc == 9999, compare::refused(last, first, second));
-    }
-    let e = plain::greatest(want);
-    both(ecc == e, compare::accepted(last, first, second, want, e))
+    let left = rows_are(last, first, second, want, ecc, k);
+    both(left, both(refusal == k, same(&hops, want)))
 }
 
-// The call that answers an enum, and the last layer after it.
+// What the call that answers an enum left, and the last layer after it.
+fn found_is<'a>(answer: Found, even: &'a [u64], odd: &'a [u64], want: &[u16], k: u8) -> bool {
+    match answer {
+        Found::Reached(e) => rows_are(search::last_layer(even, odd, e), even, odd, want, e, k),
+        Found::Refused(n) => both(n == k, rows_are(&[], even, odd, want, 9999, k)),
+    }
+}
+
+// A search by the call that answers an enum.
 fn by_enum(links: &[u64], rec: Record, s: u8, want: &[u16], k: u8) -> bool {
     let mut hops = [7u16; 260];
     let mut even = [7u64; 6];
     let mut odd = [7u64; 6];
     let answer = search::search_from(&mut hops, &mut even, &mut odd, rec, links, s);
-    if !same(&hops, want) {
-        return false;
-    }
-    match answer {
-        Found::Reached(e) => {
-            let last = search::last_layer(&even, &odd, e);
-            if k != 0 {
-                return false;
-            }
-            both(
-                e == plain::greatest(want),
-                compare::accepted(last, &even, &odd, want, e),
-            )
-        }
-        Found::Refused(n) => both(n == k, compare::refused(&[], &even, &odd)),
-    }
+    both(found_is(answer, &even, &odd, want, k), same(&hops, want))
 }
 
 // A search from s by both calls.
-pub fn try_search(
-    t: Tally,
-    links: &[u64],
-    rec: Record,
-    depots: &[u8],
-    near: &[u8],
-    s: u8,
-) -> Tally {
+fn try_search(t: Tally, links: &[u64], rec: Record, depots: &[u8], near: &[u8], s: u8) -> Tally {
     let k = plain::refusal(depots, near, s as usize);
     let mut want = [7u16; 260];
     plain::expect(&mut want, near, s as usize, k);
@@ -115,15 +102,20 @@ fn starts(t: Tally, links: &[u64], rec: Record, depots: &[u8], near: &[u8], p: P
     u
 }
 
+// The link table and the open set of a plan, as tables of bytes and as words.
+pub fn lend(links: &mut [u64], codes: &mut [u64], depots: &mut [u8], near: &mut [u8], p: Plan) {
+    networks::build(depots, near, p);
+    flags::pack(links, 1024, &*near);
+    flags::pack(codes, 4, &*depots);
+}
+
 // One network. The words behind the link table are not part of it.
-pub fn try_plan(t: Tally, p: Plan) -> Tally {
+fn try_plan(t: Tally, p: Plan) -> Tally {
     let mut depots = [0u8; 256];
     let mut near = [0u8; 65536];
     let mut links = [255u64; 1030];
     let mut codes = [0u64; 4];
-    networks::build(&mut depots, &mut near, p);
-    flags::pack(&mut links, 1024, &near);
-    flags::pack(&mut codes, 4, &depots);
+    lend(&mut links, &mut codes, &mut depots, &mut near, p);
     let rec = record(codes, flags::count(&depots));
     starts(t, &links, rec, &depots, &near, p)
 }
@@ -144,7 +136,7 @@ fn size(k: u8) -> usize {
 }
 
 // All networks of a kind.
-pub fn try_kind(kind: u8) -> Tally {
+fn try_kind(kind: u8) -> Tally {
     let mut t = tally::start();
     let mut k: u8 = 0;
     while k < 9 {
@@ -160,4 +152,21 @@ pub fn try_kind(kind: u8) -> Tally {
         k += 1;
     }
     t
+}
+
+// The networks of a simple shape.
+pub fn regular() {
+    print(b"paths", try_kind(0));
+    print(b"cycles", try_kind(1));
+    print(b"stars", try_kind(2));
+    print(b"complete networks", try_kind(3));
+    print(b"grids", try_kind(4));
+}
+
+// Trees, random networks, and depots that no walk joins.
+pub fn grown() {
+    print(b"trees", try_kind(5));
+    print(b"random networks", try_kind(6));
+    print(b"random links, often apart", try_kind(7));
+    print(b"depots without links", try_kind(8));
 }

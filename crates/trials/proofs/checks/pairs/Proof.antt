@@ -1,4 +1,4 @@
--- `trials::checks::pairs` is safe and ends: 1,024 turns.
+-- `trials::checks::pairs` is safe and ends: 512 turns.
 -- Assumes nothing.
 use Prim.Native.Nat.{_≤_, _-_}
 use borrow.Author.Needs.{needs}
@@ -6,10 +6,10 @@ use Rattle.trials.proofs.checks.pairs.Statement.{statement}
 use Rattle.trials.proofs.checks.pairs.Tie as tie
 
 abbrev Inv-loop : tie.InvT-loop
-Inv-loop codes t₀ i₀ t i = i ≤ 1024
+Inv-loop codes t₀ i₀ t i = i ≤ 512
 
 abbrev μ-loop : tie.MeasureT-loop
-μ-loop codes t₀ i₀ t i = 1024 - i
+μ-loop codes t₀ i₀ t i = 512 - i
 
 slice-aggregate-pack : tie.Need-slice-aggregate-pack Inv-loop μ-loop
 slice-aggregate-pack c = search needs

@@ -1,4 +1,4 @@
--- `trials::faults::empty_map` is safe and ends: 255 turns.
+-- `trials::faults::empty_map` is safe and ends: 256 turns.
 -- Assumes nothing.
 use Prim.Native.Nat.{_≤_, _-_}
 use borrow.Author.Needs.{needs}
@@ -6,10 +6,10 @@ use Rattle.trials.proofs.faults.empty_map.Statement.{statement}
 use Rattle.trials.proofs.faults.empty_map.Tie as tie
 
 abbrev Inv-loop : tie.InvT-loop
-Inv-loop links rec t₀ s₀ t s = s ≤ 255
+Inv-loop links rec t₀ s₀ t s = s ≤ 256
 
 abbrev μ-loop : tie.MeasureT-loop
-μ-loop links rec t₀ s₀ t s = 255 - s
+μ-loop links rec t₀ s₀ t s = 256 - s
 
 record-requires : tie.Need-record-requires Inv-loop μ-loop
 record-requires c κs = search needs
@@ -23,6 +23,9 @@ loop-holds c = search needs
 slice-aggregate-gives : tie.Need-slice-aggregate-gives Inv-loop μ-loop
 slice-aggregate-gives c = search needs
 
+cast-gives : tie.Need-cast-gives Inv-loop μ-loop
+cast-gives c = search needs
+
 gives-requires : tie.Need-gives-requires Inv-loop μ-loop
 gives-requires c κs = search needs
 
@@ -34,12 +37,6 @@ loop-less c = search needs
 
 loop-again : tie.Need-loop-again Inv-loop μ-loop
 loop-again c = search needs
-
-slice-aggregate-gives-2 : tie.Need-slice-aggregate-gives-2 Inv-loop μ-loop
-slice-aggregate-gives-2 c = search needs
-
-gives-requires-2 : tie.Need-gives-requires-2 Inv-loop μ-loop
-gives-requires-2 c κs = search needs
 
 returns : tie.Need-returns Inv-loop μ-loop
 returns c = search needs
@@ -54,10 +51,9 @@ empty-map-spec =
     start-requires
     loop-holds
     slice-aggregate-gives
+    cast-gives
     gives-requires
     add-s
     loop-less
     loop-again
-    slice-aggregate-gives-2
-    gives-requires-2
     returns)

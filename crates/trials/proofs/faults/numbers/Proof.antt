@@ -11,26 +11,11 @@ Inv-loop links codes t₀ n₀ t n = n ≤ 300
 abbrev μ-loop : tie.MeasureT-loop
 μ-loop links codes t₀ n₀ t n = 300 - n
 
-slice-aggregate-grid-links : tie.Need-slice-aggregate-grid-links Inv-loop μ-loop
-slice-aggregate-grid-links c = search needs
-
-grid-links-requires : tie.Need-grid-links-requires Inv-loop μ-loop
-grid-links-requires c κs = search needs
-
-slice-aggregate-grid-codes : tie.Need-slice-aggregate-grid-codes Inv-loop μ-loop
-slice-aggregate-grid-codes c = search needs
-
-grid-codes-requires : tie.Need-grid-codes-requires Inv-loop μ-loop
-grid-codes-requires c κs = search needs
-
 start-requires : tie.Need-start-requires Inv-loop μ-loop
 start-requires c κs = search needs
 
 loop-holds : tie.Need-loop-holds Inv-loop μ-loop
 loop-holds c = search needs
-
-slice-aggregate-gives : tie.Need-slice-aggregate-gives Inv-loop μ-loop
-slice-aggregate-gives c = search needs
 
 record-requires : tie.Need-record-requires Inv-loop μ-loop
 record-requires c κs = search needs
@@ -56,13 +41,8 @@ numbers-spec =
     (tie.spec
     Inv-loop
     μ-loop
-    slice-aggregate-grid-links
-    grid-links-requires
-    slice-aggregate-grid-codes
-    grid-codes-requires
     start-requires
     loop-holds
-    slice-aggregate-gives
     record-requires
     gives-requires
     add-n

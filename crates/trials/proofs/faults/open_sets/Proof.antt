@@ -11,26 +11,11 @@ Inv-loop links codes t₀ v₀ t v = v ≤ 256
 abbrev μ-loop : tie.MeasureT-loop
 μ-loop links codes t₀ v₀ t v = 256 - v
 
-slice-aggregate-grid-links : tie.Need-slice-aggregate-grid-links Inv-loop μ-loop
-slice-aggregate-grid-links c = search needs
-
-grid-links-requires : tie.Need-grid-links-requires Inv-loop μ-loop
-grid-links-requires c κs = search needs
-
-slice-aggregate-grid-codes : tie.Need-slice-aggregate-grid-codes Inv-loop μ-loop
-slice-aggregate-grid-codes c = search needs
-
-grid-codes-requires : tie.Need-grid-codes-requires Inv-loop μ-loop
-grid-codes-requires c κs = search needs
-
 start-requires : tie.Need-start-requires Inv-loop μ-loop
 start-requires c κs = search needs
 
 loop-holds : tie.Need-loop-holds Inv-loop μ-loop
 loop-holds c = search needs
-
-slice-aggregate-turn : tie.Need-slice-aggregate-turn Inv-loop μ-loop
-slice-aggregate-turn c = search needs
 
 turn-requires : tie.Need-turn-requires Inv-loop μ-loop
 turn-requires c κs = search needs
@@ -53,13 +38,8 @@ open-sets-spec =
     (tie.spec
     Inv-loop
     μ-loop
-    slice-aggregate-grid-links
-    grid-links-requires
-    slice-aggregate-grid-codes
-    grid-codes-requires
     start-requires
     loop-holds
-    slice-aggregate-turn
     turn-requires
     add-v
     loop-less

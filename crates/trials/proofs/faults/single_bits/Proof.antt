@@ -1,41 +1,23 @@
 -- `trials::faults::single_bits` is safe and ends: 1,024 turns, and the table keeps its length.
 -- Assumes nothing.
+use Prim.Native.Nat.{_≤_, _-_}
 use mathlib.Core.Path.{_≡_}
 use lib.ListN.{length}
-use Prim.Native.Nat.{_≤_, _-_}
 use borrow.Author.Needs.{needs}
 use Rattle.trials.proofs.faults.single_bits.Statement.{statement}
 use Rattle.trials.proofs.faults.single_bits.Tie as tie
 
 abbrev Inv-loop : tie.InvT-loop
-Inv-loop links₀ rec t₀ i₀ links t i = (i ≤ 1024) × (length links ≡ 1024)
+Inv-loop links₀ rec t₀ i₀ links t i = (i ≤ 1024) × (length links ≡ length links₀)
 
 abbrev μ-loop : tie.MeasureT-loop
 μ-loop links₀ rec t₀ i₀ links t i = 1024 - i
-
-slice-aggregate-grid-links : tie.Need-slice-aggregate-grid-links Inv-loop μ-loop
-slice-aggregate-grid-links c = search needs
-
-grid-links-requires : tie.Need-grid-links-requires Inv-loop μ-loop
-grid-links-requires c κs = search needs
-
-slice-aggregate-grid-codes : tie.Need-slice-aggregate-grid-codes Inv-loop μ-loop
-slice-aggregate-grid-codes c = search needs
-
-grid-codes-requires : tie.Need-grid-codes-requires Inv-loop μ-loop
-grid-codes-requires c κs = search needs
-
-record-requires : tie.Need-record-requires Inv-loop μ-loop
-record-requires c κs = search needs
 
 start-requires : tie.Need-start-requires Inv-loop μ-loop
 start-requires c κs = search needs
 
 loop-holds : tie.Need-loop-holds Inv-loop μ-loop
 loop-holds c = search needs
-
-slice-aggregate-flip-one : tie.Need-slice-aggregate-flip-one Inv-loop μ-loop
-slice-aggregate-flip-one c = search needs
 
 mul-flip-one : tie.Need-mul-flip-one Inv-loop μ-loop
 mul-flip-one c = search needs
@@ -46,12 +28,6 @@ add-flip-one c = search needs
 flip-one-requires : tie.Need-flip-one-requires Inv-loop μ-loop
 flip-one-requires c κs = search needs
 
-slice-aggregate-flip-one-2 : tie.Need-slice-aggregate-flip-one-2 Inv-loop μ-loop
-slice-aggregate-flip-one-2 c = search needs
-
-flip-one-requires-2 : tie.Need-flip-one-requires-2 Inv-loop μ-loop
-flip-one-requires-2 c κs = search needs
-
 add-i : tie.Need-add-i Inv-loop μ-loop
 add-i c = search needs
 
@@ -60,6 +36,9 @@ loop-less c = search needs
 
 loop-again : tie.Need-loop-again Inv-loop μ-loop
 loop-again c = search needs
+
+same-length : tie.Need-same-length Inv-loop μ-loop
+same-length c = search needs
 
 returns : tie.Need-returns Inv-loop μ-loop
 returns c = search needs
@@ -70,20 +49,13 @@ single-bits-spec =
     (tie.spec
     Inv-loop
     μ-loop
-    slice-aggregate-grid-links
-    grid-links-requires
-    slice-aggregate-grid-codes
-    grid-codes-requires
-    record-requires
     start-requires
     loop-holds
-    slice-aggregate-flip-one
     mul-flip-one
     add-flip-one
     flip-one-requires
-    slice-aggregate-flip-one-2
-    flip-one-requires-2
     add-i
     loop-less
     loop-again
+    same-length
     returns)
