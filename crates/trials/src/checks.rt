@@ -27,33 +27,7 @@ fn links_are(t: Tally, links: &[u64; 1024], codes: &[u64; 4], number: u16, want:
     )
 }
 
-// A bit turned over.
-fn turned(t: Tally, links: &mut [u64; 1024], codes: &[u64; 4], i: usize) -> Tally {
-    flags::flip(links, i);
-    let r = links_are(t, &*links, codes, 200, false);
-    flags::flip(links, i);
-    r
-}
-
-// A bit of every word turned over.
-fn all_turned(t: Tally, links: &mut [u64; 1024], codes: &[u64; 4]) -> Tally {
-    let mut r = t;
-    let mut i = 0;
-    while i < 1024 {
-        r = turned(r, links, codes, 64 * i + i % 64);
-        i += 1;
-    }
-    r
-}
-
-// A sound table, with the number open and with others.
-fn numbered(links: &[u64; 1024], codes: &[u64; 4]) -> Tally {
-    let t = links_are(tally::start(), links, codes, 200, true);
-    let t = links_are(t, links, codes, 199, false);
-    links_are(t, links, codes, 201, false)
-}
-
-// A random network of 200 depots.
+// A random network of 200 depots: sound, wrongly numbered, and with a bit turned over.
 fn links() -> Tally {
     let mut depots = [0u8; 256];
     let mut near = [0u8; 65536];
@@ -66,8 +40,10 @@ fn links() -> Tally {
         shift: 5,
     };
     lend(&mut links, &mut codes, &mut depots, &mut near, random);
-    let t = numbered(&links, &codes);
-    all_turned(t, &mut links, &codes)
+    let t = links_are(tally::start(), &links, &codes, 200, true);
+    let t = links_are(t, &links, &codes, 201, false);
+    flags::flip(&mut links, place(5, 42));
+    links_are(t, &links, &codes, 200, false)
 }
 
 // ---- figures
@@ -117,55 +93,27 @@ fn pairs() -> Tally {
     t
 }
 
-// All pairs of 256 depots, with every chain from 0 to 300: sound up to 255.
+// Every chain from 0 to 299: sound up to 255.
 fn chains() -> Tally {
-    let codes = [18446744073709551615u64; 4];
-    let mut near = [0u8; 65536];
-    rising(&mut near);
-    let mut pairs = [0u64; 1024];
-    flags::pack(&mut pairs, 1024, &near);
+    let codes = [0u64; 4];
+    let pairs = [0u64; 1024];
     let mut t = tally::start();
     let mut chain: u16 = 0;
     while chain < 300 {
-        t = figures_are(t, &pairs, &codes, chain, 32640, chain < 256);
+        t = figures_are(t, &pairs, &codes, chain, 0, chain < 256);
         chain += 1;
     }
     t
 }
 
-// Sets bit i if it is that of two codes u < v.
-fn set_rising(near: &mut [u8], i: usize) {
-    if i / 256 < i % 256 {
-        flags::put(near, i, 1);
-    }
-}
-
-// Sets the bit of every two codes u < v.
-fn rising(near: &mut [u8]) {
-    let mut i = 0;
-    while i < 65536 {
-        set_rising(near, i);
-        i += 1;
-    }
-}
-
 // ---- emptying
 
-// Whether the record is that before the call.
-fn is_kept(r: Record) -> bool {
+// Whether a record holds these words and numbers.
+fn record_is(r: Record, word: u64, number: u16, chain: u16, count: u32) -> bool {
     let codes = r.codes;
     both(
-        both(all(&codes, 0, 9), r.number == 5),
-        both(r.chain == 6, r.count == 8),
-    )
-}
-
-// Whether the record is all zero.
-fn is_zero(r: Record) -> bool {
-    let codes = r.codes;
-    both(
-        both(all(&codes, 0, 0), r.number == 0),
-        both(r.chain == 0, r.count == 0),
+        both(all(&codes, 0, word), r.number == number),
+        both(r.chain == chain, r.count == count),
     )
 }
 
@@ -188,11 +136,14 @@ fn left_right(
     match answer {
         Emptying::Done => {
             let cleared = both(is_cleared(links), is_cleared(pairs));
-            both(room, both(cleared, is_zero(after)))
+            both(room, both(cleared, record_is(after, 0, 0, 0, 0)))
         }
         Emptying::Refused(k) => {
             let kept = both(all(&*links, 0, 7), all(&*pairs, 0, 7));
-            both(equal(room, false), both(k == 1, both(kept, is_kept(after))))
+            both(
+                equal(room, false),
+                both(k == 1, both(kept, record_is(after, 9, 5, 6, 8))),
+            )
         }
     }
 }

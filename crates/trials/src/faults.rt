@@ -2,7 +2,6 @@
 use crate::compare::all;
 use crate::compare::same;
 use crate::flags;
-use crate::flags::place;
 use crate::networks::Plan;
 use crate::searches::lend;
 use crate::searches::record;
@@ -30,22 +29,6 @@ pub fn first_words(s: &mut [u64], n: usize) -> &mut [u64] {
     &mut s[..n]
 }
 
-// The sizes of the lent hop table and rows.
-struct Sizes {
-    hops: usize,
-    even: usize,
-    odd: usize,
-}
-
-// The sizes that document 01 names.
-fn named() -> Sizes {
-    Sizes {
-        hops: 256,
-        even: 4,
-        odd: 4,
-    }
-}
-
 // The refusal of an answer, 0 for none; 99 where a refused call changed a place all the same.
 fn number_of(answer: Found, hops: &[u16], even: &[u64], odd: &[u64]) -> u8 {
     let Found::Refused(k) = answer else {
@@ -58,15 +41,15 @@ fn number_of(answer: Found, hops: &[u16], even: &[u64], odd: &[u64]) -> u8 {
     99
 }
 
-// The refusal that a search with buffers of these sizes answers.
-fn answer_of(links: &[u64], rec: Record, sizes: Sizes, s: u8) -> u8 {
+// The refusal that a search answers whose hop table and rows have these sizes.
+fn answer_of(links: &[u64], rec: Record, h: usize, e: usize, o: usize, s: u8) -> u8 {
     let mut hops = [7u16; 260];
     let mut even = [7u64; 6];
     let mut odd = [7u64; 6];
     let answer = search::search_from(
-        first_hops(&mut hops, sizes.hops),
-        first_words(&mut even, sizes.even),
-        first_words(&mut odd, sizes.odd),
+        first_hops(&mut hops, h),
+        first_words(&mut even, e),
+        first_words(&mut odd, o),
         rec,
         links,
         s,
@@ -76,41 +59,31 @@ fn answer_of(links: &[u64], rec: Record, sizes: Sizes, s: u8) -> u8 {
 
 // A search from s with the named sizes, whose refusal is k.
 fn gives(t: Tally, links: &[u64], rec: Record, s: u8, k: u8) -> Tally {
-    seen(t, answer_of(links, rec, named(), s) == k)
+    seen(t, answer_of(links, rec, 256, 4, 4, s) == k)
 }
 
-// ---- one bit alone: never the same both ways round, or a depot's own
+// ---- the links
 
-fn flip_one(t: Tally, links: &mut [u64], rec: Record, u: usize, v: usize) -> Tally {
-    flags::flip(links, place(u, v));
+// One bit alone, never the same both ways round.
+fn flip_one(t: Tally, links: &mut [u64], rec: Record, i: usize) -> Tally {
+    flags::flip(links, i);
     let r = gives(t, &*links, rec, 0, 2);
-    flags::flip(links, place(u, v));
+    flags::flip(links, i);
     r
 }
 
-// Bits all over the rows: open or closed, linked or not; and the codes' own.
+// Every code's own bit, and those 64, 128 and 192 places further: open or closed, linked or not.
 fn single_bits(links: &mut [u64], rec: Record) -> Tally {
     let mut t = tally::start();
     let mut i = 0;
     while i < 1024 {
-        t = flip_one(t, links, rec, i % 256, (37 * i + i / 256) % 256);
+        t = flip_one(t, links, rec, (257 * i + 64 * (i / 256)) % 65536);
         i += 1;
     }
     t
 }
 
-fn own_bits(links: &mut [u64], rec: Record) -> Tally {
-    let mut t = tally::start();
-    let mut u = 0;
-    while u < 256 {
-        t = flip_one(t, links, rec, u, u);
-        u += 1;
-    }
-    t
-}
-
-// ---- a bit both ways round, of a closed code
-
+// A bit both ways round.
 fn flip_two(t: Tally, links: &mut [u64], rec: Record, u: usize, v: usize) -> Tally {
     flags::flip_both(links, u, v);
     let r = gives(t, &*links, rec, 0, 2);
@@ -167,31 +140,6 @@ fn open_sets(links: &[u64], codes: [u64; 4]) -> Tally {
 
 // ---- sizes, and the order of the refusals
 
-// One below the named size, the named size, and more.
-fn hops_of(k: usize) -> usize {
-    match k {
-        0 => 255,
-        1 => 256,
-        _ => 260,
-    }
-}
-
-fn row_of(k: usize) -> usize {
-    match k {
-        0 => 3,
-        1 => 4,
-        _ => 6,
-    }
-}
-
-fn table_of(k: usize) -> usize {
-    match k {
-        0 => 1023,
-        1 => 1024,
-        _ => 1030,
-    }
-}
-
 // 1 where one of the four is short, 0 where none is.
 fn any_short(a: usize, b: usize, c: usize, d: usize) -> u8 {
     if a == 0 {
@@ -206,18 +154,14 @@ fn any_short(a: usize, b: usize, c: usize, d: usize) -> u8 {
     if d == 0 { 1 } else { 0 }
 }
 
-// A search of an open code with four sizes, each of three.
+// A search of an open code with four sizes: each one below its named size, the same, or one more.
 fn try_sizes(t: Tally, links: &mut [u64], rec: Record, i: usize) -> Tally {
     let a = i % 3;
     let b = i / 3 % 3;
     let c = i / 9 % 3;
     let d = i / 27 % 3;
-    let sizes = Sizes {
-        hops: hops_of(b),
-        even: row_of(c),
-        odd: row_of(d),
-    };
-    let k = answer_of(&*first_words(links, table_of(a)), rec, sizes, 0);
+    let table = first_words(links, 1023 + a);
+    let k = answer_of(&*table, rec, 255 + b, 3 + c, 3 + d, 0);
     seen(t, k == any_short(a, b, c, d))
 }
 
@@ -232,16 +176,6 @@ fn buffers(links: &mut [u64], rec: Record) -> Tally {
     t
 }
 
-// A search whose odd row is a word short.
-fn gives_short(t: Tally, links: &[u64], rec: Record, s: u8) -> Tally {
-    let sizes = Sizes {
-        hops: 256,
-        even: 4,
-        odd: 3,
-    };
-    seen(t, answer_of(links, rec, sizes, s) == 1)
-}
-
 // The closed code 200 on a map with more and more faults: absent; apart too, where 150 opens; spoilt too; short too.
 fn order(links: &[u64], codes: [u64; 4]) -> Tally {
     let t = gives(tally::start(), links, record(codes, 100), 200, 4);
@@ -249,7 +183,7 @@ fn order(links: &[u64], codes: [u64; 4]) -> Tally {
     flags::flip(&mut more, 150);
     let t = gives(t, links, record(more, 101), 200, 3);
     let t = gives(t, links, record(more, 100), 200, 2);
-    gives_short(t, links, record(more, 100), 200)
+    seen(t, answer_of(links, record(more, 100), 256, 4, 3, 200) == 1)
 }
 
 // The empty map is not apart: every code is absent.
@@ -265,21 +199,25 @@ fn empty_map() -> Tally {
     t
 }
 
-// ---- the groups, on a grid of 100 depots of the codes 0 to 99
+// ---- the groups
 
-fn group(links: &mut [u64], codes: [u64; 4], k: u8) -> Tally {
-    match k {
-        0 => single_bits(links, record(codes, 100)),
-        1 => own_bits(links, record(codes, 100)),
-        2 => closed_ends(links, record(codes, 100)),
-        3 => numbers(&*links, codes),
-        4 => open_sets(&*links, codes),
-        5 => buffers(links, record(codes, 100)),
-        _ => order(&*links, codes),
-    }
+// The groups that change the table, and turn it back.
+fn on_links(links: &mut [u64], rec: Record) {
+    print(b"spoilt: a single bit", single_bits(links, rec));
+    print(b"spoilt: a link to a closed code", closed_ends(links, rec));
+    print(b"short, exact and longer buffers", buffers(links, rec));
 }
 
-fn on_grid(k: u8) -> Tally {
+// The groups that change the record.
+fn on_record(links: &[u64], codes: [u64; 4]) {
+    print(b"spoilt: the number open", numbers(links, codes));
+    print(b"spoilt or apart: the open set", open_sets(links, codes));
+    print(b"the first refusal of several", order(links, codes));
+    print(b"absent: every code of an empty map", empty_map());
+}
+
+// All, on a grid of 100 depots of the codes 0 to 99.
+pub fn all_groups() {
     let mut depots = [0u8; 256];
     let mut near = [0u8; 65536];
     let mut links = [255u64; 1030];
@@ -291,19 +229,6 @@ fn on_grid(k: u8) -> Tally {
         shift: 0,
     };
     lend(&mut links, &mut codes, &mut depots, &mut near, grid);
-    group(&mut links, codes, k)
-}
-
-pub fn spoilt() {
-    print(b"spoilt: a single bit", on_grid(0));
-    print(b"spoilt: a code's own bit", on_grid(1));
-    print(b"spoilt: a link to a closed code, both ways", on_grid(2));
-    print(b"spoilt: the number open", on_grid(3));
-}
-
-pub fn others() {
-    print(b"spoilt or apart: a code of the open set", on_grid(4));
-    print(b"short, exact and longer buffers", on_grid(5));
-    print(b"the first refusal of several, in order", on_grid(6));
-    print(b"absent: every code of an empty map", empty_map());
+    on_links(&mut links, record(codes, 100));
+    on_record(&links, codes);
 }

@@ -76,24 +76,3 @@ pub fn bit(words: &[u64], i: usize) -> u8 {
     }
     0
 }
-
-// One more where x is 1, up to a bound that no table reaches.
-fn more(sum: usize, x: u8) -> usize {
-    if x == 1 {
-        if sum < 65536 {
-            return sum + 1;
-        }
-    }
-    sum
-}
-
-// The number of ones.
-pub fn count(table: &[u8]) -> usize {
-    let mut sum = 0;
-    let mut i = 0;
-    while i < table.len() {
-        sum = more(sum, table[i]);
-        i += 1;
-    }
-    sum
-}

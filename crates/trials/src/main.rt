@@ -12,7 +12,6 @@ mod tally;
 fn main() {
     searches::regular();
     searches::grown();
-    faults::spoilt();
-    faults::others();
+    faults::all_groups();
     checks::all_groups();
 }

@@ -116,7 +116,7 @@ fn try_plan(t: Tally, p: Plan) -> Tally {
     let mut links = [255u64; 1030];
     let mut codes = [0u64; 4];
     lend(&mut links, &mut codes, &mut depots, &mut near, p);
-    let rec = record(codes, flags::count(&depots));
+    let rec = record(codes, p.size);
     starts(t, &links, rec, &depots, &near, p)
 }
 

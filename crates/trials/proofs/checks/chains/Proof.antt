@@ -11,21 +11,6 @@ Inv-loop codes pairs t₀ chain₀ t chain = chain ≤ 300
 abbrev μ-loop : tie.MeasureT-loop
 μ-loop codes pairs t₀ chain₀ t chain = 300 - chain
 
-slice-aggregate-rising : tie.Need-slice-aggregate-rising Inv-loop μ-loop
-slice-aggregate-rising c = search needs
-
-rising-requires : tie.Need-rising-requires Inv-loop μ-loop
-rising-requires c κs = search needs
-
-slice-aggregate-pack : tie.Need-slice-aggregate-pack Inv-loop μ-loop
-slice-aggregate-pack c = search needs
-
-slice-aggregate-pack-2 : tie.Need-slice-aggregate-pack-2 Inv-loop μ-loop
-slice-aggregate-pack-2 c = search needs
-
-pack-requires : tie.Need-pack-requires Inv-loop μ-loop
-pack-requires c κs = search needs
-
 start-requires : tie.Need-start-requires Inv-loop μ-loop
 start-requires c κs = search needs
 
@@ -53,11 +38,6 @@ chains-spec =
     (tie.spec
     Inv-loop
     μ-loop
-    slice-aggregate-rising
-    rising-requires
-    slice-aggregate-pack
-    slice-aggregate-pack-2
-    pack-requires
     start-requires
     loop-holds
     figures-are-requires

@@ -22,6 +22,9 @@ loop-holds c = search needs
 mul-flip-one : tie.Need-mul-flip-one Inv-loop μ-loop
 mul-flip-one c = search needs
 
+mul-flip-one-2 : tie.Need-mul-flip-one-2 Inv-loop μ-loop
+mul-flip-one-2 c = search needs
+
 add-flip-one : tie.Need-add-flip-one Inv-loop μ-loop
 add-flip-one c = search needs
 
@@ -52,6 +55,7 @@ single-bits-spec =
     start-requires
     loop-holds
     mul-flip-one
+    mul-flip-one-2
     add-flip-one
     flip-one-requires
     add-i
