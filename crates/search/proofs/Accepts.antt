@@ -1,7 +1,7 @@
 -- The refusals of a search one by one, and what an accepted one leaves. Assumes nothing.
 use mathlib.Core.Path.{_≡_, refl, sym, ap, ap₂, _∙_}
 use mathlib.Core.Bool.{true, false, not, _&&_}
-use mathlib.Core.List.{List, []}
+use mathlib.Core.List.{List, [], _∷_}
 use Prim.Native.Nat.{ℕ, zero, suc, _*_, _%_, _≤_, _<_}
 use native.Mathlib.Omega.{arith}
 use lib.Dec.{T, leb}
@@ -23,8 +23,40 @@ use Rattle.map.specs.Memory.{Shape, places, tableWords, IsShape, base, networkO
 use Rattle.map.specs.Sound.{soundLinks}
 use Rattle.map.specs.declared.Record.{Record}
 use Rattle.map.proofs.Theorems.{sound-links-iff}
-use Rattle.search.specs.SearchCall.{searchRoom, searchRefusal, searchLeft, searchGiven, searchCall, lastLayer}
+use Rattle.search.specs.SearchCall.{searchRoom, searchRefusal, SearchLeft, searchLeft, searchGiven, searchCall, lastLayer, rowsLeft, rowsOf}
+use Rattle.search.specs.declared.Found.{Found}
 use Rattle.search.specs.declared.Found.the-variants.{Reached, Refused}
+
+-- ---- the sizes, by the code's four tests, and back
+
+module _ (K : Shape) (l h e o : ℕ) where
+  pub room-all : tableWords K ≤ l → places K ≤ h → K .words ≤ e → K .words ≤ o → searchRoom K l h e o ≡ true
+  unfolding searchRoom
+  room-all a b c d = rw (le-leb (tableWords K) l a, le-leb (places K) h b, le-leb (K .words) e c, le-leb (K .words) o d)
+
+  pub room-table : l < tableWords K → searchRoom K l h e o ≡ false
+  unfolding searchRoom
+  room-table a = rw (lt-leb (tableWords K) l a)
+
+  pub room-hops : tableWords K ≤ l → h < places K → searchRoom K l h e o ≡ false
+  unfolding searchRoom
+  room-hops a b = rw (le-leb (tableWords K) l a, lt-leb (places K) h b)
+
+  pub room-even : tableWords K ≤ l → places K ≤ h → e < K .words → searchRoom K l h e o ≡ false
+  unfolding searchRoom
+  room-even a b c = rw (le-leb (tableWords K) l a, le-leb (places K) h b, lt-leb (K .words) e c)
+
+  pub room-odd : tableWords K ≤ l → places K ≤ h → K .words ≤ e → o < K .words → searchRoom K l h e o ≡ false
+  unfolding searchRoom
+  room-odd a b c d = rw (le-leb (tableWords K) l a, le-leb (places K) h b, le-leb (K .words) e c, lt-leb (K .words) o d)
+
+  pub room-fits : searchRoom K l h e o ≡ true → (tableWords K ≤ l) × (places K ≤ h) × (K .words ≤ e) × (K .words ≤ o)
+  unfolding searchRoom
+  room-fits r =
+      let r1 = and-true (leb (tableWords K) l && leb (places K) h && leb (K .words) e) (leb (K .words) o) r in
+      let r2 = and-true (leb (tableWords K) l && leb (places K) h) (leb (K .words) e) (r1 .0) in
+      let r3 = and-true (leb (tableWords K) l) (leb (places K) h) (r2 .0) in
+      (leb-true (tableWords K) l (r3 .0), leb-true (places K) h (r3 .1), leb-true (K .words) e (r2 .1), leb-true (K .words) o (r1 .1))
 
 -- ---- what no refusal says
 
@@ -43,21 +75,18 @@ module _ (K : Shape) (rec : Record) (links : List ℕ) (hops even odd code : ℕ
   G = networkOf (K .words) (rec .codes) links
 
   pub granted : searchRefusal K rec links hops even odd code ≡ 0 → IsGranted K rec links hops even odd code
-  unfolding searchRefusal searchRoom
+  unfolding searchRefusal
   granted z =
       let a = first-zero (not (searchRoom K (length links) hops even odd)) 0 _ z in
       let b = first-zero (not (soundLinks G (rec .number))) 1 _ (a .1) in
       let c = first-zero (not (connected G)) 2 _ (b .1) in
       let d = first-zero (not (G .isOpen code)) 3 [] (c .1) in
-      let r = not-false (searchRoom K (length links) hops even odd) (a .0) in
-      let r1 = and-true (leb (tableWords K) (length links) && leb (places K) hops && leb (K .words) even) (leb (K .words) odd) r in
-      let r2 = and-true (leb (tableWords K) (length links) && leb (places K) hops) (leb (K .words) even) (r1 .0) in
-      let r3 = and-true (leb (tableWords K) (length links)) (leb (places K) hops) (r2 .0) in
+      let r = room-fits K (length links) hops even odd (not-false (searchRoom K (length links) hops even odd) (a .0)) in
       record {
-        table = leb-true (tableWords K) (length links) (r3 .0);
-        hops-fit = leb-true (places K) hops (r3 .1);
-        even-fit = leb-true (K .words) even (r2 .1);
-        odd-fit = leb-true (K .words) odd (r1 .1);
+        table = r .0;
+        hops-fit = r .1;
+        even-fit = r .2;
+        odd-fit = r .3;
         links-sound = not-false (soundLinks G (rec .number)) (b .0);
         joined = not-false (connected G) (c .0);
         present = not-false (G .isOpen code) (d .0);
@@ -84,28 +113,6 @@ module _ (K : Shape) (rec : Record) (links : List ℕ) (hops even odd code : ℕ
   pub refused-never : searchRoom K (length links) hops even odd ≡ true → soundLinks G (rec .number) ≡ true → connected G ≡ true → G .isOpen code ≡ true → 0 ≡ searchRefusal K rec links hops even odd code
   unfolding searchRefusal firstOf
   refused-never a b c d = rw (a, b, c, d)
-
--- the sizes, by the code's four tests
-module _ (K : Shape) (l h e o : ℕ) where
-  pub room-all : tableWords K ≤ l → places K ≤ h → K .words ≤ e → K .words ≤ o → searchRoom K l h e o ≡ true
-  unfolding searchRoom
-  room-all a b c d = rw (le-leb (tableWords K) l a, le-leb (places K) h b, le-leb (K .words) e c, le-leb (K .words) o d)
-
-  pub room-table : l < tableWords K → searchRoom K l h e o ≡ false
-  unfolding searchRoom
-  room-table a = rw (lt-leb (tableWords K) l a)
-
-  pub room-hops : tableWords K ≤ l → h < places K → searchRoom K l h e o ≡ false
-  unfolding searchRoom
-  room-hops a b = rw (le-leb (tableWords K) l a, lt-leb (places K) h b)
-
-  pub room-even : tableWords K ≤ l → places K ≤ h → e < K .words → searchRoom K l h e o ≡ false
-  unfolding searchRoom
-  room-even a b c = rw (le-leb (tableWords K) l a, le-leb (places K) h b, lt-leb (K .words) e c)
-
-  pub room-odd : tableWords K ≤ l → places K ≤ h → K .words ≤ e → o < K .words → searchRoom K l h e o ≡ false
-  unfolding searchRoom
-  room-odd a b c d = rw (le-leb (tableWords K) l a, le-leb (places K) h b, le-leb (K .words) e c, lt-leb (K .words) o d)
 
 -- sound links, from the check's answer
 pub sound-by : (W : ℕ) (codes links : List ℕ) (number : ℕ) → soundLinks (networkOf W codes links) number ≡ true → IsSound (networkOf W codes links)
@@ -173,3 +180,14 @@ module _ (e : ℕ) (even odd : List ℕ) where
 
   pub last-short-odd : (e % 2 ≡ 0 → ⊥) → length odd < 4 → odd ≡ lastLayer 4 e even odd
   last-short-odd q l = sym (take-all 4 odd (omega arith)) ∙ last-odd q
+
+-- ---- the call that hands back both rows, by the answer
+
+module _ (left : SearchLeft) (r : Found) (hops even odd : List ℕ) (old : ℕ) (is : searchLeft r (tables hops even odd) ≡ left) where
+  pub rows-reached : (e : ℕ) (last : List ℕ) → r ≡ Reached e → last ≡ lastLayer 4 e even odd → rowsLeft (last ∷ even ∷ odd ∷ []) hops 0 e ≡ rowsOf 4 left old
+  unfolding rowsOf
+  rows-reached e last q t = rw (← is, q, t)
+
+  pub rows-refused : (k : ℕ) → r ≡ Refused k → rowsLeft ([] ∷ even ∷ odd ∷ []) hops k old ≡ rowsOf 4 left old
+  unfolding rowsOf
+  rows-refused k q = rw (← is, q)

@@ -2,3 +2,5 @@
 pub mod Connects
 -- the refusals of a search, and what an accepted one leaves
 pub mod Accepts
+-- which refusal, and what an accepted search leaves: by the published words
+pub mod Theorems

@@ -51,19 +51,39 @@ searchCall K rec links B code = searchGiven (searchRefusal K rec links (length (
 unfoldable pub lastLayer : ℕ → ℕ → List ℕ → List ℕ → List ℕ
 lastLayer W e even odd = take W (cond (eqb (e % 2) 0) even odd)
 
--- the part handed back, by the answer: nothing for a refusal
-abbrev pub lastOf : ℕ → SearchLeft → List ℕ
-lastOf W left = go (left .answer)
-  where
-    go : Found → List ℕ
-    go (Reached e) = lastLayer W e (left .lent .even) (left .lent .odd)
-    go (Refused k) = []
+-- ---- the same call with its last layer handed back beside both rows
 
--- this paper's number and value for each case of the answer: the refusal (0: none), and the eccentricity (0 for a refusal)
+-- this paper's number for each case of the answer: the refusal, 0 for none
 abbrev pub refusalOf : Found → ℕ
 refusalOf (Reached e) = 0
 refusalOf (Refused k) = k
 
-abbrev pub eccOf : Found → ℕ
-eccOf (Reached e) = e
-eccOf (Refused k) = 0
+-- the value of each case: the eccentricity; a refusal has only its number, so that what stood there stays
+abbrev pub eccOf : Found → ℕ → ℕ
+eccOf (Reached e) old = e
+eccOf (Refused k) old = old
+
+-- the part handed back: nothing for a refusal
+abbrev pub lastOf : ℕ → Found → List ℕ → List ℕ → List ℕ
+lastOf W (Reached e) even odd = lastLayer W e even odd
+lastOf W (Refused k) even odd = []
+
+-- what the call leaves: the part with both rows, the hop table, and the two numbers
+pub record RowsLeft : Type 0 where
+  pub rows : List (List ℕ)
+  pub hops : List ℕ
+  pub refusal : ℕ
+  pub ecc : ℕ
+
+abbrev pub rowsLeft : List (List ℕ) → List ℕ → ℕ → ℕ → RowsLeft
+rowsLeft rows hops refusal ecc = record { rows = rows; hops = hops; refusal = refusal; ecc = ecc }
+
+unfoldable pub rowsOf : ℕ → SearchLeft → ℕ → RowsLeft
+rowsOf W left old =
+    let B = left .lent in
+    record {
+      rows = lastOf W (left .answer) (B .even) (B .odd) ∷ B .even ∷ B .odd ∷ [];
+      hops = B .hops;
+      refusal = refusalOf (left .answer);
+      ecc = eccOf (left .answer) old;
+    }

@@ -11,7 +11,7 @@ ghost use Rattle.rows.specs.Rows.{rowBit};
 ghost use Rattle.layers.specs.Layers.{tables};
 ghost use Rattle.map.specs.Memory.{base, networkOf};
 ghost use Rattle.map.specs.Sound.{IsLent};
-ghost use Rattle.search.specs.SearchCall.{searchRefusal, searchLeft, searchCall, lastLayer};
+ghost use Rattle.search.specs.SearchCall.{searchRefusal, searchLeft, searchCall, lastLayer, rowsLeft, rowsOf};
 use map::Record;
 use rows::Next;
 
@@ -170,4 +170,36 @@ pub fn last_layer<'a>(even: &'a [u64], odd: &'a [u64], ecc: u16) -> &'a [u64]
         return odd;
     }
     &odd[..4]
+}
+
+// The search with its last layer handed back as part of the lent row that holds it, beside both rows, so that no word is left unsaid.
+// The answer goes into two numbers, since a lent enum is not covered: the refusal (0: none), and the eccentricity, which a refused call keeps.
+pub fn search_rows<'a>(
+    hops: &mut [u16],
+    even: &'a mut [u64],
+    odd: &'a mut [u64],
+    refusal: &mut u8,
+    ecc: &mut u16,
+    rec: Record,
+    links: &[u64],
+    code: u8,
+) -> [&'a [u64]; 3]
+    ensures { λ r. ⌜ rowsLeft (map now r) (now (hops .exit)) (now (refusal .exit)) (now (ecc .exit)) ≡ rowsOf 4 (searchCall base rec (now (links .entry)) (tables (now (hops .entry)) (now (even .entry)) (now (odd .entry))) code) (now (ecc .entry)) ⌝ }
+{
+    let found = search_from(hops, &mut *even, &mut *odd, rec, links, code);
+    let first = &even[..];
+    let second = &odd[..];
+    match found {
+        Found::Reached(e) => {
+            *refusal = 0;
+            *ecc = e;
+            let last = last_layer(first, second, e);
+            [last, first, second]
+        }
+        Found::Refused(k) => {
+            *refusal = k;
+            let last = &first[..0];
+            [last, first, second]
+        }
+    }
 }

@@ -1,0 +1,51 @@
+-- DEMAND 2 for the search, by the published words (Network.antt): what every accepted search answers and leaves, on any lent memory.
+-- `search-demand2` (proofs/Theorems) proves it for every shape; `Demand2 base` is document 01's.
+-- Assumes nothing.
+use mathlib.Core.Path.{_≡_}
+use mathlib.Core.Logic.{_↔_}
+use mathlib.Core.Bool.{false}
+use mathlib.Core.List.{List}
+use Prim.Native.Nat.{ℕ, zero, suc, _%_, _<_}
+use lib.Dec.{T}
+use lib.ListN.{length, getD, drop}
+use Rattle.graph.specs.Network.{Network, IsDist, IsEcc}
+use Rattle.graph.specs.Distance.{unreached}
+use Rattle.rows.specs.Rows.{rowBit}
+use Rattle.layers.specs.Layers.{Tables}
+use Rattle.map.specs.Memory.{Shape, places, networkOf}
+use Rattle.map.specs.declared.Record.{Record}
+use Rattle.search.specs.SearchCall.{searchRefusal, SearchLeft, searchCall, lastLayer}
+use Rattle.search.specs.declared.Found.the-variants.{Reached}
+
+-- the row holds exactly the depots at distance d from s
+abbrev pub HoldsLayer : ℕ → Network → ℕ → ℕ → List ℕ → Type 0
+HoldsLayer W G s d row = (v : ℕ) → T (rowBit W row v) ↔ IsDist G s v d
+
+-- the row holds exactly the layer before distance e, or no depot where e is 0
+abbrev pub HoldsBefore : ℕ → Network → ℕ → ℕ → List ℕ → Type 0
+HoldsBefore W G s zero row = (v : ℕ) → rowBit W row v ≡ false
+HoldsBefore W G s (suc d) row = HoldsLayer W G s d row
+
+-- a lent buffer keeps its size, and what stands past the first n places
+pub record KeepsPast (n : ℕ) (old new : List ℕ) : Type 0 where
+  pub size : length new ≡ length old
+  pub past : drop n new ≡ drop n old
+
+-- A search from s, lent the tables B: the eccentricity; the distance at each open code's place, 65,535 at each closed code's; the last layer in
+-- the row of the eccentricity's parity and the layer before it in the other; and the last layer again in the part that is handed back.
+pub record IsSearch (K : Shape) (G : Network) (s : ℕ) (B : Tables) (left : SearchLeft) : Type 0 where
+  pub ecc : ℕ
+  pub answer : left .answer ≡ Reached ecc
+  pub isEcc : IsEcc G (G .isOpen) s ecc
+  pub isHop : (v : ℕ) → T (G .isOpen v) → IsDist G s v (getD (left .lent .hops) v 0)
+  pub closed : (v : ℕ) → v < places K → (T (G .isOpen v) → ⊥) → getD (left .lent .hops) v 0 ≡ unreached
+  pub evenLast : ecc % 2 ≡ 0 → HoldsLayer (K .words) G s ecc (left .lent .even) × HoldsBefore (K .words) G s ecc (left .lent .odd)
+  pub oddLast : ecc % 2 ≡ 1 → HoldsLayer (K .words) G s ecc (left .lent .odd) × HoldsBefore (K .words) G s ecc (left .lent .even)
+  pub part : HoldsLayer (K .words) G s ecc (lastLayer (K .words) ecc (left .lent .even) (left .lent .odd))
+  pub hopsKept : KeepsPast (places K) (B .hops) (left .lent .hops)
+  pub evenKept : KeepsPast (K .words) (B .even) (left .lent .even)
+  pub oddKept : KeepsPast (K .words) (B .odd) (left .lent .odd)
+
+abbrev pub Demand2 : Shape → Type 0
+Demand2 K = (rec : Record) (links : List ℕ) (B : Tables) (code : ℕ) → searchRefusal K rec links (length (B .hops)) (length (B .even)) (length (B .odd)) code ≡ 0
+    → IsSearch K (networkOf (K .words) (rec .codes) links) code B (searchCall K rec links B code)
