@@ -70,7 +70,7 @@ module _ (K : Shape) (shape : IsShape K) (rec : Record) (links pairs : List ℕ)
   granted-links : AreLinksSound N (rec .number)
   granted-links = sound-links-iff (K .words) (rec .codes) links (rec .number) .0 (granted-sound .0)
 
-  granted-figures : AreFiguresSound N P (rec .chain) (rec .count)
+  pub granted-figures : AreFiguresSound N P (rec .chain) (rec .count)
   granted-figures = sound-figures-iff N P (rec .chain) (rec .count) .0 (granted-sound .1)
 
   limit-small : N .limit < unreached

@@ -18,3 +18,7 @@ pub mod Runs
 pub mod Orders
 -- THE THEOREMS: demands 2 and 3.
 pub mod Theorems
+-- The refusals, by the code's tests.
+pub mod Refuses
+-- What the parts of an opening leave, put together.
+pub mod Placed

@@ -11,3 +11,5 @@ pub mod Represents
 pub mod Demand2
 -- 6. DEMAND 3
 pub mod Demand3
+-- 7. the steps of the code
+pub mod Steps

@@ -20,6 +20,7 @@ use Rattle.outcome.specs.declared.Change.the-variants.{Grew, Kept, Shrank}
 use Rattle.outcome.specs.declared.Outcome.{Outcome}
 use Rattle.outcome.specs.declared.Outcome.the-variants.{Accepted, Refused}
 use Rattle.opening.specs.declared.Report.{Report}
+use Rattle.opening.specs.declared.Opened.{Opened as Answer}
 
 -- the answer's case for each way in which the chain moves
 unfoldable pub changeOf : Change → Outcome
@@ -50,6 +51,9 @@ pub record OpenLeft : Type 0 where
   pub after : Record
   pub links : List ℕ
   pub lent : Lent
+
+abbrev pub openLeft : Answer → List ℕ → Lent → OpenLeft
+openLeft r links B = record { report = r .report; after = r .after; links = links; lent = B }
 
 unfoldable pub openGiven : ℕ → Shape → Record → List ℕ → Lent → Notice → OpenLeft
 openGiven zero K rec links B o =

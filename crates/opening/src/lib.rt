@@ -1,3 +1,16 @@
+ghost use mathlib.Core.Path.{_≡_};
+ghost use mathlib.Core.Bool.{_||_};
+ghost use Prim.Native.Nat.{_≤_};
+ghost use lib.Dec.{eqb};
+ghost use lib.ListN.{length};
+ghost use Rattle.lists.specs.Lists.{overwrite};
+ghost use Rattle.rows.specs.Rows.{rowBit, encodeRow};
+ghost use Rattle.layers.specs.Layers.{tables};
+ghost use Rattle.map.specs.Memory.{base};
+ghost use Rattle.rounds.specs.Leaves.{lent};
+ghost use Rattle.rounds.specs.Sizes.{sizes};
+ghost use Rattle.opening.specs.OpenCall.{openRefusal, openLeft, openGiven, openCall};
+ghost use Rattle.opening.specs.Steps.{mapRefusal, noticeOf};
 use map::Record;
 use outcome::Outcome;
 
@@ -11,4 +24,169 @@ pub struct Report {
 pub struct Opened {
     pub report: Report,
     pub after: Record,
+}
+
+// ---- refusals
+
+// The first refusal of the lent memory, whatever the notice; 0 for none. It only reads.
+fn map_refusal(
+    rec: Record,
+    links: &[u64],
+    pairs: &[u64],
+    hops: usize,
+    bounds: usize,
+    skips: usize,
+    even: usize,
+    odd: usize,
+) -> u8
+    ensures { λ r. ⌜ r ≡ mapRefusal base rec (now (links .entry)) (now (pairs .entry)) (sizes (length (now (links .entry))) (length (now (pairs .entry))) hops bounds skips even odd) ⌝ }
+{
+    if !reckon::are_long(links.len(), pairs.len(), hops, bounds, skips, even, odd) {
+        return 1;
+    }
+    let codes = rec.codes;
+    if !map::links_are_sound(links, &codes, 4, rec.number) {
+        return 2;
+    }
+    if !map::figures_are_sound(pairs, &codes, 4, rec.chain, rec.count) {
+        return 2;
+    }
+    if !search::map_is_connected(links, &codes) {
+        return 3;
+    }
+    0
+}
+
+// The first refusal of an opening that holds, 0 for none. It only reads.
+fn open_refusal(
+    rec: Record,
+    links: &[u64],
+    pairs: &[u64],
+    hops: usize,
+    bounds: usize,
+    skips: usize,
+    even: usize,
+    odd: usize,
+    code: u8,
+    neighbours: &[u8],
+) -> u8
+    ensures { λ r. ⌜ r ≡ openRefusal base rec (now (links .entry)) (now (pairs .entry)) (sizes (length (now (links .entry))) (length (now (pairs .entry))) hops bounds skips even odd) (noticeOf code (now (neighbours .entry))) ⌝ }
+{
+    let refusal = map_refusal(rec, links, pairs, hops, bounds, skips, even, odd);
+    if refusal != 0 {
+        return refusal;
+    }
+    let codes = rec.codes;
+    admission::notice_refusal(&codes, 4, code, neighbours)
+}
+
+// ---- the opening
+
+// Puts the new code into the open set.
+fn put_code(codes: &mut [u64], code: u8)
+    requires { ⌜ 4 ≤ length (now codes) ⌝ }
+    ensures { λ r. ⌜ now (codes .exit) ≡ overwrite (encodeRow 4 (λ v. eqb v code || rowBit 4 (now (codes .entry)) v)) (now (codes .entry)) ⌝ }
+{
+    rows::row_set(codes, 4, 0, code as usize);
+}
+
+// The opening of a notice that nothing refuses: its links in place, then the figures.
+fn open_map(
+    rec: Record,
+    links: &mut [u64],
+    pairs: &mut [u64],
+    hops: &mut [u16],
+    bounds: &mut [u16],
+    skips: &mut [u16],
+    even: &mut [u64],
+    odd: &mut [u64],
+    code: u8,
+    neighbours: &[u8],
+) -> Opened
+    requires { ⌜ openRefusal base rec (now links) (now pairs) (sizes (length (now links)) (length (now pairs)) (length (now hops)) (length (now bounds)) (length (now skips)) (length (now even)) (length (now odd))) (noticeOf code (now neighbours)) ≡ 0 ⌝ }
+    ensures { λ r. ⌜ openLeft r (now (links .exit)) (lent (now (pairs .exit)) (tables (now (hops .exit)) (now (even .exit)) (now (odd .exit))) (now (bounds .exit)) (now (skips .exit))) ≡ openGiven 0 base rec (now (links .entry)) (lent (now (pairs .entry)) (tables (now (hops .entry)) (now (even .entry)) (now (odd .entry))) (now (bounds .entry)) (now (skips .entry))) (noticeOf code (now (neighbours .entry))) ⌝ }
+{
+    admission::link_depot(links, 4, code, neighbours);
+    let mut codes = rec.codes;
+    put_code(&mut codes, code);
+    let got = figures::refigure(
+        pairs,
+        hops,
+        bounds,
+        skips,
+        even,
+        odd,
+        &codes,
+        &*links,
+        code as usize,
+        rec.chain,
+        rec.count,
+    );
+    let after = Record {
+        codes: codes,
+        number: rec.number + 1,
+        chain: got.chain,
+        count: got.count,
+    };
+    let change = got.change;
+    let report = Report {
+        outcome: Outcome::Accepted(change),
+        searches: got.searches,
+    };
+    Opened {
+        report: report,
+        after: after,
+    }
+}
+
+// The opening of a depot, record in and out by value: grew, kept or shrank with the number of searches; or the first refusal that holds, and then
+// nothing is changed.
+pub fn open_step(
+    rec: Record,
+    links: &mut [u64],
+    pairs: &mut [u64],
+    hops: &mut [u16],
+    bounds: &mut [u16],
+    skips: &mut [u16],
+    even: &mut [u64],
+    odd: &mut [u64],
+    code: u8,
+    neighbours: &[u8],
+) -> Opened
+    ensures { λ r. ⌜ openLeft r (now (links .exit)) (lent (now (pairs .exit)) (tables (now (hops .exit)) (now (even .exit)) (now (odd .exit))) (now (bounds .exit)) (now (skips .exit))) ≡ openCall base rec (now (links .entry)) (lent (now (pairs .entry)) (tables (now (hops .entry)) (now (even .entry)) (now (odd .entry))) (now (bounds .entry)) (now (skips .entry))) (noticeOf code (now (neighbours .entry))) ⌝ }
+{
+    let refusal = open_refusal(
+        rec,
+        &*links,
+        &*pairs,
+        hops.len(),
+        bounds.len(),
+        skips.len(),
+        even.len(),
+        odd.len(),
+        code,
+        neighbours,
+    );
+    if refusal != 0 {
+        let report = Report {
+            outcome: Outcome::Refused(refusal),
+            searches: 0,
+        };
+        return Opened {
+            report: report,
+            after: rec,
+        };
+    }
+    open_map(
+        rec,
+        links,
+        pairs,
+        hops,
+        bounds,
+        skips,
+        even,
+        odd,
+        code,
+        neighbours,
+    )
 }

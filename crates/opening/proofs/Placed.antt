@@ -1,0 +1,169 @@
+-- WHAT THE PARTS OF AN OPENING LEAVE, put together: with the code in the open set and its links in place the memory holds the new network, whose
+-- figures the step asks for; and the step's answer is the call's. Assumes nothing.
+use mathlib.Core.Path.{_≡_, refl, sym, ap, ap₂, _∙_, subst}
+use mathlib.Core.Logic.{_⊎_, inl, inr}
+use mathlib.Core.Bool.{Bool, true, false, cond, _&&_, _||_}
+use mathlib.Core.List.{List}
+use Prim.Native.Nat.{ℕ, _+_, _*_, _^_, _≤_, _<_}
+use native.Mathlib.Omega.{arith}
+use lib.Dec.{T, eqb, ltb}
+use lib.ListN.{length, getD}
+use borrow.Author.Tests.{eq-eqb, ne-eqb, ltb-false}
+use Rattle.lists.specs.Lists.{range, memb, overwrite}
+use Rattle.lists.proofs.Tests.{look, or-left, or-right, true→t, t→true}
+use Rattle.graph.specs.Network.{Network}
+use Rattle.graph.specs.Distance.{vertices}
+use Rattle.graph.specs.Chart.{chart, countPairs}
+use Rattle.graph.specs.Opening.{Notice, addDepot, opening, grew, kept, shrank}
+use Rattle.graph.specs.Opening as Graph
+use Rattle.graph.specs.Correct.{IsNet}
+use Rattle.graph.proofs.Distances.{vertices-length}
+use Rattle.rows.specs.Rows.{rowBit, tableBit, encodeRow, encodeTable, putBit}
+use Rattle.rows.proofs.Puts.{put-row}
+use Rattle.rows.proofs.Wholes.{row-whole, encode-row-ext}
+use Rattle.rows.proofs.Written.{row-read}
+use Rattle.layers.specs.Layers.{tables}
+use Rattle.map.specs.Memory.{Shape, IsShape, places, tableWords, base, networkOf}
+use Rattle.map.specs.Sound.{AreFiguresSound}
+use Rattle.map.specs.declared.Record.{Record}
+use Rattle.map.proofs.Theorems.{network-linked-below}
+use Rattle.rounds.specs.Leaves.{Lent, lent, Ran, ran, ranBy, roundsLeave}
+use Rattle.rounds.specs.Sizes.{Sizes, sizes}
+use Rattle.reckon.proofs.Longs.{AreLong, are-long}
+use Rattle.outcome.specs.declared.Change.{Change}
+use Rattle.outcome.specs.declared.Outcome.{Outcome}
+use Rattle.outcome.specs.declared.Outcome.the-variants.{Accepted}
+use Rattle.admission.proofs.Theorems.{linked-after, linked-is}
+use Rattle.figures.specs.Figured.{changeAs, Figured, figured, figuredBy, IsFigurable}
+use Rattle.opening.specs.OpenCall.{changeOf, openRefusal, networkAfter, openedBy, OpenLeft, openLeft, openGiven}
+use Rattle.opening.specs.Steps.{noticeOf}
+use Rattle.opening.proofs.Grants.{granted-long, granted-net, granted-figures, held-after, number-after}
+use Rattle.opening.proofs.Theorems.{base-shape}
+
+-- ---- the open set
+
+or-cond : (x y : Bool) → cond x true y ≡ (x || y)
+or-cond true y = refl
+or-cond false y = refl
+
+pub code-put : (W code : ℕ) (codes : List ℕ) → code < 64 * W → W ≤ length codes → ((i : ℕ) → i < W → getD codes i 0 < 2 ^ 64)
+    → putBit W 0 code true codes ≡ overwrite (encodeRow W (λ v. eqb v code || rowBit W codes v)) codes
+code-put W code codes l n fits =
+    ap (putBit W 0 code true) (row-whole W codes n fits)
+    ∙ put-row W code true (rowBit W codes) codes l
+    ∙ ap (λ (r : List ℕ). overwrite r codes) (encode-row-ext W (λ v. cond (eqb v code) true (rowBit W codes v)) (λ v. eqb v code || rowBit W codes v) (λ v h. or-cond (eqb v code) (rowBit W codes v)))
+
+change-is : (c : Graph.Change) → changeOf c ≡ Accepted (changeAs c)
+unfolding changeOf changeAs
+change-is grew = refl
+change-is kept = refl
+change-is shrank = refl
+
+-- ---- the parts, put together
+
+module _ (rec : Record) (links p h b s x y : List ℕ) (code : ℕ) (ns : List ℕ)
+    (ok : openRefusal base rec links p (sizes (length links) (length p) (length h) (length b) (length s) (length x) (length y)) (noticeOf code ns) ≡ 0)
+    (byte : code < 256) (bytes : (k : ℕ) → k < length ns → getD ns k 0 < 256) where
+  abbrev o : Notice
+  o = noticeOf code ns
+
+  abbrev z : Sizes
+  z = sizes (length links) (length p) (length h) (length b) (length s) (length x) (length y)
+
+  abbrev B : Lent
+  B = lent p (tables h x y) b s
+
+  abbrev G : Network
+  G = networkOf 4 (rec .codes) links
+
+  abbrev H : Network
+  H = networkAfter base rec links o
+
+  pub long-is : AreLong base z
+  long-is = are-long base z (granted-long base base-shape rec links p z o ok)
+
+  -- the number open has room for one more
+  pub number-small : rec .number + 1 ≤ 256
+  number-small =
+      let held = held-after base base-shape rec links p z o ok byte in
+      omega (arith, number-after base base-shape rec links p z o ok byte, vertices-length H, held .limit)
+
+  open-is : H .isOpen ≡ (λ v. eqb v code || rowBit 4 (rec .codes) v)
+  unfolding networkAfter addDepot networkOf
+  open-is = refl
+
+  links-are : H .linked ≡ (λ u v. (eqb u code && memb v ns) || (eqb v code && memb u ns) || tableBit 4 links u v)
+  unfolding networkAfter
+  links-are = linked-is 4 (rec .codes) links code ns
+
+  module _ (after left : List ℕ) (put : after ≡ overwrite (encodeRow 4 (λ v. eqb v code || rowBit 4 (rec .codes) v)) (rec .codes))
+      (linked : left ≡ overwrite (encodeTable 4 (λ u v. (eqb u code && memb v ns) || (eqb v code && memb u ns) || tableBit 4 links u v)) links) where
+    open-bits : (v : ℕ) → rowBit 4 after v ≡ (eqb v code || rowBit 4 (rec .codes) v)
+    unfolding rowBit
+    open-bits v = ap (λ (r : List ℕ). rowBit 4 r v) put ∙ row-read 4 (λ v. eqb v code || rowBit 4 (rec .codes) v) (rec .codes) v ∙ go (look (ltb v 256))
+      where
+        go : (ltb v 256 ≡ true) ⊎ (ltb v 256 ≡ false) → (ltb v 256 && (eqb v code || rowBit 4 (rec .codes) v)) ≡ (eqb v code || rowBit 4 (rec .codes) v)
+        go (inl e) = rw e
+        go (inr e) = rw (e, ne-eqb v code (λ q. let l : 256 ≤ v = ltb-false v 256 e in omega arith))
+
+    pub network-is : networkOf 4 after left ≡ H
+    unfolding networkAfter
+    network-is = linked-after 4 code ns (omega arith) byte bytes (rec .codes) after links left open-bits linked
+
+    figures-are : AreFiguresSound G (tableBit 4 p) (rec .chain) (rec .count)
+    figures-are = granted-figures base base-shape rec links p z o ok
+
+    open-still : (v : ℕ) → T (G .isOpen v) → T (H .isOpen v)
+    unfolding networkAfter addDepot
+    open-still v t = true→t (or-right (eqb v code) (t→true (G .isOpen v) t))
+
+    open-new : T (H .isOpen code)
+    unfolding networkAfter addDepot
+    open-new = true→t (or-left (G .isOpen code) (eq-eqb code code refl))
+
+    pub figurable : 4 ≤ length after → length left ≡ length links → IsFigurable base after left B code (rec .chain) (rec .count)
+    unfolding networkOf
+    figurable row same =
+        let l = long-is in
+        let f = figures-are in
+        let e = network-is in
+        let below : (u v : ℕ) → T (tableBit 4 p u v) → (u < 256) × (v < 256) = network-linked-below 4 (rec .codes) p in
+        record {
+          table = subst (λ (n : ℕ). 1024 ≤ n) (sym same) (l .links-fit);
+          pairTable = l .pairs-fit;
+          hopPlaces = l .hops-fit;
+          evenRow = l .even-fit;
+          oddRow = l .odd-fit;
+          boundPlaces = l .bounds-fit;
+          skipPlaces = l .skips-fit;
+          codeRow = row;
+          net = subst IsNet (sym e) (held-after base base-shape rec links p z o ok byte .net);
+          present = subst (λ (N : Network). T (N .isOpen code)) (sym e) open-new;
+          rising = λ u v t. f .rising u v (below u v t .0) (below u v t .1) t;
+          ends = λ u v t.
+              let d = f .ends u v (below u v t .0) (below u v t .1) t in
+              (subst (λ (N : Network). T (N .isOpen u)) (sym e) (open-still u (d .0)), subst (λ (N : Network). T (N .isOpen v)) (sym e) (open-still v (d .1)));
+          counted = f .counted;
+          low = f .below;
+        }
+
+    -- what is left, of a state and an outcome
+    abbrev leftBy : Outcome → List ℕ → List ℕ → Ran → OpenLeft
+    leftBy oc codes l r = record {
+      report = record { outcome = oc; searches = r .searches };
+      after = record { codes = codes; number = rec .number + 1; chain = r .chain; count = r .count };
+      links = l;
+      lent = r .lent;
+    }
+
+    pub opened-is : (c : Change) (r : Ran) → figured c r ≡ figuredBy base (networkOf 4 after left) code (rec .chain) B
+        → leftBy (Accepted c) after left r ≡ openGiven 0 base rec links B o
+    unfolding openGiven openedBy figuredBy ranBy
+    opened-is c r e =
+        let q = e ∙ ap (λ (N : Network). figuredBy base N code (rec .chain) B) network-is in
+        let xo = opening (chart H) code (rec .chain) (tableBit 4 p) in
+        let R : Ran = ranBy base H (xo .final) B in
+        ap (λ (f : Figured). leftBy (Accepted (f .change)) after left (f .ran)) q
+        ∙ ap (λ (oc : Outcome). leftBy oc after left R) (sym (change-is (xo .change)))
+        ∙ ap (λ (cs : List ℕ). leftBy (changeOf (xo .change)) cs left R) (put ∙ ap (λ (f : ℕ → Bool). overwrite (encodeRow 4 f) (rec .codes)) (sym open-is))
+        ∙ ap (λ (ls : List ℕ). leftBy (changeOf (xo .change)) (overwrite (encodeRow 4 (H .isOpen)) (rec .codes)) ls R) (linked ∙ ap (λ (f : ℕ → ℕ → Bool). overwrite (encodeTable 4 f) links) (sym links-are))

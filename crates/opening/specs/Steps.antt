@@ -1,0 +1,26 @@
+-- THE STEPS OF THE CODE. Nobody has to believe these: the call answers by OpenCall.antt.
+-- Assumes nothing.
+use mathlib.Core.Bool.{not, _&&_}
+use mathlib.Core.List.{List, [], _∷_}
+use Prim.Native.Nat.{ℕ}
+use Rattle.lists.specs.Lists.{firstOf}
+use Rattle.graph.specs.Distance.{connected}
+use Rattle.graph.specs.Opening.{Notice}
+use Rattle.rows.specs.Rows.{tableBit}
+use Rattle.map.specs.Memory.{Shape, networkOf}
+use Rattle.map.specs.Sound.{soundLinks, soundFigures}
+use Rattle.map.specs.declared.Record.{Record}
+use Rattle.rounds.specs.Sizes.{Sizes, longEnough}
+
+-- the first refusal of the lent memory alone, whatever the notice: 1 short, 2 spoilt, 3 apart; 0: none
+unfoldable pub mapRefusal : Shape → Record → List ℕ → List ℕ → Sizes → ℕ
+mapRefusal K rec links pairs sizes =
+    let G = networkOf (K .words) (rec .codes) links in
+    firstOf
+    ((not (longEnough K sizes), 1)
+    ∷ (not (soundLinks G (rec .number) && soundFigures G (tableBit (K .words) pairs) (rec .chain) (rec .count)), 2)
+    ∷ (not (connected G), 3)
+    ∷ [])
+
+abbrev pub noticeOf : ℕ → List ℕ → Notice
+noticeOf code neighbours = record { code = code; neighbours = neighbours }
