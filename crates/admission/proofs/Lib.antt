@@ -1,0 +1,8 @@
+-- Lists read by place.
+pub mod Listed
+-- The refusals of a notice one by one.
+pub mod Notices
+-- The links of a new depot, neighbour by neighbour.
+pub mod Linking
+-- What a caller has of the refusals and the links.
+pub mod Theorems

@@ -1,0 +1,98 @@
+-- WHAT A CALLER HAS: the refusals 5 to 8 do not look at links, and the linked table is the network with the new depot. Assumes nothing.
+use mathlib.Core.Path.{_≡_, refl, sym, ap, ap₂, _∙_, fun-ext}
+use mathlib.Core.Logic.{_≢_, _⊎_, inl, inr}
+use mathlib.Core.Bool.{Bool, true, false, _&&_, _||_}
+use mathlib.Core.List.{List, [], _∷_}
+use Prim.Native.Nat.{ℕ, suc, _*_, _≤_, _<_}
+use native.Mathlib.Omega.{arith}
+use lib.Dec.{eqb}
+use lib.ListN.{length, getD}
+use borrow.Author.Tests.{eq-eqb, ne-eqb}
+use Rattle.lists.specs.Lists.{anyb, memb, overwrite}
+use Rattle.lists.proofs.Tests.{or-left, lt-or-ge, eq-or-ne}
+use Rattle.graph.specs.Network.{Network}
+use Rattle.graph.specs.Opening.{Notice, noticeFaults, addDepot}
+use Rattle.rows.specs.Rows.{rowBit, tableBit, encodeTable, putBit, InTable}
+use Rattle.rows.proofs.Written.{table-zero, table-agree, table-at}
+use Rattle.rows.proofs.Puts.{put-here, put-rest}
+use Rattle.map.specs.Memory.{networkOf}
+
+-- `notice_refusal` is lent no links, and its answer is that of the map with any
+pub faults-any-links : (W : ℕ) (codes l k : List ℕ) (o : Notice) → noticeFaults (networkOf W codes l) o ≡ noticeFaults (networkOf W codes k) o
+unfolding noticeFaults networkOf
+faults-any-links W codes l k o = refl
+
+-- what `link_depot` encodes is the links of the network with the new depot
+pub linked-is : (W : ℕ) (codes links : List ℕ) (code : ℕ) (ns : List ℕ)
+    → addDepot (networkOf W codes links) code ns .linked ≡ (λ u v. (eqb u code && memb v ns) || (eqb v code && memb u ns) || tableBit W links u v)
+unfolding addDepot networkOf
+linked-is W codes links code ns = refl
+
+-- ---- the network after an opening
+
+-- the open set after `row_set` at row 0, as `linked-after` asks for it
+pub open-after : (W code : ℕ) (codes : List ℕ) → W ≤ length codes → code < 64 * W → (v : ℕ) → rowBit W (putBit W 0 code true codes) v ≡ (eqb v code || rowBit W codes v)
+open-after W code codes l m v = sym (table-zero W (putBit W 0 code true codes) v) ∙ go (eq-or-ne v code)
+  where
+    inside : InTable W codes 0 code
+    inside = record { row = omega arith; below = omega arith; column = m }
+
+    go : (v ≡ code) ⊎ (v ≢ code) → tableBit W (putBit W 0 code true codes) 0 v ≡ (eqb v code || rowBit W codes v)
+    go (inl q) = ap (tableBit W (putBit W 0 code true codes) 0) q ∙ put-here W 0 code true codes inside ∙ sym (or-left (rowBit W codes v) (eq-eqb v code q))
+    go (inr q) =
+        put-rest W 0 code true codes inside 0 v (λ r. q (r .1))
+        ∙ table-zero W codes v
+        ∙ sym (ap (λ (b : Bool). b || rowBit W codes v) (ne-eqb v code q))
+
+-- no number past the bytes is listed
+memb-past : (v : ℕ) (ns : List ℕ) → ((k : ℕ) → k < length ns → getD ns k 0 < 256) → 256 ≤ v → memb v ns ≡ false
+unfolding memb anyb
+memb-past v [] h l = refl
+memb-past v (x ∷ xs) h l = rw (ne-eqb v x (λ q. head q (h 0 (omega arith))), memb-past v xs (λ k m. h (suc k) (omega arith)) l)
+  where
+    head : v ≡ x → x < 256 → ⊥
+    head q m = omega arith
+
+module _ (W code : ℕ) (ns : List ℕ) (wide : 4 ≤ W) (byte : code < 256) (bytes : (k : ℕ) → k < length ns → getD ns k 0 < 256) where
+  -- beyond the table the new depot has no link
+  row-past : (u v : ℕ) (t : Bool) → 64 * W ≤ u → t ≡ ((eqb u code && memb v ns) || (eqb v code && memb u ns) || t)
+  row-past u v t l = rw (ne-eqb u code (λ q. omega arith), memb-past u ns bytes (omega arith)) (go (eqb v code))
+    where
+      go : (b : Bool) → t ≡ ((b && false) || t)
+      go true = refl
+      go false = refl
+
+  column-past : (u v : ℕ) (t : Bool) → 64 * W ≤ v → t ≡ ((eqb u code && memb v ns) || (eqb v code && memb u ns) || t)
+  column-past u v t l = rw (ne-eqb v code (λ q. omega arith), memb-past v ns bytes (omega arith)) (go (eqb u code))
+    where
+      go : (b : Bool) → t ≡ ((b && false) || false || t)
+      go true = refl
+      go false = refl
+
+  table-linked : (links : List ℕ) (u v : ℕ)
+      → tableBit W (overwrite (encodeTable W (λ u v. (eqb u code && memb v ns) || (eqb v code && memb u ns) || tableBit W links u v)) links) u v
+      ≡ ((eqb u code && memb v ns) || (eqb v code && memb u ns) || tableBit W links u v)
+  table-linked links u v = go (lt-or-ge u (64 * W)) (lt-or-ge v (64 * W))
+    where
+      f : ℕ → ℕ → Bool
+      f u v = (eqb u code && memb v ns) || (eqb v code && memb u ns) || tableBit W links u v
+
+      left : List ℕ
+      left = overwrite (encodeTable W f) links
+
+      go : (u < 64 * W) ⊎ (64 * W ≤ u) → (v < 64 * W) ⊎ (64 * W ≤ v) → tableBit W left u v ≡ f u v
+      go (inl l) (inl m) = table-at W f links u v l m
+      go (inl l) (inr m) = table-agree W left links u v (λ a b. absurd (omega arith)) ∙ column-past u v (tableBit W links u v) m
+      go (inr l) m = table-agree W left links u v (λ a b. absurd (omega arith)) ∙ row-past u v (tableBit W links u v) l
+
+  -- THE NEW NETWORK: an open set with the code put, and the table that `link_depot` leaves
+  pub linked-after : (codes after links left : List ℕ) → ((v : ℕ) → rowBit W after v ≡ (eqb v code || rowBit W codes v))
+      → left ≡ overwrite (encodeTable W (λ u v. (eqb u code && memb v ns) || (eqb v code && memb u ns) || tableBit W links u v)) links
+      → networkOf W after left ≡ addDepot (networkOf W codes links) code ns
+  unfolding addDepot networkOf
+  linked-after codes after links left h e =
+      ap₂ (λ (p : ℕ → Bool) (l : ℕ → ℕ → Bool). of p l) (fun-ext h)
+      (ap (tableBit W) e ∙ fun-ext (λ u. fun-ext (λ v. table-linked links u v)))
+    where
+      of : (ℕ → Bool) → (ℕ → ℕ → Bool) → Network
+      of p l = record { limit = 64 * W; isOpen = p; linked = l }

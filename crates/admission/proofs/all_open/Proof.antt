@@ -1,0 +1,64 @@
+-- `admission::all_open` meets its contract. The loop's invariant: each code before place i is open. The measure is the places left.
+-- Assumes nothing.
+use mathlib.Core.Path.{_≡_, sym}
+use mathlib.Core.Bool.{true}
+use Prim.Native.Nat.{ℕ, _-_, _<_}
+use native.Mathlib.Omega.{arith}
+use lib.ListN.{length, getD}
+use Rattle.rows.specs.Rows.{rowBit}
+use Rattle.map.proofs.Sets.{test-failed, test-passed}
+use Rattle.admission.proofs.Listed.{listed-more, listed-end, listed-fault}
+use borrow.Author.Needs.{needs}
+use Rattle.admission.proofs.all_open.Statement.{statement}
+use Rattle.admission.proofs.all_open.Tie as tie
+
+abbrev Inv-loop : tie.InvT-loop
+Inv-loop codes words neighbours i₀ i = (k : ℕ) → k < i → rowBit words codes (getD neighbours k 0) ≡ true
+
+abbrev μ-loop : tie.MeasureT-loop
+μ-loop codes words neighbours i₀ i = length neighbours - i
+
+loop-holds : tie.Need-loop-holds Inv-loop μ-loop
+loop-holds c k l = absurd (omega arith)
+
+shared-slice-read-v : tie.Need-shared-slice-read-v Inv-loop μ-loop
+shared-slice-read-v c = search needs
+
+cast-v : tie.Need-cast-v Inv-loop μ-loop
+cast-v c = omega (arith, c .shared-slice-known3 .given (c .before .before .loop .i))
+
+is-open-requires : tie.Need-is-open-requires Inv-loop μ-loop
+is-open-requires c κs = (c .before .before .before .before .before .pre .2, omega (arith, c .shared-slice-known3 .given (c .before .before .loop .i), c .before .before .before .before .before .pre .0))
+
+returns : tie.Need-returns Inv-loop μ-loop
+returns c = sym (listed-fault _ _ _ (c .before .before .before .loop-test .taken) (test-failed (c .before .is-open .ensures) (c .if1 .taken)))
+
+add-i : tie.Need-add-i Inv-loop μ-loop
+add-i c = search needs
+
+loop-less : tie.Need-loop-less Inv-loop μ-loop
+loop-less c = search needs
+
+loop-again : tie.Need-loop-again Inv-loop μ-loop
+loop-again c =
+    let a = c .before .before .before .before .before .before .before .args in
+    listed-more (rowBit (a .words) (a .codes .now)) (a .neighbours .now) _ (c .before .before .before .before .loop .inv) (test-passed (c .before .is-open .ensures) (c .if1 .left))
+
+returns-2 : tie.Need-returns-2 Inv-loop μ-loop
+returns-2 c = sym (listed-end _ _ _ (c .before .loop .inv) (c .loop-test .left))
+
+pub all-open-spec : {M : Type 1} → statement M
+all-open-spec =
+    tie.close
+    (tie.spec
+    Inv-loop
+    μ-loop
+    loop-holds
+    shared-slice-read-v
+    cast-v
+    is-open-requires
+    returns
+    add-i
+    loop-less
+    loop-again
+    returns-2)

@@ -1,0 +1,93 @@
+// Whether a notice may be opened (refusals 5 to 8), and the links of the depot that it opens. A row of words may be 4 to 512 long: a code is a
+// byte, and so stands in a row.
+ghost use mathlib.Core.Path.{_≡_};
+ghost use mathlib.Core.Bool.{_&&_, _||_, not};
+ghost use mathlib.Core.List.{[]};
+ghost use Prim.Native.Nat.{_*_, _<_, _≤_};
+ghost use lib.Dec.{eqb};
+ghost use lib.ListN.{length};
+ghost use Rattle.lists.specs.Lists.{allb, memb, overwrite, firstOf};
+ghost use Rattle.graph.specs.Distance.{vertices};
+ghost use Rattle.graph.specs.Opening.{strictlyRising, isEmpty, noticeFaults};
+ghost use Rattle.rows.specs.Rows.{rowBit, tableBit, encodeTable};
+ghost use Rattle.map.specs.Memory.{networkOf};
+
+// ---- refusals 5 to 8
+
+// Whether no depot is named and some are open: the depot would be alone.
+fn is_lonely(codes: &[u64], words: usize, neighbours: &[u8]) -> bool
+    requires { ⌜ words ≤ length (now codes) ⌝ }
+    ensures { λ r. ⌜ r ≡ (isEmpty (now (neighbours .entry)) && not (isEmpty (vertices (networkOf words (now (codes .entry)) [])))) ⌝ }
+{
+    if neighbours.len() != 0 {
+        return false;
+    }
+    !rows::is_empty(codes, words)
+}
+
+// Whether each code is above the one before it.
+fn is_rising(neighbours: &[u8]) -> bool
+    ensures { λ r. ⌜ r ≡ strictlyRising (now (neighbours .entry)) ⌝ }
+{
+    let mut i: usize = 1;
+    while i < neighbours.len() {
+        if neighbours[i] <= neighbours[i - 1] {
+            return false;
+        }
+        i += 1;
+    }
+    true
+}
+
+// Whether each code is open.
+fn all_open(codes: &[u64], words: usize, neighbours: &[u8]) -> bool
+    requires { ⌜ (4 ≤ words) × (words < 513) × (words ≤ length (now codes)) ⌝ }
+    ensures { λ r. ⌜ r ≡ allb (rowBit words (now (codes .entry))) (now (neighbours .entry)) ⌝ }
+{
+    let mut i: usize = 0;
+    while i < neighbours.len() {
+        let v = neighbours[i] as usize;
+        if !map::is_open(codes, words, v) {
+            return false;
+        }
+        i += 1;
+    }
+    true
+}
+
+// The first of the refusals 5 to 8 that holds, 0 for none. They ask only which codes are open, so no link is lent.
+pub fn notice_refusal(codes: &[u64], words: usize, code: u8, neighbours: &[u8]) -> u8
+    requires { ⌜ (4 ≤ words) × (words < 513) × (words ≤ length (now codes)) ⌝ }
+    ensures { λ r. ⌜ r ≡ firstOf (noticeFaults (networkOf words (now (codes .entry)) []) (record { code = code; neighbours = now (neighbours .entry) })) ⌝ }
+{
+    if map::is_open(codes, words, code as usize) {
+        return 5;
+    }
+    if is_lonely(codes, words, neighbours) {
+        return 6;
+    }
+    if !is_rising(neighbours) {
+        return 7;
+    }
+    if !all_open(codes, words, neighbours) {
+        return 8;
+    }
+    0
+}
+
+// ---- the links of a new depot
+
+// Links a code with each neighbour, both ways.
+pub fn link_depot(links: &mut [u64], words: usize, code: u8, neighbours: &[u8])
+    requires { ⌜ (4 ≤ words) × (words < 513) × (words * (64 * words) ≤ length (now links)) ⌝ }
+    ensures { λ r. ⌜ now (links .exit) ≡ overwrite (encodeTable words (λ u v. (eqb u code && memb v (now (neighbours .entry))) || (eqb v code && memb u (now (neighbours .entry))) || tableBit words (now (links .entry)) u v)) (now (links .entry)) ⌝ }
+{
+    let a = code as usize;
+    let mut i: usize = 0;
+    while i < neighbours.len() {
+        let v = neighbours[i] as usize;
+        rows::row_set(links, words, a, v);
+        rows::row_set(links, words, v, a);
+        i += 1;
+    }
+}
