@@ -2,3 +2,7 @@
 pub mod Longs
 -- the refusals of a reckoning, and what an accepted one leaves
 pub mod Reckons
+-- the tables that the rounds leave, read back
+pub mod Marks
+-- THE THEOREM: demand 2
+pub mod Theorems
