@@ -4,5 +4,7 @@ pub mod Longs
 pub mod Reckons
 -- the tables that the rounds leave, read back
 pub mod Marks
+-- what they say of a depot that was not searched
+pub mod Skips
 -- THE THEOREM: demand 2
 pub mod Theorems

@@ -33,6 +33,7 @@ use Rattle.reckon.specs.declared.Reckoning.the-variants.{Refused}
 use Rattle.reckon.proofs.Longs.{AreLong}
 use Rattle.reckon.proofs.Reckons.{base-shape, granted-long, granted-tests, granted-net}
 use Rattle.reckon.proofs.Marks.{over-keeps, last-memb, pairs-read, skip-marks, skips-counted, few-searches, bound-ecc}
+use Rattle.reckon.proofs.Skips.{skip-bound, closed-at}
 
 limit-of : (W : ℕ) (codes links : List ℕ) → networkOf W codes links .limit ≡ 64 * W
 unfolding networkOf
@@ -114,6 +115,8 @@ module _ (K : Shape) (shape : IsShape K) (rec : Record) (links : List ℕ) (B : 
     inside = correct .references .inside;
     cover = correct .cover;
     eccentricity = bound-ecc K G limit-is below shape S (correct .references) (B .bounds);
+    skipped = skip-bound K (rec .codes) links net (B .skips) (B .bounds);
+    closed = closed-at K (rec .codes) links net (B .skips) (B .bounds);
     searched = last-search;
     unsearched = no-search;
     pairsKept = over-keeps _ _ (B .pairs) (encode-table-length (K .words) (S .pairs)) (long .pairs-fit);

@@ -6,11 +6,12 @@ use mathlib.Core.Path.{_≡_}
 use mathlib.Core.Logic.{_↔_}
 use mathlib.Core.Bool.{not}
 use mathlib.Core.List.{List, [], _∷_}
-use Prim.Native.Nat.{ℕ, suc, _≤_, _<_}
+use Prim.Native.Nat.{ℕ, suc, _+_, _≤_, _<_}
 use lib.Dec.{T, eqb}
 use lib.ListN.{getD}
 use Rattle.lists.specs.Lists.{range, countb, memb, lastOr}
-use Rattle.graph.specs.Network.{Network, IsEcc, IsDiameter, IsFarthest}
+use Rattle.graph.specs.Network.{Network, IsDist, IsEcc, IsDiameter, IsFarthest}
+use Rattle.graph.specs.Distance.{unreached}
 use Rattle.graph.specs.Chart.{chart, countPairs}
 use Rattle.graph.specs.Rounds.{reckon}
 use Rattle.graph.specs.Correct.{IsCovered}
@@ -24,6 +25,16 @@ use Rattle.rounds.specs.Leaves.{Lent}
 use Rattle.rounds.specs.Sizes.{sizesOf}
 use Rattle.reckon.specs.ReckonCall.{reckonRefusal, ReckonLeft}
 use Rattle.reckon.specs.declared.Reckoning.the-variants.{Searches, Refused}
+
+-- The depot v was skipped by right: the reference's eccentricity plus the distance between them is v's bound, and that is below the chain.
+pub record IsSkipped (G : Network) (references : List ℕ) (chain v reference bound : ℕ) : Type 0 where
+  pub isReference : T (memb reference references)
+  pub ecc : ℕ
+  pub isEcc : IsEcc G (G .isOpen) reference ecc
+  pub distance : ℕ
+  pub isDist : IsDist G reference v distance
+  pub isBound : bound ≡ ecc + distance
+  pub below : bound < chain
 
 -- A whole reckoning of G, lent the tables B; references are the depots that the rules search from, in order.
 pub record IsReckoning (K : Shape) (G : Network) (rec : Record) (B : Lent) (references : List ℕ) (left : ReckonLeft) : Type 0 where
@@ -43,6 +54,9 @@ pub record IsReckoning (K : Shape) (G : Network) (rec : Record) (B : Lent) (refe
   pub inside : (v : ℕ) → T (memb v references) → T (G .isOpen v)
   pub cover : (v : ℕ) → T (G .isOpen v) → T (not (memb v references)) → IsCovered G references (left .reckoned .after .chain) v
   pub eccentricity : (v : ℕ) → T (memb v references) → IsEcc G (G .isOpen) v (getD (left .lent .bounds) v 0)
+  -- skip and bound table say so of each depot that was not searched; a closed code has the other mark and 65,535
+  pub skipped : (v : ℕ) → T (G .isOpen v) → T (not (memb v references)) → IsSkipped G references (left .reckoned .after .chain) v (getD (left .lent .skips) v 0) (getD (left .lent .bounds) v 0)
+  pub closed : (v : ℕ) → v < places K → (T (G .isOpen v) → ⊥) → (getD (left .lent .skips) v 0 ≡ K .otherMark) × (getD (left .lent .bounds) v 0 ≡ unreached)
   -- hop table and layer rows are left as the last search leaves them, unchanged without a search
   pub searched : (r : ℕ) (rs : List ℕ) → references ≡ r ∷ rs → (e : ℕ) × IsSearch K G (lastOr r rs) (B .searched) (searchLeft (Reached e) (left .lent .searched))
   pub unsearched : references ≡ [] → left .lent .searched ≡ B .searched
