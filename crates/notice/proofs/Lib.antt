@@ -1,0 +1,16 @@
+-- A list written over a buffer element by element.
+pub mod Copies
+-- The sixteen digits.
+pub mod Digits
+-- Bytes to digits and back.
+pub mod Spelling
+-- Where a line ends, and loops that an element decides.
+pub mod Ends
+-- The tests of a frame, and of digits that spell one.
+pub mod Tests
+-- What the two calls answer, way out by way out.
+pub mod Answers
+-- The theorems: reader and writer undo each other, so each frame has exactly one line.
+pub mod Theorems
+-- The document's line, computed.
+pub mod Examples

@@ -1,0 +1,52 @@
+-- `notice::line_end` meets its contract. The invariant: the end is as far from the place reached as what is left says.
+-- The measure is what is left of the length. Assumes nothing.
+use native.Mathlib.Nat.{zero-add}
+use mathlib.Core.Path.{_≡_, sym, _∙_}
+use Prim.Native.Nat.{_≤_, _+_, _-_}
+use lib.ListN.{length, drop}
+use Rattle.notice.specs.Lines.{endOf}
+use Rattle.notice.proofs.Ends.{end-more, end-here, end-out}
+use borrow.Author.Needs.{needs}
+use Rattle.notice.proofs.line_end.Statement.{statement}
+use Rattle.notice.proofs.line_end.Tie as tie
+
+abbrev Inv-loop : tie.InvT-loop
+Inv-loop s i₀ i = (i ≤ length s) × (endOf s ≡ i + endOf (drop i s))
+
+abbrev μ-loop : tie.MeasureT-loop
+μ-loop s i₀ i = length s - i
+
+loop-holds : tie.Need-loop-holds Inv-loop μ-loop
+loop-holds c = (search needs, sym (zero-add _))
+
+shared-slice-read-if1 : tie.Need-shared-slice-read-if1 Inv-loop μ-loop
+shared-slice-read-if1 c = search needs
+
+returns : tie.Need-returns Inv-loop μ-loop
+returns c = end-here _ _ (c .before .before .loop-test .taken) (c .if1 .taken) ∙ sym (c .before .before .before .loop .inv .1)
+
+add-i : tie.Need-add-i Inv-loop μ-loop
+add-i c = search needs
+
+loop-less : tie.Need-loop-less Inv-loop μ-loop
+loop-less c = search needs
+
+loop-again : tie.Need-loop-again Inv-loop μ-loop
+loop-again c = (search needs, c .before .before .before .loop .inv .1 ∙ end-more _ _ (c .before .before .loop-test .taken) (c .if1 .left))
+
+returns-2 : tie.Need-returns-2 Inv-loop μ-loop
+returns-2 c = end-out _ _ (c .loop-test .left) ∙ sym (c .before .loop .inv .1)
+
+pub line-end-spec : {M : Type 1} → statement M
+line-end-spec =
+    tie.close
+    (tie.spec
+    Inv-loop
+    μ-loop
+    loop-holds
+    shared-slice-read-if1
+    returns
+    add-i
+    loop-less
+    loop-again
+    returns-2)

@@ -1,0 +1,24 @@
+-- `notice::value` meets its contract: a digit is at least 48, and what is left of it is below 16.
+-- Assumes nothing.
+use mathlib.Core.Path.{subst}
+use Prim.Native.Nat.{ℕ, _<_}
+use mathlib.Core.Path.{sym}
+use Rattle.notice.proofs.Digits.{digit-least, value-numeral, value-letter, value-below}
+use borrow.Author.Needs.{needs}
+use Rattle.notice.proofs.value.Statement.{statement}
+use Rattle.notice.proofs.value.Tie as tie
+
+sub-result : tie.Need-sub-result
+sub-result c = digit-least _ (c .before .pre)
+
+sub-result-2 : tie.Need-sub-result-2
+sub-result-2 c = search needs
+
+returns : tie.Need-returns
+returns c = (sym (value-numeral _ (c .if1 .taken)), subst (λ (n : ℕ). n < 16) (value-numeral _ (c .if1 .taken)) (value-below _ (c .before .pre)))
+
+returns-2 : tie.Need-returns-2
+returns-2 c = (sym (value-letter _ (c .if1 .left)), subst (λ (n : ℕ). n < 16) (value-letter _ (c .if1 .left)) (value-below _ (c .before .pre)))
+
+pub value-spec : {M : Type 1} → statement M
+value-spec = tie.close (tie.spec sub-result sub-result-2 returns returns-2)

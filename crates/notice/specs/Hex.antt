@@ -1,0 +1,16 @@
+-- The sixteen digits of a notice line, upper case only. Assumes nothing.
+use mathlib.Core.Bool.{Bool, cond, _&&_, _||_}
+use Prim.Native.Nat.{ℕ, _+_, _-_}
+use lib.Dec.{ltb, leb}
+
+-- the character of a number below 16: 0 to 9, then A to F
+unfoldable pub hexDigit : ℕ → ℕ
+hexDigit d = cond (ltb d 10) (48 + d) (55 + d)
+
+-- one of 0 to 9 or A to F
+unfoldable pub isDigit : ℕ → Bool
+isDigit c = (leb 48 c && leb c 57) || (leb 65 c && leb c 70)
+
+-- the number below 16 that a digit stands for
+unfoldable pub digitValue : ℕ → ℕ
+digitValue c = cond (ltb c 65) (c - 48) (c - 55)

@@ -1,0 +1,63 @@
+-- Notice lines, after the document: upper-case hexadecimal, one frame a line, ended by the byte 0A. Assumes nothing.
+use mathlib.Core.Bool.{Bool, cond, _&&_}
+use mathlib.Core.List.{List, [], _∷_, _++_}
+use Prim.Native.Nat.{ℕ, suc, _+_, _*_, _/_, _%_}
+use lib.Dec.{eqb, ltb}
+use lib.ListN.{length, getD, take}
+use Rattle.lists.specs.Lists.{allb}
+use Rattle.notice.specs.Hex.{hexDigit, isDigit, digitValue}
+
+-- the most bytes that a line has, its ending counted: 2 digits for each of 258 bytes, and 0A
+abbrev pub lineLimit : ℕ
+lineLimit = 517
+
+-- the byte that ends a line, 0A
+abbrev pub lineEnd : ℕ
+lineEnd = 10
+
+-- a number that a byte holds
+unfoldable pub isByte : ℕ → Bool
+isByte b = ltb b 256
+
+-- a frame: the kind 01, a code, the number of neighbours, and that many neighbours
+unfoldable pub isFrame : List ℕ → Bool
+isFrame f = eqb (getD f 0 0) 1 && eqb (length f) (3 + getD f 2 0)
+
+-- two digits for each byte, the high one first
+unfoldable pub digitsOf : List ℕ → List ℕ
+digitsOf [] = []
+digitsOf (b ∷ bs) = hexDigit (b / 16) ∷ hexDigit (b % 16) ∷ digitsOf bs
+
+-- the line of a frame
+unfoldable pub lineOf : List ℕ → List ℕ
+lineOf f = digitsOf f ++ lineEnd ∷ []
+
+-- the byte that each two digits spell; a last digit without a second one spells none
+unfoldable pub bytesOf : List ℕ → List ℕ
+bytesOf [] = []
+bytesOf (h ∷ []) = []
+bytesOf (h ∷ l ∷ ds) = (16 * digitValue h + digitValue l) ∷ bytesOf ds
+
+-- how many bytes stand before the first 0A; all of them where there is none
+unfoldable pub endOf : List ℕ → ℕ
+endOf [] = 0
+endOf (c ∷ cs) = cond (eqb c lineEnd) 0 (suc (endOf cs))
+
+-- only digits, an even number of them, that spell a frame
+unfoldable pub spellsFrame : List ℕ → Bool
+spellsFrame ds = allb isDigit ds && (eqb (length ds % 2) 0 && isFrame (bytesOf ds))
+
+-- what stands at the start of the input: a frame with the number of bytes that its line takes, or nothing that reads
+pub data Line : Type 0 where
+  garbled : Line
+  frame : List ℕ → ℕ → Line
+
+-- a line that ends within these bytes and spells a frame before its end. The ending counts as used
+unfoldable pub readHead : List ℕ → Line
+readHead head =
+    let n = endOf head in
+    cond (ltb n (length head) && spellsFrame (take n head)) (frame (bytesOf (take n head)) (n + 1)) garbled
+
+-- the line at the start of the input: its end has to stand among the first 517 bytes
+unfoldable pub readLine : List ℕ → Line
+readLine input = readHead (take lineLimit input)

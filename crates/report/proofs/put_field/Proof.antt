@@ -1,0 +1,29 @@
+-- `report::put_field` meets its contract: the space, and the number behind it.
+-- Assumes nothing.
+use mathlib.Core.Path.{_∙_}
+use native.Mathlib.Omega.{arith}
+use lib.ListN.{length-set}
+use Rattle.report.specs.Decimal.{decimal}
+use Rattle.report.proofs.Lines.{field-length, field-placed}
+use borrow.Author.Needs.{needs}
+use Rattle.report.proofs.put_field.Statement.{statement}
+use Rattle.report.proofs.put_field.Tie as tie
+
+slice-write-line : tie.Need-slice-write-line
+slice-write-line c = omega (arith, field-length (decimal (c .before .args .n)))
+
+add-put-number : tie.Need-add-put-number
+add-put-number c = search needs
+
+put-number-requires : tie.Need-put-number-requires
+put-number-requires c κs = simp length-set (omega (arith, field-length (decimal (c .before .before .args .n))))
+
+same-length : tie.Need-same-length
+same-length c = c .before .before .put-number .kept .0 ∙ simp length-set
+
+returns : tie.Need-returns
+returns c = field-placed (c .before .before .put-number .ensures) (omega (arith, field-length (decimal (c .before .before .before .before .before .args .n))))
+
+pub put-field-spec : {M : Type 1} → statement M
+put-field-spec =
+    tie.close (tie.spec slice-write-line add-put-number put-number-requires same-length returns)
