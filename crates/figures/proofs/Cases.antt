@@ -38,30 +38,49 @@ use Rattle.figures.proofs.Shrinking.{figured-over}
 
 -- ---- the search
 
--- the search over the table is the network's, and stands in the tables
-pub search-stands : (codes links : List ℕ) (B : Lent) (a e : ℕ) (T₁ : Tables) → IsNet (networkOf 4 codes links) → T (networkOf 4 codes links .isOpen a)
-    → searched e T₁ ≡ searchTable 4 links a (B .searched) → IsSearched base codes links (lent (B .pairs) T₁ (B .bounds) (B .skips)) a e
-unfolding searchTable networkOf
-search-stands codes links B a e T₁ net o q = record {
-  net = net;
-  present = o;
-  depth = ap (λ (X : Searched). X .depth) q ∙ table-depth (networkOf 4 codes links) (net .sound) (net .small) a o 4 links refl refl ∙ depth-is (networkOf 4 codes links) net a o;
-  stands = left ∙ sym (ap (searchLeaves 4 (networkOf 4 codes links) a) left ∙ leaves-over 4 (networkOf 4 codes links) a a (B .searched));
-}
-  where
-    left : T₁ ≡ searchLeaves 4 (networkOf 4 codes links) a (B .searched)
-    left = ap (λ (X : Searched). X .left) q ∙ table-leaves (networkOf 4 codes links) (net .sound) (net .small) a o 4 links (B .searched) refl refl
+-- over the tables T₀ it leaves T₁
+module _ (codes links : List ℕ) (p b s : List ℕ) (a e : ℕ) (T₀ T₁ : Tables) where
+  abbrev H : Network
+  H = networkOf 4 codes links
 
--- and what is answered by those tables is answered by the tables before
-pub figured-first : (codes links : List ℕ) (B : Lent) (a D e : ℕ) (T₁ : Tables) (X : Figured) → IsNet (networkOf 4 codes links) → T (networkOf 4 codes links .isOpen a)
-    → searched e T₁ ≡ searchTable 4 links a (B .searched) → X ≡ figuredBy base (networkOf 4 codes links) a D (lent (B .pairs) T₁ (B .bounds) (B .skips))
-    → X ≡ figuredBy base (networkOf 4 codes links) a D B
-unfolding searchTable networkOf
-figured-first codes links B a D e T₁ X net o q h =
-    h
-    ∙ ap (λ (Y : Tables). figuredBy base (networkOf 4 codes links) a D (lent (B .pairs) Y (B .bounds) (B .skips)))
-    (ap (λ (Y : Searched). Y .left) q ∙ table-leaves (networkOf 4 codes links) (net .sound) (net .small) a o 4 links (B .searched) refl refl)
-    ∙ figured-over base (networkOf 4 codes links) a (B .searched) (B .pairs) (B .bounds) (B .skips) D
+  left-search : IsNet H → T (H .isOpen a) → searched e T₁ ≡ searchTable 4 links a T₀ → T₁ ≡ searchLeaves 4 H a T₀
+  unfolding searchTable networkOf
+  left-search net o q = ap (λ (X : Searched). X .left) q ∙ table-leaves H (net .sound) (net .small) a o 4 links T₀ refl refl
+
+  -- the search over the table is the network's, and stands in the tables
+  pub search-stands : IsNet H → T (H .isOpen a) → searched e T₁ ≡ searchTable 4 links a T₀ → IsSearched base codes links (lent p T₁ b s) a e
+  unfolding searchTable networkOf
+  search-stands net o q = record {
+    net = net;
+    present = o;
+    depth = ap (λ (X : Searched). X .depth) q ∙ table-depth H (net .sound) (net .small) a o 4 links refl refl ∙ depth-is H net a o;
+    stands = left-search net o q ∙ sym (ap (searchLeaves 4 H a) (left-search net o q) ∙ leaves-over 4 H a a T₀);
+  }
+
+  -- what is answered by those tables is answered by the tables before
+  pub figured-first : (D : ℕ) (X : Figured) → IsNet H → T (H .isOpen a) → searched e T₁ ≡ searchTable 4 links a T₀ → X ≡ figuredBy base H a D (lent p T₁ b s) → X ≡ figuredBy base H a D (lent p T₀ b s)
+  figured-first D X net o q h = h ∙ ap (λ (Y : Tables). figuredBy base H a D (lent p Y b s)) (left-search net o q) ∙ figured-over base H a T₀ p b s D
+
+-- the step may go on with tables of the same lengths
+pub figurable-first : (codes links p b s : List ℕ) (a : ℕ) (T₀ T₁ : Tables) (D count : ℕ) → IsFigurable base codes links (lent p T₀ b s) a D count
+    → length (T₁ .hops) ≡ length (T₀ .hops) → length (T₁ .even) ≡ length (T₀ .even) → length (T₁ .odd) ≡ length (T₀ .odd)
+    → IsFigurable base codes links (lent p T₁ b s) a D count
+figurable-first codes links p b s a T₀ T₁ D count F h x y = record {
+  table = F .table;
+  pairTable = F .pairTable;
+  hopPlaces = omega (arith, F .hopPlaces);
+  evenRow = omega (arith, F .evenRow);
+  oddRow = omega (arith, F .oddRow);
+  boundPlaces = F .boundPlaces;
+  skipPlaces = F .skipPlaces;
+  codeRow = F .codeRow;
+  net = F .net;
+  present = F .present;
+  rising = F .rising;
+  ends = F .ends;
+  counted = F .counted;
+  low = F .low;
+}
 
 -- ---- a depot at distance 0 has no partner
 
@@ -110,7 +129,7 @@ join-same G net a o D P u v = rw (le-ltb D D (le-refl D), eq-eqb D D refl) (firs
 
 -- ---- the cases
 
-module _ (codes links : List ℕ) (B : Lent) (a e D count : ℕ) (F : IsFigurable base codes links B a D count) (I : IsSearched base codes links B a e) where
+module _ (codes links : List ℕ) (B : Lent) (a e D : ℕ) (I : IsSearched base codes links B a e) where
   abbrev G : Network
   G = networkOf 4 codes links
 
@@ -137,11 +156,11 @@ module _ (codes links : List ℕ) (B : Lent) (a e D count : ℕ) (F : IsFigurabl
   marks-are m m₀ h = h ∙ ap (λ (x : ℕ). markOnce base a x m₀) (I .depth)
 
   -- e(a) > D: GREW
-  pub grew-is : D < e → (p : List ℕ) (n : ℕ) (m : Marked)
+  pub grew-is : D < e → (count : ℕ) (p : List ℕ) (n : ℕ) (m : Marked)
       → joined (tally p n) m ≡ joinOf base a e D (tables [] (B .searched .even) (B .searched .odd)) (joined (tally (B .pairs) count) (marking (B .bounds) (B .skips)))
       → figured Grew (ran (lent p (B .searched) (m .bounds) (m .skips)) e n 1) ≡ figuredBy base G a D B
   unfolding joinOf changeAs openCase settleOf
-  grew-is l p n m h =
+  grew-is l count p n m h =
       ap (λ (x : ℕ). figured Grew (ran (lent p (B .searched) (m .bounds) (m .skips)) x n 1)) (I .depth)
       ∙ ap (figured Grew) (once-leaves base G a (I .present) (ecc (chart G) a) (ownPairs (chart G) a (ecc (chart G) a)) B p n m own (marks-are m (marking (B .bounds) (B .skips)) (ap (λ (J : Joined). J .marked) h)) (I .stands))
       ∙ by-tests true (eqb (ecc (chart G) a) D) (anyPair (chart G .depots) Left) (lt-ltb D (ecc (chart G) a) (subst (λ (x : ℕ). D < x) (I .depth) l)) refl refl
@@ -157,12 +176,12 @@ module _ (codes links : List ℕ) (B : Lent) (a e D count : ℕ) (F : IsFigurabl
 
   -- ---- the stale pairs are gone
 
-  module _ (low : e ≤ D) (t : List ℕ) (k w : ℕ) (drops : dropped (tally t k) w ≡ dropOf 4 (B .searched .hops) D (B .pairs)) where
+  module _ (ends : (u v : ℕ) → T (tableBit 4 (B .pairs) u v) → T (networkOf 4 codes links .isOpen u) × T (networkOf 4 codes links .isOpen v)) (low : e ≤ D) (t : List ℕ) (k w : ℕ) (drops : dropped (tally t k) w ≡ dropOf 4 (B .searched .hops) D (B .pairs)) where
     drops-by : dropped (tally t k) w ≡ dropOf 4 (searchLeaves 4 G a (B .searched) .hops) D (B .pairs)
     drops-by = drops ∙ ap (λ (T : Tables). dropOf 4 (T .hops) D (B .pairs)) (I .stands)
 
     tally-left : tally t k ≡ tallyOf 4 Left (B .pairs)
-    tally-left = left-is 4 G (I .net) limit-is a (B .searched) D (B .pairs) (F .ends) drops-by
+    tally-left = left-is 4 G (I .net) limit-is a (B .searched) D (B .pairs) ends drops-by
 
     table-left : t ≡ overwrite (encodeTable 4 Left) (B .pairs)
     unfolding tallyOf
@@ -194,7 +213,7 @@ module _ (codes links : List ℕ) (B : Lent) (a e D count : ℕ) (F : IsFigurabl
     unfolding changeAs openCase
     kept-is ne some m h =
         ap (figured Kept) (once-leaves base G a (I .present) D Left B t k m tally-left (marks-are m (marking (B .bounds) (B .skips)) h) (I .stands))
-        ∙ by-tests false false true not-above (ne-eqb (ecc (chart G) a) D (λ q. ne (I .depth ∙ q))) (some-left 4 G (I .net) limit-is a (B .searched) D (B .pairs) (F .ends) drops-by some)
+        ∙ by-tests false false true not-above (ne-eqb (ecc (chart G) a) D (λ q. ne (I .depth ∙ q))) (some-left 4 G (I .net) limit-is a (B .searched) D (B .pairs) ends drops-by some)
 
     -- no pair is left: SHRANK
     pub shrank-is : (e ≡ D → ⊥) → k ≡ 0 → (R : Ran)
@@ -203,8 +222,8 @@ module _ (codes links : List ℕ) (B : Lent) (a e D count : ℕ) (F : IsFigurabl
     unfolding changeAs openCase ranBy roundsLeave
     shrank-is ne z R h =
         ap (figured Shrank) (h ∙ over (rounds (chart G) (length (chart G .depots)) (round (chart G) a (start w)))
-        ∙ ap (λ (c : ℕ). ranBy base G (rounds (chart G) (length (chart G .depots)) (round (chart G) a (start c))) B) (candidate-is 4 G (I .net) limit-is a (B .searched) D (B .pairs) (F .ends) drops-by))
-        ∙ by-tests false false false not-above (ne-eqb (ecc (chart G) a) D (λ q. ne (I .depth ∙ q))) (none-left 4 G (I .net) limit-is a (B .searched) D (B .pairs) (F .ends) drops-by z)
+        ∙ ap (λ (c : ℕ). ranBy base G (rounds (chart G) (length (chart G .depots)) (round (chart G) a (start c))) B) (candidate-is 4 G (I .net) limit-is a (B .searched) D (B .pairs) ends drops-by))
+        ∙ by-tests false false false not-above (ne-eqb (ecc (chart G) a) D (λ q. ne (I .depth ∙ q))) (none-left 4 G (I .net) limit-is a (B .searched) D (B .pairs) ends drops-by z)
       where
         over : (S : State) → ranBy base G S (lent t (B .searched) (B .bounds) (B .skips)) ≡ ranBy base G S B
         over S =

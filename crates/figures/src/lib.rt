@@ -133,3 +133,117 @@ fn shrink(
         before,
     )
 }
+
+// ---- the whole step
+
+// The search from a, on local memory for the codes seen and the next layer.
+fn search_once(hops: &mut [u16], even: &mut [u64], odd: &mut [u64], links: &[u64], a: usize) -> u16
+    requires { ⌜ (1024 ≤ length (now links)) × (256 ≤ length (now hops)) × (4 ≤ length (now even)) × (4 ≤ length (now odd)) × (a < 256) ⌝ }
+    ensures { λ r. ⌜ searched r (tables (now (hops .exit)) (now (even .exit)) (now (odd .exit))) ≡ searchTable 4 (now (links .entry)) a (tables (now (hops .entry)) (now (even .entry)) (now (odd .entry))) ⌝ }
+{
+    let mut seen = [0u64; 4];
+    let mut next = [0u64; 4];
+    layers::search_table(hops, even, odd, &mut seen, &mut next, links, 4, a)
+}
+
+// The figures for an eccentricity e that is not above the chain, without the stale pairs.
+fn settle_low(
+    pairs: &mut [u64],
+    hops: &mut [u16],
+    bounds: &mut [u16],
+    skips: &mut [u16],
+    even: &mut [u64],
+    odd: &mut [u64],
+    codes: &[u64],
+    links: &[u64],
+    a: usize,
+    e: u16,
+    chain: u16,
+    count: u32,
+) -> Figures
+    requires { ⌜ IsFigurable base (now codes) (now links) (lent (now pairs) (tables (now hops) (now even) (now odd)) (now bounds) (now skips)) a chain count × IsSearched base (now codes) (now links) (lent (now pairs) (tables (now hops) (now even) (now odd)) (now bounds) (now skips)) a e × (a < 256) × (e ≤ chain) ⌝ }
+    ensures { λ r. ⌜ figured (r .change) (ran (lent (now (pairs .exit)) (tables (now (hops .exit)) (now (even .exit)) (now (odd .exit))) (now (bounds .exit)) (now (skips .exit))) (r .chain) (r .count) (r .searches)) ≡ figuredBy base (networkOf 4 (now (codes .entry)) (now (links .entry))) a chain (lent (now (pairs .entry)) (tables (now (hops .entry)) (now (even .entry)) (now (odd .entry))) (now (bounds .entry)) (now (skips .entry))) ⌝ }
+{
+    let left = pairs::drop_stale(pairs, &*hops, 4, chain);
+    if e == chain {
+        let sum = join(pairs, bounds, skips, &*even, &*odd, a, e, chain, left.count);
+        return Figures {
+            change: Change::Kept,
+            chain: chain,
+            count: sum,
+            searches: 1,
+        };
+    }
+    if left.count != 0 {
+        mark_once(bounds, skips, a, e);
+        return Figures {
+            change: Change::Kept,
+            chain: chain,
+            count: left.count,
+            searches: 1,
+        };
+    }
+    let got = shrink(
+        pairs,
+        hops,
+        bounds,
+        skips,
+        even,
+        odd,
+        codes,
+        links,
+        a,
+        e,
+        left.way,
+    );
+    Figures {
+        change: Change::Shrank,
+        chain: got.candidate,
+        count: got.count,
+        searches: got.searches,
+    }
+}
+
+// The figures after a's links are in place, by the stored chain and the count of the stored pairs: the search from a, then the pairs, the
+// marks and, if the chain shrank, the rounds.
+pub fn refigure(
+    pairs: &mut [u64],
+    hops: &mut [u16],
+    bounds: &mut [u16],
+    skips: &mut [u16],
+    even: &mut [u64],
+    odd: &mut [u64],
+    codes: &[u64],
+    links: &[u64],
+    a: usize,
+    chain: u16,
+    count: u32,
+) -> Figures
+    requires { ⌜ IsFigurable base (now codes) (now links) (lent (now pairs) (tables (now hops) (now even) (now odd)) (now bounds) (now skips)) a chain count × (a < 256) ⌝ }
+    ensures { λ r. ⌜ figured (r .change) (ran (lent (now (pairs .exit)) (tables (now (hops .exit)) (now (even .exit)) (now (odd .exit))) (now (bounds .exit)) (now (skips .exit))) (r .chain) (r .count) (r .searches)) ≡ figuredBy base (networkOf 4 (now (codes .entry)) (now (links .entry))) a chain (lent (now (pairs .entry)) (tables (now (hops .entry)) (now (even .entry)) (now (odd .entry))) (now (bounds .entry)) (now (skips .entry))) ⌝ }
+{
+    let e = search_once(hops, even, odd, links, a);
+    if chain < e {
+        let own = join(pairs, bounds, skips, &*even, &*odd, a, e, chain, count);
+        return Figures {
+            change: Change::Grew,
+            chain: e,
+            count: own,
+            searches: 1,
+        };
+    }
+    settle_low(
+        pairs,
+        hops,
+        bounds,
+        skips,
+        even,
+        odd,
+        codes,
+        links,
+        a,
+        e,
+        chain,
+        count,
+    )
+}
