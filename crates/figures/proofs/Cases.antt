@@ -9,22 +9,21 @@ use native.Mathlib.Omega.{arith}
 use lib.Dec.{T, eqb, ltb}
 use lib.ListN.{length}
 use borrow.Author.Tests.{eqb-true, eq-eqb, ne-eqb, ltb-true, lt-ltb, le-ltb}
-use Rattle.lists.specs.Lists.{range, overwrite}
-use Rattle.lists.proofs.Tests.{look, t→true, true→t, clash, and-true, or-true}
+use Rattle.lists.specs.Lists.{overwrite}
+use Rattle.lists.proofs.Tests.{look, true→t, and-true, or-true}
 use Rattle.graph.specs.Network.{Network}
-use Rattle.graph.specs.Distance.{unreached, dist}
-use Rattle.graph.specs.Chart.{Pairs, chart, ecc, ownPairs, countPairs}
+use Rattle.graph.specs.Distance.{dist}
+use Rattle.graph.specs.Chart.{Pairs, chart, ecc, ownPairs}
 use Rattle.graph.specs.Rounds.{State, joinPairs, round, rounds, start}
-use Rattle.graph.specs.Opening.{opening, openCase, searchedOnce, stayingPairs, shrunkCandidate, anyPair}
+use Rattle.graph.specs.Opening.{opening, openCase, stayingPairs, anyPair}
 use Rattle.graph.specs.Correct.{IsNet}
 use Rattle.graph.proofs.Charts.{chart-metric, depot-in}
 use Rattle.rows.specs.Rows.{tableBit, encodeTable}
 use Rattle.layers.specs.Layers.{tables, Tables, Searched, searched, searchLeaves, searchTable}
 use Rattle.layers.proofs.Theorems.{table-depth, table-leaves, depth-is}
 use Rattle.map.specs.Memory.{base, networkOf}
-use Rattle.outcome.specs.declared.Change.{Change}
 use Rattle.outcome.specs.declared.Change.the-variants.{Grew, Kept, Shrank}
-use Rattle.pairs.specs.Pairs.{Tally, tally, tallyOf, pairsWith, settleOf, dropped, dropOf, Counted}
+use Rattle.pairs.specs.Pairs.{Tally, tally, tallyOf, pairsWith, settleOf, dropped, dropOf}
 use Rattle.pairs.proofs.Tallies.{tally-ext, table-over}
 use Rattle.rounds.specs.Leaves.{Lent, lent, Ran, ran, ranBy, roundsLeave}
 use Rattle.rounds.specs.Workspace.{lastRow}

@@ -3,17 +3,17 @@ use mathlib.Core.Path.{_≡_, refl, sym, ap, ap₂, _∙_, subst}
 use mathlib.Core.Logic.{_⊎_, inl, inr}
 use mathlib.Core.Bool.{Bool, true, false, cond, not, _&&_}
 use mathlib.Core.List.{List, [], _∷_, List·Memᴰ, List·Memᴰ·head, List·Memᴰ·tail}
-use Prim.Native.Nat.{ℕ, _+_, _*_, _≤_, _<_, min, max}
+use Prim.Native.Nat.{ℕ, _+_, _*_, _<_, min, max}
 use native.Mathlib.Omega.{arith}
 use lib.Dec.{T, ltb}
-use lib.ListN.{length, getD}
+use lib.ListN.{getD}
 use Rattle.lists.specs.Lists.{range, filterb, anyb, maxOf}
 use Rattle.lists.proofs.Tests.{look, t→true, true→t, clash, and-true}
 use Rattle.lists.proofs.Members.{any-intro, any-elim, range-out}
 use Rattle.lists.proofs.Fills.{fill-at}
 use Rattle.graph.specs.Network.{Network}
 use Rattle.graph.specs.Distance.{vertices, dist}
-use Rattle.graph.specs.Chart.{Chart, chart, Pairs, countPairs}
+use Rattle.graph.specs.Chart.{chart, Pairs, countPairs}
 use Rattle.graph.specs.Opening.{via, stayingPairs, anyPair, shrunkCandidate}
 use Rattle.graph.specs.Correct.{IsNet}
 use Rattle.graph.proofs.Charts.{depot-in, depot-out}
@@ -21,7 +21,7 @@ use Rattle.rows.specs.Rows.{tableBit}
 use Rattle.layers.specs.Layers.{Tables, searchLeaves}
 use Rattle.pairs.specs.Pairs.{Tally, tally, tallyOf, Dropped, dropped, staying, greatestWay, dropOf}
 use Rattle.pairs.proofs.PairCounts.{pairs-none, pairs-zero}
-use Rattle.pairs.proofs.Tallies.{Holds, tally-ext}
+use Rattle.pairs.proofs.Tallies.{tally-ext}
 use Rattle.pairs.proofs.Theorems.{drop-way}
 
 -- ---- the greatest of a list

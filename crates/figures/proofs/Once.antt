@@ -1,12 +1,12 @@
 -- A call that searched from the new depot alone: its marks, tables and pairs are the network's. Assumes nothing.
 use mathlib.Core.Path.{_≡_, refl, sym, ap, ap₂, _∙_}
-use mathlib.Core.Logic.{_⊎_, inl, inr, _≢_}
+use mathlib.Core.Logic.{_⊎_, inl, inr}
 use mathlib.Core.Bool.{Bool, true, false, cond}
-use mathlib.Core.List.{List, [], _∷_}
-use Prim.Native.Nat.{ℕ, _*_, _%_, _<_}
+use mathlib.Core.List.{List, []}
+use Prim.Native.Nat.{ℕ, _%_, _<_}
 use native.Mathlib.Omega.{arith}
 use lib.Dec.{T, eqb}
-use lib.ListN.{length, set}
+use lib.ListN.{set}
 use borrow.Author.Tests.{eqb-true, eq-eqb, ne-eqb}
 use Rattle.lists.specs.Lists.{range, mapl, lastOr, overwrite}
 use Rattle.lists.proofs.Tests.{look, t→true}
@@ -15,13 +15,13 @@ use Rattle.lists.proofs.Buffers.{fill-put}
 use Rattle.graph.specs.Network.{Network}
 use Rattle.graph.specs.Distance.{unreached}
 use Rattle.graph.specs.Chart.{Pairs, Chart, chart, ecc, countPairs}
-use Rattle.graph.specs.Rounds.{Status, waiting, searched, markOf, boundOf}
+use Rattle.graph.specs.Rounds.{waiting, searched, markOf, boundOf}
 use Rattle.graph.specs.Opening.{searchedOnce}
 use Rattle.rows.specs.Rows.{encodeTable}
 use Rattle.layers.specs.Layers.{Tables, tables, searchLeaves}
 use Rattle.map.specs.Memory.{Shape, places, base, IsShape}
 use Rattle.pairs.specs.Pairs.{Tally, tally, tallyOf, settleOf}
-use Rattle.rounds.specs.Leaves.{Lent, lent, Ran, ran, ranBy, roundsLeave, searchAfter}
+use Rattle.rounds.specs.Leaves.{Lent, lent, ran, ranBy, roundsLeave, searchAfter}
 use Rattle.rounds.specs.Workspace.{lastRow}
 use Rattle.figures.specs.Steps.{Marked, marking, markOnce, Joined, joined, joinOf}
 

@@ -1,11 +1,9 @@
 -- The chain shrank: rounds whose first reference is the finished search from the new depot. Assumes nothing.
 use mathlib.Core.Path.{_≡_, refl, sym, ap, ap₂, _∙_, subst}
-use mathlib.Core.Logic.{_⊎_, inl, inr}
 use mathlib.Core.Bool.{Bool, true, false, _||_}
-use mathlib.Core.List.{List, [], _∷_, _++_}
+use mathlib.Core.List.{List}
 use mathlib.Core.Option.{Option, none, some}
-use Prim.Native.Nat.{ℕ, zero, suc, _+_, _*_, _≤_, _<_}
-use native.Mathlib.Omega.{arith}
+use Prim.Native.Nat.{ℕ, zero, suc, _*_, _≤_, _<_}
 use lib.Dec.{eqb, ltb}
 use lib.ListN.{length}
 use Rattle.lists.specs.Lists.{lastOr, memb, anyb}
@@ -17,11 +15,11 @@ use Rattle.graph.specs.Opening.{opening, openCase, searchedOnce, stayingPairs, 
 use Rattle.graph.proofs.Charts.{depot-in}
 use Rattle.rows.specs.Rows.{tableBit}
 use Rattle.layers.specs.Layers.{Tables, searchLeaves}
-use Rattle.map.specs.Memory.{Shape, places, base, networkOf}
+use Rattle.map.specs.Memory.{Shape, base, networkOf}
 use Rattle.pairs.specs.Pairs.{Tally, tally, tallyOf, Counted}
 use Rattle.pairs.proofs.Tallies.{holds-counted}
 use Rattle.bounds.specs.Bounds.{Marks, marks}
-use Rattle.rounds.specs.Leaves.{Lent, lent, Ran, ran, ranBy, roundsLeave, searchAfter}
+use Rattle.rounds.specs.Leaves.{Lent, lent, ran, ranBy, roundsLeave, searchAfter}
 use Rattle.rounds.specs.Workspace.{Workspace, workspace, Absorbed, absorbed, absorbing, absorbOf, runOf, Begun, begun, beginOf}
 use Rattle.rounds.proofs.Holding.{Origin, Holds, leaves-over, after-snoc}
 use Rattle.rounds.proofs.Simulation.{Running, running-round, absorb}

@@ -2,14 +2,14 @@
 -- Assumes nothing.
 use mathlib.Core.Path.{_≡_}
 use mathlib.Core.List.{List}
-use Prim.Native.Nat.{ℕ, _*_, _≤_, _<_}
+use Prim.Native.Nat.{ℕ, _≤_, _<_}
 use lib.Dec.{T}
 use lib.ListN.{length}
 use Rattle.graph.specs.Network.{Network}
 use Rattle.lists.specs.Lists.{range}
 use Rattle.graph.specs.Chart.{chart, countPairs}
 use Rattle.graph.specs.Opening as Steps
-use Rattle.graph.specs.Opening.{Opened, opening, grew, kept, shrank}
+use Rattle.graph.specs.Opening.{opening, grew, kept, shrank}
 use Rattle.graph.specs.Correct.{IsNet}
 use Rattle.rows.specs.Rows.{tableBit}
 use Rattle.map.specs.Memory.{Shape, places, tableWords, networkOf}

@@ -16,7 +16,6 @@ use Rattle.map.specs.Memory.{Shape, places, tableWords, networkOf}
 use Rattle.pairs.specs.Pairs.{Tally, settleOf}
 use Rattle.rounds.specs.Leaves.{Lent}
 use Rattle.rounds.specs.Workspace.{lastRow}
-use Rattle.figures.specs.Figured.{IsFigurable}
 
 -- ---- the marks of a call that searched from a alone, with eccentricity e
 

@@ -4,43 +4,31 @@ use Rattle.figures.proofs.Once.{mark-is}
 use borrow.Author.Needs.{needs}
 use Rattle.figures.proofs.mark_once.Statement.{statement}
 use Rattle.figures.proofs.mark_once.Tie as tie
-use Rattle.figures.proofs.mark_once.Reads as reads
-use Rattle.figures.proofs.mark_once.Lts as lts
-use Rattle.layers.proofs.fill.Reads as fill-reads
 
--- src/lib.rt:32:5
 fill-requires : tie.Need-fill-requires
 fill-requires c κs = search needs
 
--- src/lib.rt:33:5
 fill-requires-2 : tie.Need-fill-requires-2
 fill-requires-2 c κs = search needs
 
--- src/lib.rt:34:5
 mul-bounds : tie.Need-mul-bounds
 mul-bounds c = search needs
 
--- src/lib.rt:34:5
 slice-write-bounds : tie.Need-slice-write-bounds
 slice-write-bounds c = search needs
 
--- src/lib.rt:35:5
 mul-skips : tie.Need-mul-skips
 mul-skips c = search needs
 
--- src/lib.rt:35:5
 slice-write-skips : tie.Need-slice-write-skips
 slice-write-skips c = search needs
 
--- src/lib.rt:28:1
 same-length : tie.Need-same-length
 same-length c = search needs
 
--- src/lib.rt:28:1
 same-length-2 : tie.Need-same-length-2
 same-length-2 c = search needs
 
--- src/lib.rt:28:1
 returns : tie.Need-returns
 returns c = mark-is _ _ _ _ _ (c .before .before .before .before .before .before .before .before .before .before .pre .2) (c .before .before .before .before .before .before .fill .ensures) (c .before .before .fill2 .ensures)
 

@@ -6,110 +6,81 @@ use Rattle.figures.proofs.Cases.{equal-is, kept-is, shrank-is}
 use borrow.Author.Needs.{needs}
 use Rattle.figures.proofs.settle_low.Statement.{statement}
 use Rattle.figures.proofs.settle_low.Tie as tie
-use Rattle.figures.proofs.settle_low.Reads as reads
-use Rattle.figures.proofs.settle_low.Lts as lts
-use Rattle.figures.proofs.join.Reads as join-reads
-use Rattle.figures.proofs.mark_once.Reads as mark-once-reads
-use Rattle.figures.proofs.shrink.Reads as shrink-reads
-use Rattle.pairs.proofs.drop_stale.Reads as drop-stale-reads
 
--- src/lib.rt:167:9
 drop-stale-requires : tie.Need-drop-stale-requires
 drop-stale-requires c κs = search needs
 
--- src/lib.rt:169:13
 join-requires : tie.Need-join-requires
 join-requires c κs =
     let pre = c .before .before .before .before .before .before .before .before .before .before .before .before .before .before .before .before .before .before .before .pre in
     (drop-counted _ _ _ _ (c .before .before .before .before .before .before .before .before .drop-stale .ensures) (record { positive = omega arith; most = omega arith; table = pre .0 .pairTable; hopped = pre .0 .hopPlaces }), pre .0 .boundPlaces, pre .0 .skipPlaces, pre .0 .evenRow, pre .0 .oddRow, pre .2)
 
--- src/lib.rt:170:9
 same-length : tie.Need-same-length
 same-length c = search needs
 
--- src/lib.rt:170:9
 same-length-2 : tie.Need-same-length-2
 same-length-2 c = search needs
 
--- src/lib.rt:170:9
 same-length-3 : tie.Need-same-length-3
 same-length-3 c = search needs
 
--- src/lib.rt:170:9
 same-length-4 : tie.Need-same-length-4
 same-length-4 c = search needs
 
--- src/lib.rt:170:9
 same-length-5 : tie.Need-same-length-5
 same-length-5 c = search needs
 
--- src/lib.rt:170:9
 same-length-6 : tie.Need-same-length-6
 same-length-6 c = search needs
 
--- src/lib.rt:170:9
 returns : tie.Need-returns
 returns c =
     let pre = c .before .before .before .before .before .before .before .before .before .before .before .before .before .before .before .before .before .before .before .before .before .before .before .before .before .before .pre in
     equal-is _ _ _ _ _ _ (pre .1) (pre .0 .ends) (pre .3) _ _ _ (c .before .before .before .before .before .before .before .before .before .before .before .before .before .before .before .drop-stale .ensures) (c .before .before .before .before .before .before .before .before .before .before .before .before .if1 .taken) _ _ _ (c .before .before .before .before .before .before .join .ensures)
 
--- src/lib.rt:178:9
 mark-once-requires : tie.Need-mark-once-requires
 mark-once-requires c κs = search needs
 
--- src/lib.rt:179:9
 same-length-7 : tie.Need-same-length-7
 same-length-7 c = search needs
 
--- src/lib.rt:179:9
 same-length-8 : tie.Need-same-length-8
 same-length-8 c = search needs
 
--- src/lib.rt:179:9
 same-length-9 : tie.Need-same-length-9
 same-length-9 c = search needs
 
--- src/lib.rt:179:9
 same-length-10 : tie.Need-same-length-10
 same-length-10 c = search needs
 
--- src/lib.rt:179:9
 returns-2 : tie.Need-returns-2
 returns-2 c =
     let pre = c .before .before .before .before .before .before .before .before .before .before .before .before .before .before .before .before .before .before .before .before .before .before .before .pre in
     kept-is _ _ _ _ _ _ (pre .1) (pre .0 .ends) (pre .3) _ _ _ (c .before .before .before .before .before .before .before .before .before .before .before .before .drop-stale .ensures) (c .before .before .before .before .before .before .before .before .before .if1 .left) (c .before .before .before .before .before .before .before .if2 .taken) _ (c .before .before .before .before .mark-once .ensures)
 
--- src/lib.rt:186:9
 shrink-requires : tie.Need-shrink-requires
 shrink-requires c κs =
     let pre = c .before .before .before .before .before .before .before .before .before .before .before .before .before .before .before .before .before .before .before .before .before .before .pre in
     (record { table = pre .0 .table; pairTable = omega (arith, pre .0 .pairTable, c .before .before .before .before .before .before .before .before .before .before .before .drop-stale .kept .0); hopPlaces = pre .0 .hopPlaces; evenRow = pre .0 .evenRow; oddRow = pre .0 .oddRow; boundPlaces = pre .0 .boundPlaces; skipPlaces = pre .0 .skipPlaces; codeRow = pre .0 .codeRow }, record { net = pre .1 .net; present = pre .1 .present; depth = pre .1 .depth; stands = pre .1 .stands }, pre .2)
 
--- src/lib.rt:150:1
 same-length-11 : tie.Need-same-length-11
 same-length-11 c = search needs
 
--- src/lib.rt:150:1
 same-length-12 : tie.Need-same-length-12
 same-length-12 c = search needs
 
--- src/lib.rt:150:1
 same-length-13 : tie.Need-same-length-13
 same-length-13 c = search needs
 
--- src/lib.rt:150:1
 same-length-14 : tie.Need-same-length-14
 same-length-14 c = search needs
 
--- src/lib.rt:150:1
 same-length-15 : tie.Need-same-length-15
 same-length-15 c = search needs
 
--- src/lib.rt:150:1
 same-length-16 : tie.Need-same-length-16
 same-length-16 c = search needs
 
--- src/lib.rt:150:1
 returns-3 : tie.Need-returns-3
 returns-3 c =
     let pre = c .before .before .before .before .before .before .before .before .before .before .before .before .before .before .before .before .before .before .before .before .before .before .before .before .before .before .before .before .before .before .before .before .before .before .before .pre in

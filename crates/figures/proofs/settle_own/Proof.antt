@@ -4,31 +4,22 @@ use Rattle.figures.proofs.Once.{settle-even, settle-odd}
 use borrow.Author.Needs.{needs}
 use Rattle.figures.proofs.settle_own.Statement.{statement}
 use Rattle.figures.proofs.settle_own.Tie as tie
-use Rattle.figures.proofs.settle_own.Reads as reads
-use Rattle.figures.proofs.settle_own.Lts as lts
-use Rattle.pairs.proofs.settle.Reads as settle-reads
 
--- src/lib.rt:52:9
 settle-requires : tie.Need-settle-requires
 settle-requires c κs = search needs
 
--- src/lib.rt:52:9
 same-length : tie.Need-same-length
 same-length c = search needs
 
--- src/lib.rt:52:9
 returns : tie.Need-returns
 returns c = settle-even _ _ _ _ _ _ _ (c .before .before .before .before .if1 .taken) (c .before .before .settle .ensures)
 
--- src/lib.rt:54:5
 settle-requires-2 : tie.Need-settle-requires-2
 settle-requires-2 c κs = search needs
 
--- src/lib.rt:39:1
 same-length-2 : tie.Need-same-length-2
 same-length-2 c = search needs
 
--- src/lib.rt:39:1
 returns-2 : tie.Need-returns-2
 returns-2 c = settle-odd _ _ _ _ _ _ _ (c .before .before .before .before .if1 .left) (c .before .before .settle2 .ensures)
 
