@@ -30,7 +30,7 @@ use Rattle.rounds.specs.Workspace.{lastRow}
 use Rattle.rounds.proofs.Holding.{leaves-over}
 use Rattle.rounds.proofs.Pairing.{own-pairs, settle-is}
 use Rattle.figures.specs.Figured.{Figured, figured, figuredBy, changeAs, IsFigurable}
-use Rattle.figures.specs.Steps.{Marked, marking, markOnce, Joined, joined, joinOf, IsSearched}
+use Rattle.figures.specs.Steps.{Marked, marking, markOnce, Joined, joined, joinOf, IsSearched, IsWhole}
 use Rattle.figures.proofs.Once.{once-leaves}
 use Rattle.figures.proofs.Dropping.{left-is, candidate-is, none-left, some-left}
 use Rattle.figures.proofs.Shrinking.{figured-over}
@@ -60,11 +60,10 @@ module _ (codes links : List ℕ) (p b s : List ℕ) (a e : ℕ) (T₀ T₁ : Ta
   pub figured-first : (D : ℕ) (X : Figured) → IsNet H → T (H .isOpen a) → searched e T₁ ≡ searchTable 4 links a T₀ → X ≡ figuredBy base H a D (lent p T₁ b s) → X ≡ figuredBy base H a D (lent p T₀ b s)
   figured-first D X net o q h = h ∙ ap (λ (Y : Tables). figuredBy base H a D (lent p Y b s)) (left-search net o q) ∙ figured-over base H a T₀ p b s D
 
--- the step may go on with tables of the same lengths
-pub figurable-first : (codes links p b s : List ℕ) (a : ℕ) (T₀ T₁ : Tables) (D count : ℕ) → IsFigurable base codes links (lent p T₀ b s) a D count
-    → length (T₁ .hops) ≡ length (T₀ .hops) → length (T₁ .even) ≡ length (T₀ .even) → length (T₁ .odd) ≡ length (T₀ .odd)
-    → IsFigurable base codes links (lent p T₁ b s) a D count
-figurable-first codes links p b s a T₀ T₁ D count F h x y = record {
+-- tables of the same lengths are whole
+pub whole-first : (codes links p b s : List ℕ) (a : ℕ) (T₀ T₁ : Tables) (D count : ℕ) → IsFigurable base codes links (lent p T₀ b s) a D count
+    → length (T₁ .hops) ≡ length (T₀ .hops) → length (T₁ .even) ≡ length (T₀ .even) → length (T₁ .odd) ≡ length (T₀ .odd) → IsWhole base codes links (lent p T₁ b s)
+whole-first codes links p b s a T₀ T₁ D count F h x y = record {
   table = F .table;
   pairTable = F .pairTable;
   hopPlaces = omega (arith, F .hopPlaces);
@@ -73,12 +72,6 @@ figurable-first codes links p b s a T₀ T₁ D count F h x y = record {
   boundPlaces = F .boundPlaces;
   skipPlaces = F .skipPlaces;
   codeRow = F .codeRow;
-  net = F .net;
-  present = F .present;
-  rising = F .rising;
-  ends = F .ends;
-  counted = F .counted;
-  low = F .low;
 }
 
 -- ---- a depot at distance 0 has no partner

@@ -14,7 +14,7 @@ use Rattle.lists.proofs.Fills.{fill-ext}
 use Rattle.lists.proofs.Buffers.{fill-put}
 use Rattle.graph.specs.Network.{Network}
 use Rattle.graph.specs.Distance.{unreached}
-use Rattle.graph.specs.Chart.{Pairs, Chart, chart, ecc, countPairs}
+use Rattle.graph.specs.Chart.{Pairs, chart, ecc, countPairs}
 use Rattle.graph.specs.Rounds.{waiting, searched, markOf, boundOf}
 use Rattle.graph.specs.Opening.{searchedOnce}
 use Rattle.rows.specs.Rows.{encodeTable}
@@ -60,9 +60,6 @@ join-is a e D T J t m p q = ap₂ joined p q
 -- ---- the whole of such a call
 
 module _ (K : Shape) (G : Network) (a : ℕ) (o : T (G .isOpen a)) where
-  abbrev C : Chart
-  C = chart G
-
   abbrev e : ℕ
   e = ecc (chart G) a
 

@@ -11,6 +11,7 @@ use Rattle.lists.specs.Lists.{range, mapl, overwrite}
 use Rattle.graph.specs.Distance.{unreached}
 use Rattle.graph.specs.Chart.{chart, ecc}
 use Rattle.graph.specs.Correct.{IsNet}
+use Rattle.rows.specs.Rows.{tableBit}
 use Rattle.layers.specs.Layers.{Tables, searchLeaves}
 use Rattle.map.specs.Memory.{Shape, places, tableWords, networkOf}
 use Rattle.pairs.specs.Pairs.{Tally, settleOf}
@@ -63,3 +64,7 @@ pub record IsWhole (K : Shape) (codes links : List ℕ) (B : Lent) : Type 0 wher
   pub boundPlaces : places K ≤ length (B .bounds)
   pub skipPlaces : places K ≤ length (B .skips)
   pub codeRow : K .words ≤ length codes
+
+-- the stored pairs join open codes
+pub record AreOpen (K : Shape) (codes links pairs : List ℕ) : Type 0 where
+  pub ends : (u v : ℕ) → T (tableBit (K .words) pairs u v) → T (networkOf (K .words) codes links .isOpen u) × T (networkOf (K .words) codes links .isOpen v)

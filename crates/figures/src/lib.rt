@@ -1,6 +1,6 @@
 ghost use mathlib.Core.Path.{_≡_};
 ghost use mathlib.Core.List.{[]};
-ghost use Prim.Native.Nat.{_*_, _<_, _≤_};
+ghost use Prim.Native.Nat.{_<_, _≤_};
 ghost use lib.ListN.{length};
 ghost use Rattle.graph.specs.Chart.{chart};
 ghost use Rattle.graph.specs.Rounds.{round, rounds, start};
@@ -10,7 +10,7 @@ ghost use Rattle.pairs.specs.Pairs.{tally, settleOf, Counted};
 ghost use Rattle.rounds.specs.Leaves.{lent, ran, ranBy};
 ghost use Rattle.rounds.specs.Workspace.{lastRow};
 ghost use Rattle.figures.specs.Figured.{figured, figuredBy, IsFigurable};
-ghost use Rattle.figures.specs.Steps.{marking, markOnce, joined, joinOf, IsSearched, IsWhole};
+ghost use Rattle.figures.specs.Steps.{marking, markOnce, joined, joinOf, IsSearched, IsWhole, AreOpen};
 use outcome::Change;
 use rounds::Tally;
 
@@ -159,9 +159,8 @@ fn settle_low(
     a: usize,
     e: u16,
     chain: u16,
-    count: u32,
 ) -> Figures
-    requires { ⌜ IsFigurable base (now codes) (now links) (lent (now pairs) (tables (now hops) (now even) (now odd)) (now bounds) (now skips)) a chain count × IsSearched base (now codes) (now links) (lent (now pairs) (tables (now hops) (now even) (now odd)) (now bounds) (now skips)) a e × (a < 256) × (e ≤ chain) ⌝ }
+    requires { ⌜ IsWhole base (now codes) (now links) (lent (now pairs) (tables (now hops) (now even) (now odd)) (now bounds) (now skips)) × AreOpen base (now codes) (now links) (now pairs) × IsSearched base (now codes) (now links) (lent (now pairs) (tables (now hops) (now even) (now odd)) (now bounds) (now skips)) a e × (a < 256) × (e ≤ chain) ⌝ }
     ensures { λ r. ⌜ figured (r .change) (ran (lent (now (pairs .exit)) (tables (now (hops .exit)) (now (even .exit)) (now (odd .exit))) (now (bounds .exit)) (now (skips .exit))) (r .chain) (r .count) (r .searches)) ≡ figuredBy base (networkOf 4 (now (codes .entry)) (now (links .entry))) a chain (lent (now (pairs .entry)) (tables (now (hops .entry)) (now (even .entry)) (now (odd .entry))) (now (bounds .entry)) (now (skips .entry))) ⌝ }
 {
     let left = pairs::drop_stale(pairs, &*hops, 4, chain);
@@ -244,6 +243,5 @@ pub fn refigure(
         a,
         e,
         chain,
-        count,
     )
 }

@@ -1,6 +1,6 @@
 -- `figures::refigure` meets its contract: the search is the network's; an eccentricity above the chain is the case grew, any other is `settle_low`.
 -- Assumes nothing.
-use Rattle.figures.proofs.Cases.{search-stands, figured-first, figurable-first, grew-is}
+use Rattle.figures.proofs.Cases.{search-stands, figured-first, whole-first, grew-is}
 use borrow.Author.Needs.{needs}
 use Rattle.figures.proofs.refigure.Statement.{statement}
 use Rattle.figures.proofs.refigure.Tie as tie
@@ -38,7 +38,7 @@ settle-low-requires : tie.Need-settle-low-requires
 settle-low-requires c κs =
     let pre = c .before .before .before .before .before .before .before .before .before .before .before .before .before .before .before .before .before .before .before .before .before .before .before .before .before .pre in
     let k = c .before .before .before .before .before .before .before .before .before .before .before .before .before .search-once .kept in
-    (figurable-first _ _ _ _ _ _ _ _ _ _ (pre .0) (k .0) (k .1 .0) (k .1 .1 .0), search-stands _ _ _ _ _ _ _ _ _ (pre .0 .net) (pre .0 .present) (c .before .before .before .before .before .before .before .before .before .before .before .before .before .search-once .ensures), pre .1, c .before .before .before .before .before .before .if1 .left)
+    (whole-first _ _ _ _ _ _ _ _ _ _ (pre .0) (k .0) (k .1 .0) (k .1 .1 .0), record { ends = pre .0 .ends }, search-stands _ _ _ _ _ _ _ _ _ (pre .0 .net) (pre .0 .present) (c .before .before .before .before .before .before .before .before .before .before .before .before .before .search-once .ensures), pre .1, c .before .before .before .before .before .before .if1 .left)
 
 same-length-7 : tie.Need-same-length-7
 same-length-7 c = search needs

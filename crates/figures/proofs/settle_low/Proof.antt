@@ -13,7 +13,7 @@ drop-stale-requires c κs = search needs
 join-requires : tie.Need-join-requires
 join-requires c κs =
     let pre = c .before .before .before .before .before .before .before .before .before .before .before .before .before .before .before .before .before .before .before .pre in
-    (drop-counted _ _ _ _ (c .before .before .before .before .before .before .before .before .drop-stale .ensures) (record { positive = omega arith; most = omega arith; table = pre .0 .pairTable; hopped = pre .0 .hopPlaces }), pre .0 .boundPlaces, pre .0 .skipPlaces, pre .0 .evenRow, pre .0 .oddRow, pre .2)
+    (drop-counted _ _ _ _ (c .before .before .before .before .before .before .before .before .drop-stale .ensures) (record { positive = omega arith; most = omega arith; table = pre .0 .pairTable; hopped = pre .0 .hopPlaces }), pre .0 .boundPlaces, pre .0 .skipPlaces, pre .0 .evenRow, pre .0 .oddRow, pre .3)
 
 same-length : tie.Need-same-length
 same-length c = search needs
@@ -36,7 +36,7 @@ same-length-6 c = search needs
 returns : tie.Need-returns
 returns c =
     let pre = c .before .before .before .before .before .before .before .before .before .before .before .before .before .before .before .before .before .before .before .before .before .before .before .before .before .before .pre in
-    equal-is _ _ _ _ _ _ (pre .1) (pre .0 .ends) (pre .3) _ _ _ (c .before .before .before .before .before .before .before .before .before .before .before .before .before .before .before .drop-stale .ensures) (c .before .before .before .before .before .before .before .before .before .before .before .before .if1 .taken) _ _ _ (c .before .before .before .before .before .before .join .ensures)
+    equal-is _ _ _ _ _ _ (pre .2) (pre .1 .ends) (pre .4) _ _ _ (c .before .before .before .before .before .before .before .before .before .before .before .before .before .before .before .drop-stale .ensures) (c .before .before .before .before .before .before .before .before .before .before .before .before .if1 .taken) _ _ _ (c .before .before .before .before .before .before .join .ensures)
 
 mark-once-requires : tie.Need-mark-once-requires
 mark-once-requires c κs = search needs
@@ -56,12 +56,12 @@ same-length-10 c = search needs
 returns-2 : tie.Need-returns-2
 returns-2 c =
     let pre = c .before .before .before .before .before .before .before .before .before .before .before .before .before .before .before .before .before .before .before .before .before .before .before .pre in
-    kept-is _ _ _ _ _ _ (pre .1) (pre .0 .ends) (pre .3) _ _ _ (c .before .before .before .before .before .before .before .before .before .before .before .before .drop-stale .ensures) (c .before .before .before .before .before .before .before .before .before .if1 .left) (c .before .before .before .before .before .before .before .if2 .taken) _ (c .before .before .before .before .mark-once .ensures)
+    kept-is _ _ _ _ _ _ (pre .2) (pre .1 .ends) (pre .4) _ _ _ (c .before .before .before .before .before .before .before .before .before .before .before .before .drop-stale .ensures) (c .before .before .before .before .before .before .before .before .before .if1 .left) (c .before .before .before .before .before .before .before .if2 .taken) _ (c .before .before .before .before .mark-once .ensures)
 
 shrink-requires : tie.Need-shrink-requires
 shrink-requires c κs =
     let pre = c .before .before .before .before .before .before .before .before .before .before .before .before .before .before .before .before .before .before .before .before .before .before .pre in
-    (record { table = pre .0 .table; pairTable = omega (arith, pre .0 .pairTable, c .before .before .before .before .before .before .before .before .before .before .before .drop-stale .kept .0); hopPlaces = pre .0 .hopPlaces; evenRow = pre .0 .evenRow; oddRow = pre .0 .oddRow; boundPlaces = pre .0 .boundPlaces; skipPlaces = pre .0 .skipPlaces; codeRow = pre .0 .codeRow }, record { net = pre .1 .net; present = pre .1 .present; depth = pre .1 .depth; stands = pre .1 .stands }, pre .2)
+    (record { table = pre .0 .table; pairTable = omega (arith, pre .0 .pairTable, c .before .before .before .before .before .before .before .before .before .before .before .drop-stale .kept .0); hopPlaces = pre .0 .hopPlaces; evenRow = pre .0 .evenRow; oddRow = pre .0 .oddRow; boundPlaces = pre .0 .boundPlaces; skipPlaces = pre .0 .skipPlaces; codeRow = pre .0 .codeRow }, record { net = pre .2 .net; present = pre .2 .present; depth = pre .2 .depth; stands = pre .2 .stands }, pre .3)
 
 same-length-11 : tie.Need-same-length-11
 same-length-11 c = search needs
@@ -84,7 +84,7 @@ same-length-16 c = search needs
 returns-3 : tie.Need-returns-3
 returns-3 c =
     let pre = c .before .before .before .before .before .before .before .before .before .before .before .before .before .before .before .before .before .before .before .before .before .before .before .before .before .before .before .before .before .before .before .before .before .before .before .pre in
-    shrank-is _ _ _ _ _ _ (pre .1) (pre .0 .ends) (pre .3) _ _ _ (c .before .before .before .before .before .before .before .before .before .before .before .before .before .before .before .before .before .before .before .before .before .before .before .before .drop-stale .ensures) (c .before .before .before .before .before .before .before .before .before .before .before .before .before .before .before .before .before .before .before .before .before .if1 .left) (c .before .before .before .before .before .before .before .before .before .before .before .before .before .before .before .before .before .before .before .if2 .left) _ (c .before .before .before .before .before .before .before .before .before .before .before .before .shrink .ensures)
+    shrank-is _ _ _ _ _ _ (pre .2) (pre .1 .ends) (pre .4) _ _ _ (c .before .before .before .before .before .before .before .before .before .before .before .before .before .before .before .before .before .before .before .before .before .before .before .before .drop-stale .ensures) (c .before .before .before .before .before .before .before .before .before .before .before .before .before .before .before .before .before .before .before .before .before .if1 .left) (c .before .before .before .before .before .before .before .before .before .before .before .before .before .before .before .before .before .before .before .if2 .left) _ (c .before .before .before .before .before .before .before .before .before .before .before .before .shrink .ensures)
 
 pub settle-low-spec : {M : Type 1} → statement M
 settle-low-spec =
