@@ -4,3 +4,5 @@ pub mod Listed
 pub mod Notices
 -- The links of a new depot, neighbour by neighbour.
 pub mod Linking
+-- What a caller has of the refusals and the links.
+pub mod Theorems

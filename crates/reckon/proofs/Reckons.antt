@@ -1,37 +1,34 @@
 -- The refusals of a reckoning, and what an accepted one leaves. Assumes nothing.
-use mathlib.Core.Path.{_≡_, refl, sym, ap, ap₂, _∙_, subst}
-use mathlib.Core.Bool.{Bool, true, false, not}
-use mathlib.Core.List.{List, [], _∷_}
+use mathlib.Core.Path.{_≡_, refl, sym, ap, ap₂, _∙_}
+use mathlib.Core.Bool.{true, false, not}
+use mathlib.Core.List.{List, []}
 use Prim.Native.Nat.{ℕ, zero, suc, _*_, _≤_, _<_}
 use native.Mathlib.Omega.{arith}
 use lib.ListN.{length}
 use borrow.Author.Tests.{not-false}
-use Rattle.lists.specs.Lists.{range, firstOf, overwrite}
+use Rattle.lists.specs.Lists.{firstOf}
 use Rattle.lists.proofs.Members.{first-zero}
-use Rattle.lists.proofs.Fills.{overwrite-length}
 use Rattle.graph.specs.Network.{Network, IsSound}
 use Rattle.graph.specs.Distance.{unreached, connected}
-use Rattle.graph.specs.Chart.{chart, countPairs}
-use Rattle.graph.specs.Rounds.{State, rounds, start, reckon}
+use Rattle.graph.specs.Chart.{chart}
+use Rattle.graph.specs.Rounds.{start, reckon}
 use Rattle.graph.specs.Correct.{IsNet}
 use Rattle.graph.proofs.Connected.{connected-iff}
-use Rattle.rows.specs.Rows.{tableBit, encodeTable}
-use Rattle.layers.specs.Layers.{Tables, tables}
-use Rattle.map.specs.Memory.{Shape, places, tableWords, IsShape, base, networkOf}
+use Rattle.layers.specs.Layers.{tables}
+use Rattle.map.specs.Memory.{Shape, IsShape, base, networkOf}
 use Rattle.map.specs.Sound.{soundLinks}
 use Rattle.map.specs.declared.Record.{Record}
 use Rattle.map.proofs.Theorems.{sound-links-iff}
 use Rattle.pairs.specs.Pairs.{tally, tallyOf, Counted}
-use Rattle.pairs.proofs.Tallies.{Holds, holds-counted}
+use Rattle.pairs.proofs.Tallies.{holds-counted}
 use Rattle.bounds.specs.Bounds.{marks}
-use Rattle.rounds.specs.Leaves.{Lent, lent, Ran, ran, roundsLeave, ranBy}
+use Rattle.rounds.specs.Leaves.{Lent, lent, Ran, ran, ranBy}
 use Rattle.rounds.specs.Sizes.{Sizes, sizes, sizesOf, longEnough}
 use Rattle.rounds.specs.Workspace.{Workspace, workspace, runOf, Begun, begun, beginOf}
 use Rattle.rounds.proofs.Holding.{Origin}
 use Rattle.rounds.proofs.Finish.{start-holds, start-running, run-leaves, run-figures, count-no-pairs}
-use Rattle.reckon.specs.ReckonCall.{linkFaults, reckonRefusal, figuredBy, ReckonLeft, reckonLeft, reckonGiven, reckonCall}
+use Rattle.reckon.specs.ReckonCall.{linkFaults, reckonRefusal, figuredBy, reckonLeft, reckonGiven, reckonCall}
 use Rattle.reckon.specs.declared.Reckoning.the-variants.{Searches, Refused}
-use Rattle.reckon.specs.declared.Reckoned.{Reckoned}
 use Rattle.reckon.proofs.Longs.{AreLong, are-long}
 
 pub base-shape : IsShape base
@@ -64,15 +61,21 @@ module _ (K : Shape) (rec : Record) (links : List ℕ) (z : Sizes) where
   unfolding reckonRefusal
   granted-long e = are-long K z (not-false (longEnough K z) (first-zero (not (longEnough K z)) 0 (linkFaults K rec links) e .0))
 
-  pub granted-net : IsShape K → reckonRefusal K rec links z ≡ 0 → IsNet (networkOf (K .words) (rec .codes) links)
-  unfolding reckonRefusal linkFaults networkOf
-  granted-net shape e =
+  pub granted-tests : reckonRefusal K rec links z ≡ 0 → (soundLinks (networkOf (K .words) (rec .codes) links) (rec .number) ≡ true) × (connected (networkOf (K .words) (rec .codes) links) ≡ true)
+  unfolding reckonRefusal linkFaults
+  granted-tests e =
       let a = first-zero (not (longEnough K z)) 0 _ e in
       let b = first-zero (not (soundLinks G (rec .number))) 1 _ (a .1) in
       let c = first-zero (not (connected G)) 2 [] (b .1) in
-      let s : IsSound G = sound-links-iff (K .words) (rec .codes) links (rec .number) .0 (not-false (soundLinks G (rec .number)) (b .0)) .isSound in
+      (not-false (soundLinks G (rec .number)) (b .0), not-false (connected G) (c .0))
+
+  pub granted-net : IsShape K → reckonRefusal K rec links z ≡ 0 → IsNet (networkOf (K .words) (rec .codes) links)
+  unfolding networkOf
+  granted-net shape e =
+      let t = granted-tests e in
+      let s : IsSound G = sound-links-iff (K .words) (rec .codes) links (rec .number) .0 (t .0) .isSound in
       let m : G .limit < unreached = omega (arith, shape .most) in
-      record { sound = s; connected = connected-iff G s m .0 (not-false (connected G) (c .0)); small = m }
+      record { sound = s; connected = connected-iff G s m .0 (t .1); small = m }
 
 pub sound-by : (W : ℕ) (codes links : List ℕ) (number : ℕ) → soundLinks (networkOf W codes links) number ≡ true → IsSound (networkOf W codes links)
 sound-by W codes links number e = sound-links-iff W codes links number .0 e .isSound

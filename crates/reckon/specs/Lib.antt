@@ -1,2 +1,5 @@
--- The whole reckoning as a call on lent memory.
+-- The whole reckoning. Order of reading:
+-- 1. the call on lent memory
 pub mod ReckonCall
+-- 2. what an accepted reckoning answers and leaves, by the published words
+pub mod Demand2

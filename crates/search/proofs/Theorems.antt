@@ -13,13 +13,13 @@ use borrow.Author.Tests.{eqb-false, eq-eqb, ne-eqb, not-true, not-false}
 use Rattle.lists.specs.Lists.{range, mapl, overwrite, firstOf}
 use Rattle.lists.proofs.Tests.{look, t→true, true→t, false→not, clash, lt-or-ge}
 use Rattle.lists.proofs.Fills.{length-fill, overwrite-length, fill-at}
-use Rattle.graph.specs.Network.{Network, IsConnected, IsDist}
+use Rattle.graph.specs.Network.{Network, IsDist}
 use Rattle.graph.specs.Distance.{unreached, dist, connected}
 use Rattle.graph.specs.Chart.{chart, ecc}
 use Rattle.graph.specs.Correct.{IsNet}
 use Rattle.graph.proofs.Walks.{walk-open}
 use Rattle.graph.proofs.Distances.{vertices-length}
-use Rattle.graph.proofs.Connected.{connected-iff, hop-open, hop-closed}
+use Rattle.graph.proofs.Connected.{hop-open, hop-closed}
 use Rattle.graph.proofs.Theorems.{eccentricity-is, distance-below}
 use Rattle.rows.specs.Rows.{rowBit, encodeRow}
 use Rattle.rows.proofs.Written.{row-past, row-at, row-of-table, table-zero, encode-row-length}
@@ -30,8 +30,9 @@ use Rattle.map.specs.Sound.{soundLinks, AreLinksSound}
 use Rattle.map.specs.declared.Record.{Record}
 use Rattle.map.proofs.Theorems.{network-open-below, sound-links-iff}
 use Rattle.search.specs.SearchCall.{searchRoom, searchRefusal, SearchLeft, searchGiven, searchCall, lastLayer}
-use Rattle.search.specs.Refusals.{FirstHolds, IsShort, IsSpoilt, IsApart, IsAbsent, searchTableOf}
+use Rattle.search.specs.Refusals.{FirstHolds, IsShort, IsSpoilt, IsApart, IsAbsent, searchConditions}
 use Rattle.search.specs.Demand2.{HoldsLayer, HoldsBefore, KeepsPast, IsSearch, Demand2}
+use Rattle.search.proofs.Apart.{apart-of, apart-not}
 use Rattle.search.proofs.Accepts.{IsGranted, granted, accepted-net, room-all, room-fits}
 
 -- ---- WHICH REFUSAL
@@ -78,11 +79,11 @@ module _ (K : Shape) (shape : IsShape K) (rec : Record) (links : List ℕ) (hops
   sound-iff : (soundLinks G (rec .number) ≡ true) ↔ AreLinksSound G (rec .number)
   sound-iff = sound-links-iff (K .words) (rec .codes) links (rec .number)
 
-  joined-iff : AreLinksSound G (rec .number) → (connected G ≡ true) ↔ IsConnected G
+  small : G .limit < unreached
   unfolding networkOf
-  joined-iff s = connected-iff G (s .isSound) (omega (arith, shape .most))
+  small = omega (arith, shape .most)
 
-  pub search-refusals : (k : ℕ) → (searchRefusal K rec links hops even odd code ≡ k) ↔ FirstHolds (searchTableOf K rec links hops even odd code) k
+  pub search-refusals : (k : ℕ) → (searchRefusal K rec links hops even odd code ≡ k) ↔ FirstHolds (searchConditions K rec links hops even odd code) k
   unfolding searchRefusal firstOf
   search-refusals k =
       first-line (not room) (IsShort K (length links) hops even odd) 1 k (λ t. short-of K (length links) hops even odd (not-true room t)) (λ f. not-short K (length links) hops even odd (not-false room f))
@@ -90,7 +91,8 @@ module _ (K : Shape) (shape : IsShape K) (rec : Record) (links : List ℕ) (hops
       first-line (not sound) (IsSpoilt G (rec .number)) 2 k (λ t s. clash (sound-iff .1 s) (not-true sound t)) (λ f n. n (sound-iff .0 (not-false sound f)))
       (λ f2.
       let s = sound-iff .0 (not-false sound f2) in
-      first-line (not (connected G)) (IsApart G (rec .number)) 3 k (λ t. (s, λ c. clash (joined-iff s .1 c) (not-true (connected G) t))) (λ f a. a .1 (joined-iff s .0 (not-false (connected G) f)))
+      first-line (not (connected G)) (AreLinksSound G (rec .number) × IsApart G) 3 k (λ t. (s, apart-of G (s .isSound) small (not-true (connected G) t)))
+      (λ f a. apart-not G (s .isSound) small (not-false (connected G) f) (a .1))
       (λ f3.
       first-line (not (G .isOpen code)) (IsAbsent G code) 4 k (λ t p. clash (t→true (G .isOpen code) p) (not-true (G .isOpen code) t)) (λ f n. n (true→t (not-false (G .isOpen code) f)))
       (λ f4. (sym, sym)))))

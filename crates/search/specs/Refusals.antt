@@ -4,10 +4,10 @@
 use mathlib.Core.Path.{_≡_}
 use mathlib.Core.Logic.{_⊎_}
 use mathlib.Core.List.{List, [], _∷_}
-use Prim.Native.Nat.{ℕ, _<_}
+use Prim.Native.Nat.{ℕ, _≤_, _<_}
 use lib.Dec.{T}
 use lib.ListN.{length}
-use Rattle.graph.specs.Network.{Network, IsConnected}
+use Rattle.graph.specs.Network.{Network, Walk}
 use Rattle.map.specs.Memory.{Shape, places, tableWords, networkOf}
 use Rattle.map.specs.Sound.{AreLinksSound}
 use Rattle.map.specs.declared.Record.{Record}
@@ -25,16 +25,21 @@ IsShort K links hops even odd = (links < tableWords K) ⊎ (hops < places K) ⊎
 abbrev pub IsSpoilt : Network → ℕ → Type 0
 IsSpoilt G number = AreLinksSound G number → ⊥
 
--- 3, apart: the links are sound, but no walk joins some two open depots
-abbrev pub IsApart : Network → ℕ → Type 0
-IsApart G number = AreLinksSound G number × (IsConnected G → ⊥)
+-- 3, apart: (the links are sound, but) some open depot is not reached from the lowest open code
+pub record IsApart (G : Network) : Type 0 where
+  pub lowest : ℕ
+  pub isOpen : T (G .isOpen lowest)
+  pub isLowest : (u : ℕ) → T (G .isOpen u) → lowest ≤ u
+  pub depot : ℕ
+  pub isDepot : T (G .isOpen depot)
+  pub noWalk : (k : ℕ) → Walk G k lowest depot → ⊥
 
 -- 4, absent: the search names a closed code
 abbrev pub IsAbsent : Network → ℕ → Type 0
 IsAbsent G code = T (G .isOpen code) → ⊥
 
 -- the table for a search, by the lengths of the lent hop table and rows
-abbrev pub searchTableOf : Shape → Record → List ℕ → ℕ → ℕ → ℕ → ℕ → List (Type 0 × ℕ)
-searchTableOf K rec links hops even odd code =
+abbrev pub searchConditions : Shape → Record → List ℕ → ℕ → ℕ → ℕ → ℕ → List (Type 0 × ℕ)
+searchConditions K rec links hops even odd code =
     let G = networkOf (K .words) (rec .codes) links in
-    (IsShort K (length links) hops even odd, 1) ∷ (IsSpoilt G (rec .number), 2) ∷ (IsApart G (rec .number), 3) ∷ (IsAbsent G code, 4) ∷ []
+    (IsShort K (length links) hops even odd, 1) ∷ (IsSpoilt G (rec .number), 2) ∷ (AreLinksSound G (rec .number) × IsApart G, 3) ∷ (IsAbsent G code, 4) ∷ []

@@ -28,13 +28,15 @@ row-set-requires : tie.Need-row-set-requires Inv-loop μ-loop
 row-set-requires c κs =
     let s = c .before .before .before .before .before .before in
     let l = c .before .before .before .loop in
-    in-table _ _ _ _ _ (s .pre .2) (l .inv .0) (omega (arith, s .pre .0, s .fits .code .fits)) (omega (arith, s .pre .0, c .before .shared-slice-known2 .given (l .i)))
+    let v = c .before .shared-slice-known2 .given (l .i) in
+    in-table _ _ _ _ _ (s .pre .2) (l .inv .0) (omega (arith, s .pre .0, s .fits .code .fits, v)) (omega (arith, s .pre .0, s .fits .code .fits, v))
 
 row-set-requires-2 : tie.Need-row-set-requires-2 Inv-loop μ-loop
 row-set-requires-2 c κs =
     let s = c .before .before .before .before .before .before .before .before .before .before in
     let l = c .before .before .before .before .before .before .before .loop in
-    in-table _ _ _ _ _ (s .pre .2) (c .before .before .before .row-set .kept .0 ∙ l .inv .0) (omega (arith, s .pre .0, c .before .before .before .before .before .shared-slice-known2 .given (l .i))) (omega (arith, s .pre .0, s .fits .code .fits))
+    let v = c .before .before .before .before .before .shared-slice-known2 .given (l .i) in
+    in-table _ _ _ _ _ (s .pre .2) (c .before .before .before .row-set .kept .0 ∙ l .inv .0) (omega (arith, s .pre .0, s .fits .code .fits, v)) (omega (arith, s .pre .0, s .fits .code .fits, v))
 
 add-i : tie.Need-add-i Inv-loop μ-loop
 add-i c = search needs

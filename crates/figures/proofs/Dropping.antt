@@ -1,0 +1,154 @@
+-- The stale pairs dropped by the hops of the search from the new depot: what stays and the greatest way are the network's. Assumes nothing.
+use mathlib.Core.Path.{_≡_, refl, sym, ap, ap₂, _∙_, subst}
+use mathlib.Core.Logic.{_⊎_, inl, inr}
+use mathlib.Core.Bool.{Bool, true, false, cond, not, _&&_}
+use mathlib.Core.List.{List, [], _∷_, List·Memᴰ, List·Memᴰ·head, List·Memᴰ·tail}
+use Prim.Native.Nat.{ℕ, _+_, _*_, _<_, min, max}
+use native.Mathlib.Omega.{arith}
+use lib.Dec.{T, ltb}
+use lib.ListN.{getD}
+use Rattle.lists.specs.Lists.{range, filterb, anyb, maxOf}
+use Rattle.lists.proofs.Tests.{look, t→true, true→t, clash, and-true}
+use Rattle.lists.proofs.Members.{any-intro, any-elim, range-out}
+use Rattle.lists.proofs.Fills.{fill-at}
+use Rattle.graph.specs.Network.{Network}
+use Rattle.graph.specs.Distance.{vertices, dist}
+use Rattle.graph.specs.Chart.{chart, Pairs, countPairs}
+use Rattle.graph.specs.Opening.{via, stayingPairs, anyPair, shrunkCandidate}
+use Rattle.graph.specs.Correct.{IsNet}
+use Rattle.graph.proofs.Charts.{depot-in, depot-out}
+use Rattle.rows.specs.Rows.{tableBit}
+use Rattle.layers.specs.Layers.{Tables, searchLeaves}
+use Rattle.pairs.specs.Pairs.{Tally, tally, tallyOf, Dropped, dropped, staying, greatestWay, dropOf}
+use Rattle.pairs.proofs.PairCounts.{pairs-none, pairs-zero}
+use Rattle.pairs.proofs.Tallies.{tally-ext}
+use Rattle.pairs.proofs.Theorems.{drop-way}
+
+-- ---- the greatest of a list
+
+max-ext : (f g : ℕ → ℕ) (xs : List ℕ) → ((x : ℕ) → List·Memᴰ x xs → f x ≡ g x) → maxOf f xs ≡ maxOf g xs
+unfolding maxOf
+max-ext f g [] h = refl
+max-ext f g (x ∷ xs) h = ap₂ max (h x (List·Memᴰ·head refl)) (max-ext f g xs (λ y m. h y (List·Memᴰ·tail m)))
+
+-- where f is 0 outside of p, the others need no look
+max-filter : (p : ℕ → Bool) (f : ℕ → ℕ) (xs : List ℕ) → ((x : ℕ) → p x ≡ false → f x ≡ 0) → maxOf f xs ≡ maxOf f (filterb p xs)
+unfolding maxOf filterb
+max-filter p f [] h = refl
+max-filter p f (x ∷ xs) h = go (look (p x)) (max-filter p f xs h)
+  where
+    go : (p x ≡ true) ⊎ (p x ≡ false) → maxOf f xs ≡ maxOf f (filterb p xs) → max (f x) (maxOf f xs) ≡ maxOf f (cond (p x) (x ∷ filterb p xs) (filterb p xs))
+    go (inl q) ih = rw q (ap (max (f x)) ih)
+    go (inr q) ih = let z : f x ≡ 0 = h x q in rw q (omega (arith, ih))
+
+-- ---- the stored pairs t, on the network G with the new depot a
+
+module _ (W : ℕ) (G : Network) (net : IsNet G) (limit-is : G .limit ≡ 64 * W) (a : ℕ) (T₀ : Tables) (D : ℕ) (t : List ℕ)
+    (ends : (u v : ℕ) → T (tableBit W t u v) → T (G .isOpen u) × T (G .isOpen v)) where
+  abbrev hops : List ℕ
+  hops = searchLeaves W G a T₀ .hops
+
+  abbrev Left : Pairs
+  Left = stayingPairs (chart G) a D (tableBit W t)
+
+  hop : (v : ℕ) → v < 64 * W → getD hops v 0 ≡ dist G a v
+  unfolding searchLeaves
+  hop v l = fill-at (dist G a) (T₀ .hops) (64 * W) v 0 l
+
+  way : (u v : ℕ) → u < 64 * W → v < 64 * W → getD hops u 0 + getD hops v 0 ≡ via (chart G) a u v
+  unfolding via chart
+  way u v l m = ap₂ (λ (x y : ℕ). x + y) (hop u l) (hop v m)
+
+  stay : (u v : ℕ) → u < 64 * W → v < 64 * W → staying W hops D t u v ≡ Left u v
+  unfolding staying stayingPairs
+  stay u v l m = ap (λ (x : ℕ). tableBit W t u v && not (ltb x D)) (way u v l m)
+
+  below : (v : ℕ) → T (G .isOpen v) → v < 64 * W
+  below v o = subst (λ (n : ℕ). v < n) limit-is (net .sound .below v o)
+
+  left-stored : (u v : ℕ) → Left u v ≡ true → T (tableBit W t u v)
+  unfolding stayingPairs
+  left-stored u v h = true→t (and-true (tableBit W t u v) (not (ltb (via (chart G) a u v) D)) h .0)
+
+  -- ---- the greatest way
+
+  closed-row : (u v : ℕ) → G .isOpen u ≡ false → tableBit W t u v ≡ false
+  closed-row u v q = go (look (tableBit W t u v))
+    where
+      go : (tableBit W t u v ≡ true) ⊎ (tableBit W t u v ≡ false) → tableBit W t u v ≡ false
+      go (inl h) = absurd (clash (t→true (G .isOpen u) (ends u v (true→t h) .0)) q)
+      go (inr h) = h
+
+  closed-column : (u v : ℕ) → G .isOpen v ≡ false → tableBit W t u v ≡ false
+  closed-column u v q = go (look (tableBit W t u v))
+    where
+      go : (tableBit W t u v ≡ true) ⊎ (tableBit W t u v ≡ false) → tableBit W t u v ≡ false
+      go (inl h) = absurd (clash (t→true (G .isOpen v) (ends u v (true→t h) .1)) q)
+      go (inr h) = h
+
+  abbrev reach : ℕ → ℕ → ℕ
+  reach u v = cond (tableBit W t u v) (min D (via (chart G) a u v)) 0
+
+  row-zero : (u : ℕ) → G .isOpen u ≡ false → (xs : List ℕ) → maxOf (reach u) xs ≡ 0
+  unfolding maxOf
+  row-zero u q [] = refl
+  row-zero u q (x ∷ xs) = let z : reach u x ≡ 0 = ap (λ (b : Bool). cond b (min D (via (chart G) a u x)) 0) (closed-row u x q) in omega (arith, row-zero u q xs)
+
+  depots-are : filterb (G .isOpen) (range (64 * W)) ≡ chart G .depots
+  unfolding chart vertices
+  depots-are = ap (λ (n : ℕ). filterb (G .isOpen) (range n)) (sym limit-is)
+
+  among : (f : ℕ → ℕ) → ((v : ℕ) → G .isOpen v ≡ false → f v ≡ 0) → maxOf f (range (64 * W)) ≡ maxOf f (chart G .depots)
+  among f h = max-filter (G .isOpen) f (range (64 * W)) h ∙ ap (maxOf f) depots-are
+
+  -- THE GREATEST WAY IS THE CANDIDATE
+  pub way-is : greatestWay W hops D t ≡ shrunkCandidate (chart G) a D (tableBit W t)
+  unfolding greatestWay shrunkCandidate
+  way-is =
+      max-ext (λ u. maxOf (λ v. cond (tableBit W t u v) (min D (getD hops u 0 + getD hops v 0)) 0) (range (64 * W))) (λ u. maxOf (reach u) (chart G .depots)) (range (64 * W))
+      (λ u l. max-ext (λ v. cond (tableBit W t u v) (min D (getD hops u 0 + getD hops v 0)) 0) (reach u) (range (64 * W))
+      (λ v m. ap (λ (x : ℕ). cond (tableBit W t u v) (min D x) 0) (way u v (range-out (64 * W) l) (range-out (64 * W) m)))
+      ∙ among (reach u) (λ v q. ap (λ (b : Bool). cond b (min D (via (chart G) a u v)) 0) (closed-column u v q)))
+      ∙ among (λ u. maxOf (reach u) (chart G .depots)) (λ u q. row-zero u q (chart G .depots))
+
+  -- ---- what is left
+
+  module _ {t′ : List ℕ} {n w : ℕ} (q : dropped (tally t′ n) w ≡ dropOf W hops D t) where
+    pub left-is : tally t′ n ≡ tallyOf W Left t
+    unfolding dropOf
+    left-is = ap (λ (x : Dropped). x .left) q ∙ tally-ext W (staying W hops D t) Left t stay
+
+    pub candidate-is : w ≡ shrunkCandidate (chart G) a D (tableBit W t)
+    candidate-is = drop-way W hops D t q ∙ way-is
+
+    count-is : n ≡ countPairs (range (64 * W)) Left
+    unfolding tallyOf
+    count-is = ap (λ (x : Tally). x .count) left-is
+
+    -- a count of 0 says that no pair is left, any other that one is
+    pub none-left : n ≡ 0 → anyPair (chart G .depots) Left ≡ false
+    unfolding anyPair
+    none-left z = go (look (anyb (λ u. anyb (λ v. Left u v) (chart G .depots)) (chart G .depots)))
+      where
+        go : (anyb (λ u. anyb (λ v. Left u v) (chart G .depots)) (chart G .depots) ≡ true) ⊎ (anyb (λ u. anyb (λ v. Left u v) (chart G .depots)) (chart G .depots) ≡ false)
+            → anyb (λ u. anyb (λ v. Left u v) (chart G .depots)) (chart G .depots) ≡ false
+        go (inr h) = h
+        go (inl h) =
+            let x = any-elim (λ u. anyb (λ v. Left u v) (chart G .depots)) (chart G .depots) h in
+            let y = any-elim (λ v. Left (x .0) v) (chart G .depots) (x .2) in
+            absurd (clash (y .2) (pairs-zero (64 * W) Left (sym count-is ∙ z) (x .0) (y .0) (below (x .0) (depot-out G (x .1))) (below (y .0) (depot-out G (y .1)))))
+
+    pub some-left : (n ≡ 0 → ⊥) → anyPair (chart G .depots) Left ≡ true
+    unfolding anyPair
+    some-left ne = go (look (anyb (λ u. anyb (λ v. Left u v) (chart G .depots)) (chart G .depots)))
+      where
+        go : (anyb (λ u. anyb (λ v. Left u v) (chart G .depots)) (chart G .depots) ≡ true) ⊎ (anyb (λ u. anyb (λ v. Left u v) (chart G .depots)) (chart G .depots) ≡ false)
+            → anyb (λ u. anyb (λ v. Left u v) (chart G .depots)) (chart G .depots) ≡ true
+        go (inl h) = h
+        go (inr h) = absurd (ne (count-is ∙ pairs-none (64 * W) Left (λ u v l m. at u v (look (Left u v)))))
+          where
+            at : (u v : ℕ) → (Left u v ≡ true) ⊎ (Left u v ≡ false) → Left u v ≡ false
+            at u v (inr k) = k
+            at u v (inl k) =
+                let o = ends u v (left-stored u v k) in
+                absurd (clash (any-intro (λ u. anyb (λ v. Left u v) (chart G .depots)) (chart G .depots) (depot-in G net u (o .0)) (any-intro (λ v. Left u v) (chart G .depots) (depot-in G net v (o .1)) k)) h)

@@ -1,0 +1,4 @@
+pub mod Once
+pub mod Dropping
+pub mod Shrinking
+pub mod Cases

@@ -1,0 +1,54 @@
+-- THE FIGURES AFTER AN OPENING, once its links are in place: what the code's step from the search of the new depot to the last round leaves.
+-- Assumes nothing.
+use mathlib.Core.Path.{_≡_}
+use mathlib.Core.List.{List}
+use Prim.Native.Nat.{ℕ, _≤_, _<_}
+use lib.Dec.{T}
+use lib.ListN.{length}
+use Rattle.graph.specs.Network.{Network}
+use Rattle.lists.specs.Lists.{range}
+use Rattle.graph.specs.Chart.{chart, countPairs}
+use Rattle.graph.specs.Opening as Steps
+use Rattle.graph.specs.Opening.{opening, grew, kept, shrank}
+use Rattle.graph.specs.Correct.{IsNet}
+use Rattle.rows.specs.Rows.{tableBit}
+use Rattle.map.specs.Memory.{Shape, places, tableWords, networkOf}
+use Rattle.rounds.specs.Leaves.{Lent, Ran, ranBy}
+use Rattle.outcome.specs.declared.Change.{Change}
+use Rattle.outcome.specs.declared.Change.the-variants.{Grew, Kept, Shrank}
+
+-- the answer's case for each way in which the chain moves
+unfoldable pub changeAs : Steps.Change → Change
+changeAs grew = Grew
+changeAs kept = Kept
+changeAs shrank = Shrank
+
+pub record Figured : Type 0 where
+  pub change : Change
+  pub ran : Ran
+
+abbrev pub figured : Change → Ran → Figured
+figured c r = record { change = c; ran = r }
+
+-- H is the network with the new depot a in place, D the stored chain, B the lent tables with the stored pairs
+unfoldable pub figuredBy : Shape → Network → ℕ → ℕ → Lent → Figured
+figuredBy K H a D B =
+    let x = opening (chart H) a D (tableBit (K .words) (B .pairs)) in
+    figured (changeAs (x .change)) (ranBy K H (x .final) B)
+
+-- what the step asks: whole tables; a sound, connected network with the open depot a; stored pairs that join open codes, as many as the count
+pub record IsFigurable (K : Shape) (codes links : List ℕ) (B : Lent) (a D count : ℕ) : Type 0 where
+  pub table : tableWords K ≤ length links
+  pub pairTable : tableWords K ≤ length (B .pairs)
+  pub hopPlaces : places K ≤ length (B .searched .hops)
+  pub evenRow : K .words ≤ length (B .searched .even)
+  pub oddRow : K .words ≤ length (B .searched .odd)
+  pub boundPlaces : places K ≤ length (B .bounds)
+  pub skipPlaces : places K ≤ length (B .skips)
+  pub codeRow : K .words ≤ length codes
+  pub net : IsNet (networkOf (K .words) codes links)
+  pub present : T (networkOf (K .words) codes links .isOpen a)
+  pub rising : (u v : ℕ) → T (tableBit (K .words) (B .pairs) u v) → u < v
+  pub ends : (u v : ℕ) → T (tableBit (K .words) (B .pairs) u v) → T (networkOf (K .words) codes links .isOpen u) × T (networkOf (K .words) codes links .isOpen v)
+  pub counted : count ≡ countPairs (range (places K)) (tableBit (K .words) (B .pairs))
+  pub low : D < places K

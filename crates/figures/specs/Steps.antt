@@ -1,0 +1,70 @@
+-- THE STEPS OF THE CODE from the finished search of the new depot on, over lists of words and numbers. Nobody has to believe these: `refigure`
+-- answers by Figured.antt.
+-- Assumes nothing.
+use mathlib.Core.Path.{_≡_}
+use mathlib.Core.Bool.{cond}
+use mathlib.Core.List.{List}
+use Prim.Native.Nat.{ℕ, _≤_}
+use lib.Dec.{T, eqb}
+use lib.ListN.{length}
+use Rattle.lists.specs.Lists.{range, mapl, overwrite}
+use Rattle.graph.specs.Distance.{unreached}
+use Rattle.graph.specs.Chart.{chart, ecc}
+use Rattle.graph.specs.Correct.{IsNet}
+use Rattle.rows.specs.Rows.{tableBit}
+use Rattle.layers.specs.Layers.{Tables, searchLeaves}
+use Rattle.map.specs.Memory.{Shape, places, tableWords, networkOf}
+use Rattle.pairs.specs.Pairs.{Tally, settleOf}
+use Rattle.rounds.specs.Leaves.{Lent}
+use Rattle.rounds.specs.Workspace.{lastRow}
+
+-- ---- the marks of a call that searched from a alone, with eccentricity e
+
+pub record Marked : Type 0 where
+  pub bounds : List ℕ
+  pub skips : List ℕ
+
+abbrev pub marking : List ℕ → List ℕ → Marked
+marking b s = record { bounds = b; skips = s }
+
+unfoldable pub markOnce : Shape → ℕ → ℕ → Marked → Marked
+markOnce K a e M =
+    marking
+    (overwrite (mapl (λ v. cond (eqb v a) e unreached) (range (places K))) (M .bounds))
+    (overwrite (mapl (λ v. cond (eqb v a) (K .searchedMark) (K .otherMark)) (range (places K))) (M .skips))
+
+-- ---- the pairs and marks of such a call, D being the stored chain
+
+pub record Joined : Type 0 where
+  pub paired : Tally
+  pub marked : Marked
+
+abbrev pub joined : Tally → Marked → Joined
+joined t m = record { paired = t; marked = m }
+
+unfoldable pub joinOf : Shape → ℕ → ℕ → ℕ → Tables → Joined → Joined
+joinOf K a e D T J = joined (settleOf (K .words) (lastRow e T) a e D (J .paired)) (markOnce K a e (J .marked))
+
+-- ---- what the functions ask
+
+-- the tables hold the search from the open depot a, with eccentricity e, of a sound, connected network
+pub record IsSearched (K : Shape) (codes links : List ℕ) (B : Lent) (a e : ℕ) : Type 0 where
+  pub net : IsNet (networkOf (K .words) codes links)
+  pub present : T (networkOf (K .words) codes links .isOpen a)
+  pub depth : e ≡ ecc (chart (networkOf (K .words) codes links)) a
+  pub stands : B .searched ≡ searchLeaves (K .words) (networkOf (K .words) codes links) a (B .searched)
+
+-- every table is whole
+pub record IsWhole (K : Shape) (codes links : List ℕ) (B : Lent) : Type 0 where
+  pub table : tableWords K ≤ length links
+  pub pairTable : tableWords K ≤ length (B .pairs)
+  pub hopPlaces : places K ≤ length (B .searched .hops)
+  pub evenRow : K .words ≤ length (B .searched .even)
+  pub oddRow : K .words ≤ length (B .searched .odd)
+  pub boundPlaces : places K ≤ length (B .bounds)
+  pub skipPlaces : places K ≤ length (B .skips)
+  pub codeRow : K .words ≤ length codes
+
+-- the stored pairs join open codes
+pub record AreOpen (K : Shape) (codes links pairs : List ℕ) : Type 0 where
+  pub ends : (u v : ℕ) → T (tableBit (K .words) pairs u v) → T (networkOf (K .words) codes links .isOpen u) × T (networkOf (K .words) codes links .isOpen v)

@@ -1,0 +1,247 @@
+ghost use mathlib.Core.Path.{_≡_};
+ghost use mathlib.Core.List.{[]};
+ghost use Prim.Native.Nat.{_<_, _≤_};
+ghost use lib.ListN.{length};
+ghost use Rattle.graph.specs.Chart.{chart};
+ghost use Rattle.graph.specs.Rounds.{round, rounds, start};
+ghost use Rattle.layers.specs.Layers.{tables, searched, searchTable};
+ghost use Rattle.map.specs.Memory.{base, networkOf};
+ghost use Rattle.pairs.specs.Pairs.{tally, settleOf, Counted};
+ghost use Rattle.rounds.specs.Leaves.{lent, ran, ranBy};
+ghost use Rattle.rounds.specs.Workspace.{lastRow};
+ghost use Rattle.figures.specs.Figured.{figured, figuredBy, IsFigurable};
+ghost use Rattle.figures.specs.Steps.{marking, markOnce, joined, joinOf, IsSearched, IsWhole, AreOpen};
+use outcome::Change;
+use rounds::Tally;
+
+// The figures after an opening: how the chain moved, chain, pair count, number of searches.
+pub struct Figures {
+    pub change: Change,
+    pub chain: u16,
+    pub count: u32,
+    pub searches: u16,
+}
+
+// ---- a call that searched from a alone
+
+// Its marks: a with its eccentricity e, no other depot.
+fn mark_once(bounds: &mut [u16], skips: &mut [u16], a: usize, e: u16)
+    requires { ⌜ (256 ≤ length (now bounds)) × (256 ≤ length (now skips)) × (a < 256) ⌝ }
+    ensures { λ r. ⌜ marking (now (bounds .exit)) (now (skips .exit)) ≡ markOnce base a e (marking (now (bounds .entry)) (now (skips .entry))) ⌝ }
+{
+    layers::fill(bounds, 256, 65535);
+    layers::fill(skips, 256, 257);
+    bounds[a] = e;
+    skips[a] = 256;
+}
+
+// The pairs after it, whose last layer stands in the row of the eccentricity's parity.
+fn settle_own(
+    pairs: &mut [u64],
+    even: &[u64],
+    odd: &[u64],
+    a: usize,
+    e: u16,
+    chain: u16,
+    count: u32,
+) -> u32
+    requires { ⌜ Counted 4 (now pairs) count × (4 ≤ length (now even)) × (4 ≤ length (now odd)) × (a < 256) ⌝ }
+    ensures { λ n. ⌜ tally (now (pairs .exit)) n ≡ settleOf 4 (lastRow e (tables [] (now (even .entry)) (now (odd .entry)))) a e chain (tally (now (pairs .entry)) count) ⌝ }
+{
+    if e % 2 == 0 {
+        return pairs::settle(pairs, even, 4, a, e, chain, count);
+    }
+    pairs::settle(pairs, odd, 4, a, e, chain, count)
+}
+
+// Both, answering the number of pairs.
+fn join(
+    pairs: &mut [u64],
+    bounds: &mut [u16],
+    skips: &mut [u16],
+    even: &[u64],
+    odd: &[u64],
+    a: usize,
+    e: u16,
+    chain: u16,
+    count: u32,
+) -> u32
+    requires { ⌜ Counted 4 (now pairs) count × (256 ≤ length (now bounds)) × (256 ≤ length (now skips)) × (4 ≤ length (now even)) × (4 ≤ length (now odd)) × (a < 256) ⌝ }
+    ensures { λ n. ⌜ joined (tally (now (pairs .exit)) n) (marking (now (bounds .exit)) (now (skips .exit))) ≡ joinOf base a e chain (tables [] (now (even .entry)) (now (odd .entry))) (joined (tally (now (pairs .entry)) count) (marking (now (bounds .entry)) (now (skips .entry)))) ⌝ }
+{
+    let sum = settle_own(pairs, even, odd, a, e, chain, count);
+    mark_once(bounds, skips, a, e);
+    sum
+}
+
+// ---- the chain shrank
+
+// Rounds with the candidate way, whose first reference is the search from a that stands in the tables.
+fn shrink(
+    pairs: &mut [u64],
+    hops: &mut [u16],
+    bounds: &mut [u16],
+    skips: &mut [u16],
+    even: &mut [u64],
+    odd: &mut [u64],
+    codes: &[u64],
+    links: &[u64],
+    a: usize,
+    e: u16,
+    way: u16,
+) -> Tally
+    requires { ⌜ IsWhole base (now codes) (now links) (lent (now pairs) (tables (now hops) (now even) (now odd)) (now bounds) (now skips)) × IsSearched base (now codes) (now links) (lent (now pairs) (tables (now hops) (now even) (now odd)) (now bounds) (now skips)) a e × (a < 256) ⌝ }
+    ensures { λ t. ⌜ ran (lent (now (pairs .exit)) (tables (now (hops .exit)) (now (even .exit)) (now (odd .exit))) (now (bounds .exit)) (now (skips .exit))) (t .candidate) (t .count) (t .searches) ≡ ranBy base (networkOf 4 (now (codes .entry)) (now (links .entry))) (rounds (chart (networkOf 4 (now (codes .entry)) (now (links .entry)))) (length (chart (networkOf 4 (now (codes .entry)) (now (links .entry))) .depots)) (round (chart (networkOf 4 (now (codes .entry)) (now (links .entry)))) a (start way))) (lent (now (pairs .entry)) (tables (now (hops .entry)) (now (even .entry)) (now (odd .entry))) (now (bounds .entry)) (now (skips .entry))) ⌝ }
+{
+    let mut waiting = [0u64; 4];
+    let mut seen = [0u64; 4];
+    let mut next = [0u64; 4];
+    rounds::begin(pairs, bounds, skips, &mut waiting, codes, 4, 257);
+    let first = rounds::absorb(
+        pairs,
+        bounds,
+        skips,
+        &mut waiting,
+        &*hops,
+        &*even,
+        &*odd,
+        4,
+        256,
+        a,
+        e,
+        way,
+        0,
+    );
+    let before = Tally {
+        candidate: first.candidate,
+        count: first.count,
+        searches: 1,
+    };
+    rounds::run_rounds(
+        hops,
+        even,
+        odd,
+        &mut seen,
+        &mut next,
+        pairs,
+        bounds,
+        skips,
+        &mut waiting,
+        links,
+        4,
+        256,
+        before,
+    )
+}
+
+// ---- the whole step
+
+// The search from a, on local memory for the codes seen and the next layer.
+fn search_once(hops: &mut [u16], even: &mut [u64], odd: &mut [u64], links: &[u64], a: usize) -> u16
+    requires { ⌜ (1024 ≤ length (now links)) × (256 ≤ length (now hops)) × (4 ≤ length (now even)) × (4 ≤ length (now odd)) × (a < 256) ⌝ }
+    ensures { λ r. ⌜ searched r (tables (now (hops .exit)) (now (even .exit)) (now (odd .exit))) ≡ searchTable 4 (now (links .entry)) a (tables (now (hops .entry)) (now (even .entry)) (now (odd .entry))) ⌝ }
+{
+    let mut seen = [0u64; 4];
+    let mut next = [0u64; 4];
+    layers::search_table(hops, even, odd, &mut seen, &mut next, links, 4, a)
+}
+
+// The figures for an eccentricity e that is not above the chain, without the stale pairs.
+fn settle_low(
+    pairs: &mut [u64],
+    hops: &mut [u16],
+    bounds: &mut [u16],
+    skips: &mut [u16],
+    even: &mut [u64],
+    odd: &mut [u64],
+    codes: &[u64],
+    links: &[u64],
+    a: usize,
+    e: u16,
+    chain: u16,
+) -> Figures
+    requires { ⌜ IsWhole base (now codes) (now links) (lent (now pairs) (tables (now hops) (now even) (now odd)) (now bounds) (now skips)) × AreOpen base (now codes) (now links) (now pairs) × IsSearched base (now codes) (now links) (lent (now pairs) (tables (now hops) (now even) (now odd)) (now bounds) (now skips)) a e × (a < 256) × (e ≤ chain) ⌝ }
+    ensures { λ r. ⌜ figured (r .change) (ran (lent (now (pairs .exit)) (tables (now (hops .exit)) (now (even .exit)) (now (odd .exit))) (now (bounds .exit)) (now (skips .exit))) (r .chain) (r .count) (r .searches)) ≡ figuredBy base (networkOf 4 (now (codes .entry)) (now (links .entry))) a chain (lent (now (pairs .entry)) (tables (now (hops .entry)) (now (even .entry)) (now (odd .entry))) (now (bounds .entry)) (now (skips .entry))) ⌝ }
+{
+    let left = pairs::drop_stale(pairs, &*hops, 4, chain);
+    if e == chain {
+        let sum = join(pairs, bounds, skips, &*even, &*odd, a, e, chain, left.count);
+        return Figures {
+            change: Change::Kept,
+            chain: chain,
+            count: sum,
+            searches: 1,
+        };
+    }
+    if left.count != 0 {
+        mark_once(bounds, skips, a, e);
+        return Figures {
+            change: Change::Kept,
+            chain: chain,
+            count: left.count,
+            searches: 1,
+        };
+    }
+    let got = shrink(
+        pairs,
+        hops,
+        bounds,
+        skips,
+        even,
+        odd,
+        codes,
+        links,
+        a,
+        e,
+        left.way,
+    );
+    Figures {
+        change: Change::Shrank,
+        chain: got.candidate,
+        count: got.count,
+        searches: got.searches,
+    }
+}
+
+// The figures after a's links are in place, by the stored chain and the count of the stored pairs: the search from a, then the pairs, the
+// marks and, if the chain shrank, the rounds.
+pub fn refigure(
+    pairs: &mut [u64],
+    hops: &mut [u16],
+    bounds: &mut [u16],
+    skips: &mut [u16],
+    even: &mut [u64],
+    odd: &mut [u64],
+    codes: &[u64],
+    links: &[u64],
+    a: usize,
+    chain: u16,
+    count: u32,
+) -> Figures
+    requires { ⌜ IsFigurable base (now codes) (now links) (lent (now pairs) (tables (now hops) (now even) (now odd)) (now bounds) (now skips)) a chain count × (a < 256) ⌝ }
+    ensures { λ r. ⌜ figured (r .change) (ran (lent (now (pairs .exit)) (tables (now (hops .exit)) (now (even .exit)) (now (odd .exit))) (now (bounds .exit)) (now (skips .exit))) (r .chain) (r .count) (r .searches)) ≡ figuredBy base (networkOf 4 (now (codes .entry)) (now (links .entry))) a chain (lent (now (pairs .entry)) (tables (now (hops .entry)) (now (even .entry)) (now (odd .entry))) (now (bounds .entry)) (now (skips .entry))) ⌝ }
+{
+    let e = search_once(hops, even, odd, links, a);
+    if chain < e {
+        let own = join(pairs, bounds, skips, &*even, &*odd, a, e, chain, count);
+        return Figures {
+            change: Change::Grew,
+            chain: e,
+            count: own,
+            searches: 1,
+        };
+    }
+    settle_low(
+        pairs,
+        hops,
+        bounds,
+        skips,
+        even,
+        odd,
+        codes,
+        links,
+        a,
+        e,
+        chain,
+    )
+}

@@ -1,0 +1,145 @@
+-- THE THEOREM of this crate: demand 2 for the whole reckoning, for every shape of a map. Assumes nothing.
+use mathlib.Core.Path.{_≡_, refl, sym, ap, _∙_, subst}
+use mathlib.Core.Logic.{_↔_}
+use mathlib.Core.Bool.{Bool}
+use mathlib.Core.List.{List, [], _∷_}
+use Prim.Native.Nat.{ℕ, zero, suc, _*_, _<_}
+use native.Mathlib.Omega.{arith}
+use lib.Dec.{T}
+use lib.ListN.{length}
+use Rattle.lists.specs.Lists.{range, countb, memb, lastOr}
+use Rattle.lists.proofs.Tests.{t→true, true→t}
+use Rattle.lists.proofs.Fills.{length-fill}
+use Rattle.graph.specs.Network.{Network, IsFarthest}
+use Rattle.graph.specs.Chart.{chart, ecc, countPairs}
+use Rattle.graph.specs.Rounds.{State, reckon}
+use Rattle.graph.specs.Correct.{IsNet, IsReckoned}
+use Rattle.graph.proofs.Theorems.{reckoning-correct}
+use Rattle.rows.proofs.Written.{table-at, encode-table-length}
+use Rattle.layers.specs.Layers.{Tables, searchLeaves}
+use Rattle.map.specs.Memory.{Shape, IsShape, places, base, networkOf}
+use Rattle.map.specs.declared.Record.{Record}
+use Rattle.map.proofs.Theorems.{network-open-below, sound-links-iff}
+use Rattle.search.specs.SearchCall.{searchRefusal, SearchLeft, searchLeft, searchGiven, searchCall}
+use Rattle.search.specs.Demand2.{IsSearch}
+use Rattle.search.specs.declared.Found.the-variants.{Reached}
+use Rattle.search.proofs.Accepts.{room-all, refused-never}
+use Rattle.search.proofs.Theorems.{search-demand2}
+use Rattle.rounds.specs.Leaves.{Lent, roundsLeave, searchAfter}
+use Rattle.rounds.specs.Sizes.{sizesOf}
+use Rattle.reckon.specs.ReckonCall.{reckonRefusal, figuredBy, reckonGiven, reckonCall}
+use Rattle.reckon.specs.Demand2.{IsReckoning, Demand2}
+use Rattle.reckon.specs.declared.Reckoning.the-variants.{Refused}
+use Rattle.reckon.proofs.Longs.{AreLong}
+use Rattle.reckon.proofs.Reckons.{base-shape, granted-long, granted-tests, granted-net}
+use Rattle.reckon.proofs.Marks.{over-keeps, last-memb, pairs-read, skip-marks, skips-counted, few-searches, bound-ecc}
+use Rattle.reckon.proofs.Skips.{skip-bound, closed-at}
+
+limit-of : (W : ℕ) (codes links : List ℕ) → networkOf W codes links .limit ≡ 64 * W
+unfolding networkOf
+limit-of W codes links = refl
+
+module _ (K : Shape) (shape : IsShape K) (rec : Record) (links : List ℕ) (B : Lent) (ok : reckonRefusal K rec links (sizesOf links B) ≡ 0) where
+  abbrev G : Network
+  G = networkOf (K .words) (rec .codes) links
+
+  abbrev S : State
+  S = reckon (chart (networkOf (K .words) (rec .codes) links))
+
+  net : IsNet G
+  net = granted-net K rec links (sizesOf links B) shape ok
+
+  correct : IsReckoned G S
+  correct = reckoning-correct G net
+
+  long : AreLong K (sizesOf links B)
+  long = granted-long K rec links (sizesOf links B) ok
+
+  limit-is : G .limit ≡ places K
+  limit-is = limit-of (K .words) (rec .codes) links
+
+  below : (v : ℕ) → T (G .isOpen v) → v < places K
+  below = network-open-below (K .words) (rec .codes) links
+
+  number-is : rec .number ≡ countb (G .isOpen) (range (G .limit))
+  number-is = sound-links-iff (K .words) (rec .codes) links (rec .number) .0 (granted-tests K rec links (sizesOf links B) ok .0) .counted
+
+  -- ---- the last search, by the search call's own theorem
+
+  module _ (s : ℕ) (o : T (G .isOpen s)) where
+    accepts : searchRefusal K rec links (length (B .searched .hops)) (length (B .searched .even)) (length (B .searched .odd)) s ≡ 0
+    unfolding sizesOf
+    accepts =
+        let t = granted-tests K rec links (sizesOf links B) ok in
+        let h = length (B .searched .hops) in
+        let x = length (B .searched .even) in
+        let y = length (B .searched .odd) in
+        sym (refused-never K rec links h x y s (room-all K (length links) h x y (long .links-fit) (long .hops-fit) (long .even-fit) (long .odd-fit)) (t .0) (t .1) (t→true (G .isOpen s) o))
+
+    search-is : searchCall K rec links (B .searched) s ≡ searchLeft (Reached (ecc (chart G) s)) (searchLeaves (K .words) G s (B .searched))
+    unfolding searchCall searchGiven
+    search-is = ap (λ (k : ℕ). searchGiven k K rec links (B .searched) s) accepts
+
+    leaves-search : IsSearch K G s (B .searched) (searchLeft (Reached (ecc (chart G) s)) (searchLeaves (K .words) G s (B .searched)))
+    leaves-search = subst (λ (l : SearchLeft). IsSearch K G s (B .searched) l) search-is (search-demand2 K shape rec links (B .searched) s accepts)
+
+  after-last : (r : ℕ) (rs : List ℕ) → S .references ≡ r ∷ rs → searchAfter (K .words) G (S .references) (B .searched) ≡ searchLeaves (K .words) G (lastOr r rs) (B .searched)
+  unfolding searchAfter
+  after-last r rs q = ap (λ (l : List ℕ). searchAfter (K .words) G l (B .searched)) q
+
+  last-search : (r : ℕ) (rs : List ℕ) → S .references ≡ r ∷ rs → (e : ℕ) × IsSearch K G (lastOr r rs) (B .searched) (searchLeft (Reached e) (searchAfter (K .words) G (S .references) (B .searched)))
+  last-search r rs q =
+      let s = lastOr r rs in
+      let m : T (memb s (S .references)) = true→t (ap (λ (l : List ℕ). memb s l) q ∙ last-memb r rs) in
+      (ecc (chart G) s, subst (λ (t : Tables). IsSearch K G s (B .searched) (searchLeft (Reached (ecc (chart G) s)) t)) (sym (after-last r rs q)) (leaves-search s (correct .references .inside s m)))
+
+  no-search : S .references ≡ [] → searchAfter (K .words) G (S .references) (B .searched) ≡ B .searched
+  unfolding searchAfter
+  no-search q = ap (λ (l : List ℕ). searchAfter (K .words) G l (B .searched)) q
+
+  -- ---- AN ACCEPTED RECKONING
+
+  given-reckoning : IsReckoning K G rec B (S .references) (reckonGiven zero K rec links B)
+  unfolding reckonGiven figuredBy roundsLeave sizesOf
+  given-reckoning = record {
+    chain = correct .figures .chain;
+    pairs = λ u v p q. subst (λ (b : Bool). T b ↔ IsFarthest G (G .isOpen) u v) (sym (table-at (K .words) (S .pairs) (B .pairs) u v p q)) (correct .figures .pairs u v);
+    count = ap (countPairs (range (places K))) (sym (pairs-read K G limit-is below (S .pairs) (B .pairs) (correct .figures .pairs)));
+    codes = refl;
+    number = refl;
+    searches = length (S .references);
+    answer = refl;
+    marked = skips-counted K G limit-is below shape S (correct .references) (B .skips);
+    bounded = omega (arith, few-searches K G limit-is below shape S (correct .references), number-is);
+    marks = skip-marks K G limit-is below shape S (correct .references) (B .skips);
+    inside = correct .references .inside;
+    cover = correct .cover;
+    eccentricity = bound-ecc K G limit-is below shape S (correct .references) (B .bounds);
+    skipped = skip-bound K (rec .codes) links net (B .skips) (B .bounds);
+    closed = closed-at K (rec .codes) links net (B .skips) (B .bounds);
+    searched = last-search;
+    unsearched = no-search;
+    pairsKept = over-keeps _ _ (B .pairs) (encode-table-length (K .words) (S .pairs)) (long .pairs-fit);
+    boundsKept = over-keeps _ _ (B .bounds) (length-fill _ (places K)) (long .bounds-fit);
+    skipsKept = over-keeps _ _ (B .skips) (length-fill _ (places K)) (long .skips-fit);
+  }
+
+  call-reckoning : IsReckoning K (networkOf (K .words) (rec .codes) links) rec B (reckon (chart (networkOf (K .words) (rec .codes) links)) .references) (reckonCall K rec links B)
+  unfolding reckonCall
+  call-reckoning = subst (λ (k : ℕ). IsReckoning K G rec B (S .references) (reckonGiven k K rec links B)) (sym ok) given-reckoning
+
+-- ---- A REFUSED ONE changes nothing
+
+call-refused : (K : Shape) (rec : Record) (links : List ℕ) (B : Lent) (k : ℕ) → reckonRefusal K rec links (sizesOf links B) ≡ suc k
+    → reckonCall K rec links B ≡ record { reckoned = record { answer = Refused (suc k); after = rec }; lent = B }
+unfolding reckonCall reckonGiven
+call-refused K rec links B k e = ap (λ (m : ℕ). reckonGiven m K rec links B) e
+
+-- ---- DEMAND 2
+
+pub reckon-demand2 : (K : Shape) → IsShape K → Demand2 K (reckonCall K)
+reckon-demand2 K shape = record { accepted = call-reckoning K shape; refused = call-refused K }
+
+-- document 01's map
+pub demand2-base : Demand2 base (reckonCall base)
+demand2-base = reckon-demand2 base base-shape

@@ -1,0 +1,73 @@
+-- DEMAND 2 FOR THE WHOLE RECKONING, by the published words (graph, Network.antt): what every accepted call answers and leaves, on any lent memory,
+-- whatever figures were stored; and that a refused one changes nothing.
+-- `reckon-demand2` (proofs/Theorems) proves it of `reckonCall` for every shape; `Demand2 base` is document 01's.
+-- Assumes nothing.
+use mathlib.Core.Path.{_≡_}
+use mathlib.Core.Logic.{_↔_}
+use mathlib.Core.Bool.{not}
+use mathlib.Core.List.{List, [], _∷_}
+use Prim.Native.Nat.{ℕ, suc, _+_, _≤_, _<_}
+use lib.Dec.{T, eqb}
+use lib.ListN.{getD}
+use Rattle.lists.specs.Lists.{range, countb, memb, lastOr}
+use Rattle.graph.specs.Network.{Network, IsDist, IsEcc, IsDiameter, IsFarthest}
+use Rattle.graph.specs.Distance.{unreached}
+use Rattle.graph.specs.Chart.{chart, countPairs}
+use Rattle.graph.specs.Rounds.{reckon}
+use Rattle.graph.specs.Correct.{IsCovered}
+use Rattle.rows.specs.Rows.{tableBit}
+use Rattle.map.specs.Memory.{Shape, places, tableWords, networkOf}
+use Rattle.map.specs.declared.Record.{Record}
+use Rattle.search.specs.SearchCall.{searchLeft}
+use Rattle.search.specs.Demand2.{KeepsPast, IsSearch}
+use Rattle.search.specs.declared.Found.the-variants.{Reached}
+use Rattle.rounds.specs.Leaves.{Lent}
+use Rattle.rounds.specs.Sizes.{sizesOf}
+use Rattle.reckon.specs.ReckonCall.{reckonRefusal, ReckonLeft}
+use Rattle.reckon.specs.declared.Reckoning.the-variants.{Searches, Refused}
+
+-- The depot v was skipped by right: the reference's eccentricity plus the distance between them is v's bound, and that is below the chain.
+pub record IsSkipped (G : Network) (references : List ℕ) (chain v reference bound : ℕ) : Type 0 where
+  pub isReference : T (memb reference references)
+  pub ecc : ℕ
+  pub isEcc : IsEcc G (G .isOpen) reference ecc
+  pub distance : ℕ
+  pub isDist : IsDist G reference v distance
+  pub isBound : bound ≡ ecc + distance
+  pub below : bound < chain
+
+-- A whole reckoning of G, lent the tables B; references are the depots that the rules search from, in order.
+pub record IsReckoning (K : Shape) (G : Network) (rec : Record) (B : Lent) (references : List ℕ) (left : ReckonLeft) : Type 0 where
+  -- the figures; open set and number open stay
+  pub chain : IsDiameter G (G .isOpen) (left .reckoned .after .chain)
+  pub pairs : (u v : ℕ) → u < places K → v < places K → T (tableBit (K .words) (left .lent .pairs) u v) ↔ IsFarthest G (G .isOpen) u v
+  pub count : left .reckoned .after .count ≡ countPairs (range (places K)) (tableBit (K .words) (left .lent .pairs))
+  pub codes : left .reckoned .after .codes ≡ rec .codes
+  pub number : left .reckoned .after .number ≡ rec .number
+  -- the answer: as many searches as depots are marked, no more than are open
+  pub searches : ℕ
+  pub answer : left .reckoned .answer ≡ Searches searches
+  pub marked : searches ≡ countb (λ v. eqb (getD (left .lent .skips) v 0) (K .searchedMark)) (range (places K))
+  pub bounded : searches ≤ rec .number
+  -- the marked are exactly the references, with their eccentricities; every other depot is covered
+  pub marks : (v : ℕ) → v < places K → (getD (left .lent .skips) v 0 ≡ K .searchedMark) ↔ T (memb v references)
+  pub inside : (v : ℕ) → T (memb v references) → T (G .isOpen v)
+  pub cover : (v : ℕ) → T (G .isOpen v) → T (not (memb v references)) → IsCovered G references (left .reckoned .after .chain) v
+  pub eccentricity : (v : ℕ) → T (memb v references) → IsEcc G (G .isOpen) v (getD (left .lent .bounds) v 0)
+  -- skip and bound table say so of each depot that was not searched; a closed code has the other mark and 65,535
+  pub skipped : (v : ℕ) → T (G .isOpen v) → T (not (memb v references)) → IsSkipped G references (left .reckoned .after .chain) v (getD (left .lent .skips) v 0) (getD (left .lent .bounds) v 0)
+  pub closed : (v : ℕ) → v < places K → (T (G .isOpen v) → ⊥) → (getD (left .lent .skips) v 0 ≡ K .otherMark) × (getD (left .lent .bounds) v 0 ≡ unreached)
+  -- hop table and layer rows are left as the last search leaves them, unchanged without a search
+  pub searched : (r : ℕ) (rs : List ℕ) → references ≡ r ∷ rs → (e : ℕ) × IsSearch K G (lastOr r rs) (B .searched) (searchLeft (Reached e) (left .lent .searched))
+  pub unsearched : references ≡ [] → left .lent .searched ≡ B .searched
+  -- what stands past the named sizes stays
+  pub pairsKept : KeepsPast (tableWords K) (B .pairs) (left .lent .pairs)
+  pub boundsKept : KeepsPast (places K) (B .bounds) (left .lent .bounds)
+  pub skipsKept : KeepsPast (places K) (B .skips) (left .lent .skips)
+
+-- of a program whose reckoning call is `step`
+pub record Demand2 (K : Shape) (step : Record → List ℕ → Lent → ReckonLeft) : Type 0 where
+  pub accepted : (rec : Record) (links : List ℕ) (B : Lent) → reckonRefusal K rec links (sizesOf links B) ≡ 0
+      → IsReckoning K (networkOf (K .words) (rec .codes) links) rec B (reckon (chart (networkOf (K .words) (rec .codes) links)) .references) (step rec links B)
+  pub refused : (rec : Record) (links : List ℕ) (B : Lent) (k : ℕ) → reckonRefusal K rec links (sizesOf links B) ≡ suc k
+      → step rec links B ≡ record { reckoned = record { answer = Refused (suc k); after = rec }; lent = B }
