@@ -52,8 +52,11 @@ pub record OpenLeft : Type 0 where
   pub links : List ℕ
   pub lent : Lent
 
+abbrev pub leftOf : Report → Record → List ℕ → Lent → OpenLeft
+leftOf report after links B = record { report = report; after = after; links = links; lent = B }
+
 abbrev pub openLeft : Answer → List ℕ → Lent → OpenLeft
-openLeft r links B = record { report = r .report; after = r .after; links = links; lent = B }
+openLeft r links B = leftOf (r .report) (r .after) links B
 
 unfoldable pub openGiven : ℕ → Shape → Record → List ℕ → Lent → Notice → OpenLeft
 openGiven zero K rec links B o =
