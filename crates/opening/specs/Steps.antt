@@ -11,6 +11,8 @@ use Rattle.map.specs.Memory.{Shape, networkOf}
 use Rattle.map.specs.Sound.{soundLinks, soundFigures}
 use Rattle.map.specs.declared.Record.{Record}
 use Rattle.rounds.specs.Sizes.{Sizes, longEnough}
+use Rattle.outcome.specs.declared.Outcome.the-variants.{Refused}
+use Rattle.opening.specs.declared.Opened.{Opened}
 
 -- the first refusal of the lent memory alone, whatever the notice: 1 short, 2 spoilt, 3 apart; 0: none
 unfoldable pub mapRefusal : Shape → Record → List ℕ → List ℕ → Sizes → ℕ
@@ -24,3 +26,6 @@ mapRefusal K rec links pairs sizes =
 
 abbrev pub noticeOf : ℕ → List ℕ → Notice
 noticeOf code neighbours = record { code = code; neighbours = neighbours }
+
+abbrev pub refusedWith : ℕ → Record → Opened
+refusedWith number rec = record { report = record { outcome = Refused number; searches = 0 }; after = rec }

@@ -10,7 +10,7 @@ ghost use Rattle.map.specs.Memory.{base};
 ghost use Rattle.rounds.specs.Leaves.{lent};
 ghost use Rattle.rounds.specs.Sizes.{sizes};
 ghost use Rattle.opening.specs.OpenCall.{openRefusal, leftOf, openLeft, openGiven, openCall};
-ghost use Rattle.opening.specs.Steps.{mapRefusal, noticeOf};
+ghost use Rattle.opening.specs.Steps.{mapRefusal, noticeOf, refusedWith};
 use map::Record;
 use outcome::Outcome;
 
@@ -57,27 +57,15 @@ fn map_refusal(
     0
 }
 
-// The first refusal of an opening that holds, 0 for none. It only reads.
-fn open_refusal(
-    rec: Record,
-    links: &[u64],
-    pairs: &[u64],
-    hops: usize,
-    bounds: usize,
-    skips: usize,
-    even: usize,
-    odd: usize,
-    code: u8,
-    neighbours: &[u8],
-) -> u8
-    ensures { λ r. ⌜ r ≡ openRefusal base rec (now (links .entry)) (now (pairs .entry)) (sizes (length (now (links .entry))) (length (now (pairs .entry))) hops bounds skips even odd) (noticeOf code (now (neighbours .entry))) ⌝ }
+// What a refused opening answers.
+fn refused(rec: Record, number: u8) -> Opened
+    ensures { λ r. ⌜ r ≡ refusedWith number rec ⌝ }
 {
-    let refusal = map_refusal(rec, links, pairs, hops, bounds, skips, even, odd);
-    if refusal != 0 {
-        return refusal;
-    }
-    let codes = rec.codes;
-    admission::notice_refusal(&codes, 4, code, neighbours)
+    let report = Report {
+        outcome: Outcome::Refused(number),
+        searches: 0,
+    };
+    Opened { report, after: rec }
 }
 
 // ---- the opening
@@ -139,6 +127,41 @@ fn open_map(
     }
 }
 
+// The opening for callers that hold a proved map, whose memory nothing refuses: the same answer without checking it again.
+pub fn open_sound(
+    rec: Record,
+    links: &mut [u64],
+    pairs: &mut [u64],
+    hops: &mut [u16],
+    bounds: &mut [u16],
+    skips: &mut [u16],
+    even: &mut [u64],
+    odd: &mut [u64],
+    code: u8,
+    neighbours: &[u8],
+) -> Opened
+    requires { ⌜ mapRefusal base rec (now links) (now pairs) (sizes (length (now links)) (length (now pairs)) (length (now hops)) (length (now bounds)) (length (now skips)) (length (now even)) (length (now odd))) ≡ 0 ⌝ }
+    ensures { λ r. ⌜ openLeft r (now (links .exit)) (lent (now (pairs .exit)) (tables (now (hops .exit)) (now (even .exit)) (now (odd .exit))) (now (bounds .exit)) (now (skips .exit))) ≡ openCall base rec (now (links .entry)) (lent (now (pairs .entry)) (tables (now (hops .entry)) (now (even .entry)) (now (odd .entry))) (now (bounds .entry)) (now (skips .entry))) (noticeOf code (now (neighbours .entry))) ⌝ }
+{
+    let codes = rec.codes;
+    let refusal = admission::notice_refusal(&codes, 4, code, neighbours);
+    if refusal != 0 {
+        return refused(rec, refusal);
+    }
+    open_map(
+        rec,
+        links,
+        pairs,
+        hops,
+        bounds,
+        skips,
+        even,
+        odd,
+        code,
+        neighbours,
+    )
+}
+
 // The opening of a depot, record in and out by value: grew, kept or shrank with the number of searches; or the first refusal that holds, and then
 // nothing is changed.
 pub fn open_step(
@@ -155,7 +178,7 @@ pub fn open_step(
 ) -> Opened
     ensures { λ r. ⌜ openLeft r (now (links .exit)) (lent (now (pairs .exit)) (tables (now (hops .exit)) (now (even .exit)) (now (odd .exit))) (now (bounds .exit)) (now (skips .exit))) ≡ openCall base rec (now (links .entry)) (lent (now (pairs .entry)) (tables (now (hops .entry)) (now (even .entry)) (now (odd .entry))) (now (bounds .entry)) (now (skips .entry))) (noticeOf code (now (neighbours .entry))) ⌝ }
 {
-    let refusal = open_refusal(
+    let refusal = map_refusal(
         rec,
         &*links,
         &*pairs,
@@ -164,20 +187,11 @@ pub fn open_step(
         skips.len(),
         even.len(),
         odd.len(),
-        code,
-        neighbours,
     );
     if refusal != 0 {
-        let report = Report {
-            outcome: Outcome::Refused(refusal),
-            searches: 0,
-        };
-        return Opened {
-            report: report,
-            after: rec,
-        };
+        return refused(rec, refusal);
     }
-    open_map(
+    open_sound(
         rec,
         links,
         pairs,
