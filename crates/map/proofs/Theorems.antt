@@ -15,7 +15,7 @@ use Rattle.graph.specs.Network.{Network}
 use Rattle.graph.specs.Chart.{Pairs, countPairs}
 use Rattle.map.specs.Memory.{Shape, networkOf}
 use Rattle.map.specs.Sound.{allSet, soundLink, soundLinks, soundPair, soundFigures, AreLinksSound, AreFiguresSound}
-use Rattle.map.specs.Empty.{emptyRecord, emptyRefusal, emptyGiven, emptyCall, EmptyLeft, IsEmpty}
+use Rattle.map.specs.Empty.{emptyRecord, emptyRefusal, emptyGiven, emptyCall, EmptyLeft, IsEmpty, refusalOf}
 use Rattle.map.specs.declared.Record.{Record}
 use Rattle.map.specs.declared.Emptying.the-variants.{Done}
 use Rattle.map.proofs.Sums.{sum-none}
@@ -135,6 +135,15 @@ module _ (G : Network) (P : Pairs) (chain count : ℕ) where
   sound-figures-iff = (figures-sound-of, figures-sound-if)
 
 -- ---- AN EMPTIED MAP IS EMPTY
+
+-- the answer's number is the refusal, 0 where there is none
+pub emptying-numbered : (K : Shape) (rec : Record) (links pairs : List ℕ) → refusalOf (emptyCall K rec links pairs .answer) ≡ emptyRefusal K links pairs
+unfolding emptyCall emptyGiven
+emptying-numbered K rec links pairs = go (emptyRefusal K links pairs)
+  where
+    go : (k : ℕ) → refusalOf (emptyGiven k K rec links pairs .answer) ≡ k
+    go zero = refl
+    go (suc k) = refl
 
 pub emptied-is-empty : (K : Shape) (rec : Record) (links pairs : List ℕ) → emptyCall K rec links pairs .answer ≡ Done → IsEmpty (K .words) (emptyCall K rec links pairs)
 unfolding emptyCall emptyGiven emptyRecord networkOf

@@ -20,6 +20,11 @@ zeros n = mapl (λ i. 0) (range n)
 unfoldable pub emptyRecord : ℕ → Record
 emptyRecord W = record { codes = zeros W; number = 0; chain = 0; count = 0 }
 
+-- this paper's number for each case of the answer: the refusal, 0 for none
+abbrev pub refusalOf : Emptying → ℕ
+refusalOf Done = 0
+refusalOf (Refused k) = k
+
 -- what the call leaves: its answer, the record and the two lent tables, words past the named size included
 pub record EmptyLeft : Type 0 where
   pub answer : Emptying

@@ -27,7 +27,7 @@ use Rattle.search.proofs.Accepts.{room-all, refused-never}
 use Rattle.search.proofs.Theorems.{search-demand2}
 use Rattle.rounds.specs.Leaves.{Lent, roundsLeave, searchAfter}
 use Rattle.rounds.specs.Sizes.{sizesOf}
-use Rattle.reckon.specs.ReckonCall.{reckonRefusal, figuredBy, reckonGiven, reckonCall}
+use Rattle.reckon.specs.ReckonCall.{reckonRefusal, figuredBy, reckonGiven, reckonCall, refusalOf}
 use Rattle.reckon.specs.Demand2.{IsReckoning, Demand2}
 use Rattle.reckon.specs.declared.Reckoning.the-variants.{Refused}
 use Rattle.reckon.proofs.Longs.{AreLong}
@@ -107,8 +107,7 @@ module _ (K : Shape) (shape : IsShape K) (rec : Record) (links : List ℕ) (B : 
     count = ap (countPairs (range (places K))) (sym (pairs-read K G limit-is below (S .pairs) (B .pairs) (correct .figures .pairs)));
     codes = refl;
     number = refl;
-    searches = length (S .references);
-    answer = refl;
+    accepted = refl;
     marked = skips-counted K G limit-is below shape S (correct .references) (B .skips);
     bounded = omega (arith, few-searches K G limit-is below shape S (correct .references), number-is);
     marks = skip-marks K G limit-is below shape S (correct .references) (B .skips);
@@ -135,10 +134,20 @@ call-refused : (K : Shape) (rec : Record) (links : List ℕ) (B : Lent) (k : ℕ
 unfolding reckonCall reckonGiven
 call-refused K rec links B k e = ap (λ (m : ℕ). reckonGiven m K rec links B) e
 
+-- ---- the answer's number is the refusal, 0 where there is none
+
+call-numbered : (K : Shape) (rec : Record) (links : List ℕ) (B : Lent) → refusalOf (reckonCall K rec links B .reckoned .answer) ≡ reckonRefusal K rec links (sizesOf links B)
+unfolding reckonCall reckonGiven
+call-numbered K rec links B = go (reckonRefusal K rec links (sizesOf links B))
+  where
+    go : (k : ℕ) → refusalOf (reckonGiven k K rec links B .reckoned .answer) ≡ k
+    go zero = refl
+    go (suc k) = refl
+
 -- ---- DEMAND 2
 
 pub reckon-demand2 : (K : Shape) → IsShape K → Demand2 K (reckonCall K)
-reckon-demand2 K shape = record { accepted = call-reckoning K shape; refused = call-refused K }
+reckon-demand2 K shape = record { numbered = call-numbered K; accepted = call-reckoning K shape; refused = call-refused K }
 
 -- document 01's map
 pub demand2-base : Demand2 base (reckonCall base)

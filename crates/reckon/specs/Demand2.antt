@@ -23,7 +23,7 @@ use Rattle.search.specs.Demand2.{KeepsPast, IsSearch}
 use Rattle.search.specs.declared.Found.the-variants.{Reached}
 use Rattle.rounds.specs.Leaves.{Lent}
 use Rattle.rounds.specs.Sizes.{sizesOf}
-use Rattle.reckon.specs.ReckonCall.{reckonRefusal, ReckonLeft}
+use Rattle.reckon.specs.ReckonCall.{reckonRefusal, ReckonLeft, refusalOf, searchesOf}
 use Rattle.reckon.specs.declared.Reckoning.the-variants.{Searches, Refused}
 
 -- The depot v was skipped by right: the reference's eccentricity plus the distance between them is v's bound, and that is below the chain.
@@ -45,10 +45,9 @@ pub record IsReckoning (K : Shape) (G : Network) (rec : Record) (B : Lent) (refe
   pub codes : left .reckoned .after .codes ≡ rec .codes
   pub number : left .reckoned .after .number ≡ rec .number
   -- the answer: as many searches as depots are marked, no more than are open
-  pub searches : ℕ
-  pub answer : left .reckoned .answer ≡ Searches searches
-  pub marked : searches ≡ countb (λ v. eqb (getD (left .lent .skips) v 0) (K .searchedMark)) (range (places K))
-  pub bounded : searches ≤ rec .number
+  pub accepted : left .reckoned .answer ≡ Searches (searchesOf (left .reckoned .answer))
+  pub marked : searchesOf (left .reckoned .answer) ≡ countb (λ v. eqb (getD (left .lent .skips) v 0) (K .searchedMark)) (range (places K))
+  pub bounded : searchesOf (left .reckoned .answer) ≤ rec .number
   -- the marked are exactly the references, with their eccentricities; every other depot is covered
   pub marks : (v : ℕ) → v < places K → (getD (left .lent .skips) v 0 ≡ K .searchedMark) ↔ T (memb v references)
   pub inside : (v : ℕ) → T (memb v references) → T (G .isOpen v)
@@ -67,6 +66,7 @@ pub record IsReckoning (K : Shape) (G : Network) (rec : Record) (B : Lent) (refe
 
 -- of a program whose reckoning call is `step`
 pub record Demand2 (K : Shape) (step : Record → List ℕ → Lent → ReckonLeft) : Type 0 where
+  pub numbered : (rec : Record) (links : List ℕ) (B : Lent) → refusalOf (step rec links B .reckoned .answer) ≡ reckonRefusal K rec links (sizesOf links B)
   pub accepted : (rec : Record) (links : List ℕ) (B : Lent) → reckonRefusal K rec links (sizesOf links B) ≡ 0
       → IsReckoning K (networkOf (K .words) (rec .codes) links) rec B (reckon (chart (networkOf (K .words) (rec .codes) links)) .references) (step rec links B)
   pub refused : (rec : Record) (links : List ℕ) (B : Lent) (k : ℕ) → reckonRefusal K rec links (sizesOf links B) ≡ suc k

@@ -32,6 +32,15 @@ reckonRefusal K rec links sizes = firstOf ((not (longEnough K sizes), 1) ∷ lin
 unfoldable pub figuredBy : Shape → Record → State → Record
 figuredBy K rec S = record { codes = rec .codes; number = rec .number; chain = S .candidate; count = countPairs (range (places K)) (S .pairs) }
 
+-- this paper's numbers for each case of the answer: the refusal, 0 for none; the searches, 0 in a refused call
+abbrev pub refusalOf : Reckoning → ℕ
+refusalOf (Searches k) = 0
+refusalOf (Refused n) = n
+
+abbrev pub searchesOf : Reckoning → ℕ
+searchesOf (Searches k) = k
+searchesOf (Refused n) = 0
+
 -- what the call leaves: its answer (the number of searches, or the refusal's number) with the record, and the lent tables
 pub record ReckonLeft : Type 0 where
   pub reckoned : Reckoned
