@@ -1,9 +1,9 @@
 -- Breadth-first search meets the least walk length: `dist` is the distance. Assumes nothing.
 use mathlib.Core.Path.{_≡_, refl, sym, _∙_, subst}
 use mathlib.Core.Logic.{_⊎_, inl, inr}
-use mathlib.Core.Bool.{Bool, true, false, not, _&&_}
+use mathlib.Core.Bool.{Bool, true, false, _&&_}
 use mathlib.Core.List.{List, List·Memᴰ}
-use Prim.Native.Nat.{ℕ, zero, suc, _+_, _≤_, _<_, zero-le}
+use Prim.Native.Nat.{ℕ, zero, suc, _≤_, _<_, zero-le}
 use native.Mathlib.Nat.{le-antisymm, le-refl, le-trans, le-of-eq, lt-irrefl, lt-of-le-of-lt}
 use native.Mathlib.Decide.{decLe, decLt}
 use native.Mathlib.Omega.{arith}

@@ -15,7 +15,7 @@ use Rattle.lists.specs.Lists.{anyb, maxOf, memb}
 use Rattle.lists.proofs.Tests.{clash, and-true, and-intro, or-true, or-left, or-right}
 use Rattle.lists.proofs.Members.{any-intro, any-elim}
 use Rattle.lists.proofs.Counts.{max-le-of, count-le-length}
-use Rattle.graph.specs.Chart.{Chart, destinations, ecc, greatestEcc, Pairs, ownPairs}
+use Rattle.graph.specs.Chart.{Chart, ecc, greatestEcc, Pairs, ownPairs}
 use Rattle.graph.specs.Rounds.{isWaiting, State, round, rounds, start}
 use Rattle.graph.specs.Opening.{Opened, via, stayingPairs, anyPair, shrunkCandidate, searchedOnce, openCase, opening}
 use Rattle.graph.specs.Correct.{Moved}

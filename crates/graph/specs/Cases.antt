@@ -10,8 +10,8 @@ use Rattle.lists.specs.Lists.{mapl, firstOf}
 use Rattle.graph.specs.Network.{Network}
 use Rattle.graph.specs.Distance.{vertices}
 use Rattle.graph.specs.Chart.{chart, Pairs, countPairs}
-use Rattle.graph.specs.Rounds.{markOf, boundOf, State, reckon}
-use Rattle.graph.specs.Opening.{Notice, emptyNetwork, addDepot, noticeFaults, Change, grew, kept, shrank, Opened, opening}
+use Rattle.graph.specs.Rounds.{markOf, boundOf, reckon}
+use Rattle.graph.specs.Opening.{Notice, emptyNetwork, addDepot, noticeFaults, Change, grew, kept, shrank, opening}
 
 -- the pairs as a list
 unfoldable pub pairList : List ℕ → Pairs → List (ℕ × ℕ)
