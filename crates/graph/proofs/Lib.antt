@@ -12,3 +12,4 @@ pub mod Opened
 pub mod Connected
 pub mod Searched
 pub mod Theorems
+pub mod SoundFigures

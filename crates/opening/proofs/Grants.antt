@@ -1,5 +1,5 @@
 -- WHAT NO REFUSAL SAYS, on any lent memory: the words mean a network that a map can hold, and the notice can be opened in it. And of a memory that
--- says what a network's figures are, document 01's refusals 2 and 3 never come. Assumes nothing.
+-- stores a network with sound figures, document 01's refusals 2 and 3 never come. Assumes nothing.
 use mathlib.Core.Path.{_≡_, refl, sym, ap, _∙_, subst}
 use mathlib.Core.Logic.{_⊎_, inl, inr}
 use mathlib.Core.Bool.{Bool, true, false, not, _&&_, _||_}
@@ -29,7 +29,7 @@ use Rattle.map.specs.declared.Record.{Record}
 use Rattle.map.proofs.Theorems.{sound-links-iff, sound-figures-iff}
 use Rattle.rounds.specs.Sizes.{Sizes, longEnough}
 use Rattle.opening.specs.OpenCall.{openRefusal, networkAfter}
-use Rattle.opening.proofs.Memories.{IsHeld, Says, number-is}
+use Rattle.opening.proofs.Memories.{IsHeld, Stores, number-is}
 
 -- the definitions of specs/OpenCall.antt, opened one step
 pub after-is : (K : Shape) (rec : Record) (links : List ℕ) (o : Notice) → networkAfter K rec links o ≡ addDepot (networkOf (K .words) (rec .codes) links) (o .code) (o .neighbours)
@@ -92,7 +92,7 @@ module _ (K : Shape) (shape : IsShape K) (rec : Record) (links pairs : List ℕ)
     pub granted-low : o .code < N .limit
     granted-low = subst (λ (n : ℕ). o .code < n) (sym limit-is) low
 
-    admitted : IsAdmitted N (o .code) (o .neighbours)
+    pub admitted : IsAdmitted N (o .code) (o .neighbours)
     admitted = admitted-of N granted-net o granted-low granted-notice
 
     pub held-after : IsHeld K (networkAfter K rec links o)
@@ -109,7 +109,7 @@ module _ (K : Shape) (shape : IsShape K) (rec : Record) (links pairs : List ℕ)
         opens : countb (networkAfter K rec links o .isOpen) (range (places K)) ≡ countb (λ k. eqb k (o .code) || N .isOpen k) (range (places K))
         opens = ap (λ (p : ℕ → Bool). countb p (range (places K))) (after-open K rec links o)
 
--- ---- A MEMORY THAT SAYS A NETWORK'S FIGURES is refused for its sizes or the notice alone
+-- ---- A MEMORY THAT STORES A NETWORK WITH SOUND FIGURES is refused for its sizes or the notice alone; a network's own figures are sound
 
 module _ (K : Shape) (shape : IsShape K) (G : Network) (held : IsHeld K G) where
   diameter-below : diameter G < places K
@@ -126,7 +126,7 @@ module _ (K : Shape) (shape : IsShape K) (G : Network) (held : IsHeld K G) where
   links-are-sound : AreLinksSound G (length (vertices G))
   links-are-sound = record { isSound = held .net .sound; counted = number-is K G held ∙ ap (λ (n : ℕ). countb (G .isOpen) (range n)) (sym (held .limit)) }
 
-  figures-are-sound : AreFiguresSound G (farthest G) (diameter G) (countPairs (range (places K)) (farthest G))
+  pub figures-are-sound : AreFiguresSound G (farthest G) (diameter G) (countPairs (range (places K)) (farthest G))
   figures-are-sound = record {
     rising = λ u v l m p. farthest-is G (held .net) u v .0 p .before;
     ends = λ u v l m p. let f = farthest-is G (held .net) u v .0 p in (f .first, f .second);
@@ -134,29 +134,30 @@ module _ (K : Shape) (shape : IsShape K) (G : Network) (held : IsHeld K G) where
     below = subst (λ (n : ℕ). diameter G < n) (sym (held .limit)) diameter-below;
   }
 
-  module _ (rec : Record) (links pairs : List ℕ) (s : Says K G rec links pairs) where
-    links-pass : soundLinks (networkOf (K .words) (rec .codes) links) (rec .number) ≡ true
-    links-pass = sound-links-iff (K .words) (rec .codes) links (rec .number) .1 (rw (s .network, s .number) links-are-sound)
+  module _ (D : ℕ) (P : Pairs) (sound : AreFiguresSound G P D (countPairs (range (places K)) P)) where
+    module _ (rec : Record) (links pairs : List ℕ) (s : Stores K G D P rec links pairs) where
+      pub links-pass : soundLinks (networkOf (K .words) (rec .codes) links) (rec .number) ≡ true
+      links-pass = sound-links-iff (K .words) (rec .codes) links (rec .number) .1 (rw (s .network, s .number) links-are-sound)
 
-    figures-pass : soundFigures (networkOf (K .words) (rec .codes) links) (tableBit (K .words) pairs) (rec .chain) (rec .count) ≡ true
-    figures-pass = rw (s .network, s .pairs, s .chain, s .count) (sound-figures-iff G (farthest G) (diameter G) (countPairs (range (places K)) (farthest G)) .1 figures-are-sound)
+      pub figures-pass : soundFigures (networkOf (K .words) (rec .codes) links) (tableBit (K .words) pairs) (rec .chain) (rec .count) ≡ true
+      figures-pass = rw (s .network, s .pairs, s .chain, s .count) (sound-figures-iff G P D (countPairs (range (places K)) P) .1 sound)
 
-    connected-pass : connected (networkOf (K .words) (rec .codes) links) ≡ true
-    connected-pass = rw (s .network) (connected-iff G (held .net .sound) (held .net .small) .1 (held .net .connected))
+      pub connected-pass : connected (networkOf (K .words) (rec .codes) links) ≡ true
+      connected-pass = rw (s .network) (connected-iff G (held .net .sound) (held .net .small) .1 (held .net .connected))
 
-  -- it need say them only where the sizes are enough
-  module _ (rec : Record) (links pairs : List ℕ) (sizes : Sizes) (o : Notice) (says : longEnough K sizes ≡ true → Says K G rec links pairs) where
-    abbrev R : Network
-    R = networkOf (K .words) (rec .codes) links
+    -- it need store them only where the sizes are enough
+    module _ (rec : Record) (links pairs : List ℕ) (sizes : Sizes) (o : Notice) (says : longEnough K sizes ≡ true → Stores K G D P rec links pairs) where
+      abbrev R : Network
+      R = networkOf (K .words) (rec .codes) links
 
-    pub refused-alike : openRefusal K rec links pairs sizes o ≡ firstOf ((not (longEnough K sizes), 1) ∷ noticeFaults G o)
-    unfolding openRefusal firstOf
-    refused-alike = go (longEnough K sizes) refl
-      where
-        go : (b : Bool) → longEnough K sizes ≡ b
-            → firstOf ((not b, 1) ∷ (not (soundLinks R (rec .number) && soundFigures R (tableBit (K .words) pairs) (rec .chain) (rec .count)), 2) ∷ (not (connected R), 3) ∷ noticeFaults R o)
-            ≡ firstOf ((not b, 1) ∷ noticeFaults G o)
-        go false e = refl
-        go true e =
-            let s = says e in
-            rw (links-pass rec links pairs s, figures-pass rec links pairs s, connected-pass rec links pairs s) (ap (λ (X : Network). firstOf (noticeFaults X o)) (s .network))
+      pub refused-alike : openRefusal K rec links pairs sizes o ≡ firstOf ((not (longEnough K sizes), 1) ∷ noticeFaults G o)
+      unfolding openRefusal firstOf
+      refused-alike = go (longEnough K sizes) refl
+        where
+          go : (b : Bool) → longEnough K sizes ≡ b
+              → firstOf ((not b, 1) ∷ (not (soundLinks R (rec .number) && soundFigures R (tableBit (K .words) pairs) (rec .chain) (rec .count)), 2) ∷ (not (connected R), 3) ∷ noticeFaults R o)
+              ≡ firstOf ((not b, 1) ∷ noticeFaults G o)
+          go false e = refl
+          go true e =
+              let s = says e in
+              rw (links-pass rec links pairs s, figures-pass rec links pairs s, connected-pass rec links pairs s) (ap (λ (X : Network). firstOf (noticeFaults X o)) (s .network))

@@ -22,3 +22,5 @@ pub mod Theorems
 pub mod Refuses
 -- What the parts of an opening leave, put together.
 pub mod Placed
+-- An opening call keeps a map that nothing refuses.
+pub mod Keeps

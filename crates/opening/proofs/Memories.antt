@@ -15,7 +15,7 @@ use Rattle.rows.specs.Rows.{tableBit, encodeRow, encodeTable}
 use Rattle.rows.proofs.Written.{row-at, row-read, table-at, table-read, encode-table-length}
 use Rattle.graph.specs.Network.{Network, IsFarthest}
 use Rattle.graph.specs.Distance.{vertices}
-use Rattle.graph.specs.Chart.{diameter, farthest, countPairs}
+use Rattle.graph.specs.Chart.{diameter, Pairs, farthest, countPairs}
 use Rattle.graph.specs.Correct.{IsNet}
 use Rattle.graph.proofs.Theorems.{diameter-is, farthest-is}
 use Rattle.map.specs.Memory.{Shape, places, tableWords, networkOf}
@@ -67,13 +67,17 @@ memoryFor K G = record {
   };
 }
 
--- a record and tables say a network, with its figures
-pub record Says (K : Shape) (G : Network) (rec : Record) (links stored : List ℕ) : Type 0 where
+-- a record and tables store a network with the chain D and the pairs P
+pub record Stores (K : Shape) (G : Network) (D : ℕ) (P : Pairs) (rec : Record) (links stored : List ℕ) : Type 0 where
   pub network : networkOf (K .words) (rec .codes) links ≡ G
-  pub pairs : tableBit (K .words) stored ≡ farthest G
+  pub pairs : tableBit (K .words) stored ≡ P
   pub number : rec .number ≡ length (vertices G)
-  pub chain : rec .chain ≡ diameter G
-  pub count : rec .count ≡ countPairs (range (places K)) (farthest G)
+  pub chain : rec .chain ≡ D
+  pub count : rec .count ≡ countPairs (range (places K)) P
+
+-- they say a network, with its own figures
+abbrev pub Says : Shape → Network → Record → List ℕ → List ℕ → Type 0
+Says K G rec links stored = Stores K G (diameter G) (farthest G) rec links stored
 
 -- a test that implies its guard needs none
 unguarded : (g x : Bool) → (x ≡ true → g ≡ true) → (g && x) ≡ x
@@ -104,23 +108,22 @@ module _ (K : Shape) (G : Network) (held : IsHeld K G) where
 
   -- ---- WHAT IS WRITTEN IS READ
 
-  network-read : (codes links : List ℕ) → networkOf (K .words) (overwrite (encodeRow (K .words) (G .isOpen)) codes) (overwrite (encodeTable (K .words) (G .linked)) links) ≡ G
+  pub network-read : (codes links : List ℕ) → networkOf (K .words) (overwrite (encodeRow (K .words) (G .isOpen)) codes) (overwrite (encodeTable (K .words) (G .linked)) links) ≡ G
   unfolding networkOf
   network-read codes links =
       network-path (sym (held .limit))
       (λ c. row-read (K .words) (G .isOpen) codes c ∙ unguarded (ltb c (places K)) (G .isOpen c) (λ o. lt-ltb c (places K) (open-below c (true→t o))))
       (λ u v. table-read (K .words) (G .linked) links u v ∙ unguarded (ltb u (places K) && ltb v (places K)) (G .linked u v) (both-below (G .linked) linked-open u v))
 
-  pairs-read : (pairs : List ℕ) → tableBit (K .words) (overwrite (encodeTable (K .words) (farthest G)) pairs) ≡ farthest G
-  pairs-read pairs =
-      fun-ext (λ u. fun-ext (λ v. table-read (K .words) (farthest G) pairs u v
-      ∙ unguarded (ltb u (places K) && ltb v (places K)) (farthest G u v) (both-below (farthest G) farthest-open u v)))
+  pub pairs-read : (P : Pairs) → ((u v : ℕ) → T (P u v) → T (G .isOpen u) × T (G .isOpen v)) → (pairs : List ℕ) → tableBit (K .words) (overwrite (encodeTable (K .words) P) pairs) ≡ P
+  pairs-read P ends pairs =
+      fun-ext (λ u. fun-ext (λ v. table-read (K .words) P pairs u v ∙ unguarded (ltb u (places K) && ltb v (places K)) (P u v) (both-below P ends u v)))
 
   pub written-says : (M : Memory) → Says K G (writeMap K G M .rec) (writeMap K G M .links) (writeMap K G M .pairs)
   unfolding writeMap
   written-says M = record {
     network = network-read (M .rec .codes) (M .links);
-    pairs = pairs-read (M .pairs);
+    pairs = pairs-read (farthest G) farthest-open (M .pairs);
     number = refl;
     chain = refl;
     count = refl;
@@ -135,7 +138,7 @@ module _ (K : Shape) (G : Network) (held : IsHeld K G) where
     links = λ u v p q. table-at (K .words) (G .linked) (M .links) u v p q;
     chain = diameter-is G (held .net);
     pairs = λ u v p q. subst (λ (b : Bool). T b ↔ IsFarthest G (G .isOpen) u v) (sym (table-at (K .words) (farthest G) (M .pairs) u v p q)) (farthest-is G (held .net) u v);
-    count = ap (countPairs (range (places K))) (sym (pairs-read (M .pairs)));
+    count = ap (countPairs (range (places K))) (sym (pairs-read (farthest G) farthest-open (M .pairs)));
   }
 
 -- ---- the memory of a network is its map written over itself

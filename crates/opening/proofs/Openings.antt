@@ -51,19 +51,19 @@ module _ (K : Shape) (rec : Record) (links : List ℕ) (B : Lent) (o : Notice) w
   unfolding openGiven
   given-chain = refl
 
-  given-codes : openGiven zero K rec links B o .after .codes ≡ overwrite (encodeRow (K .words) (H .isOpen)) (rec .codes)
+  pub given-codes : openGiven zero K rec links B o .after .codes ≡ overwrite (encodeRow (K .words) (H .isOpen)) (rec .codes)
   unfolding openGiven
   given-codes = refl
 
-  given-count : openGiven zero K rec links B o .after .count ≡ countPairs (range (places K)) (x .final .pairs)
+  pub given-count : openGiven zero K rec links B o .after .count ≡ countPairs (range (places K)) (x .final .pairs)
   unfolding openGiven
   given-count = refl
 
-  given-links : openGiven zero K rec links B o .links ≡ overwrite (encodeTable (K .words) (H .linked)) links
+  pub given-links : openGiven zero K rec links B o .links ≡ overwrite (encodeTable (K .words) (H .linked)) links
   unfolding openGiven
   given-links = refl
 
-  given-pairs : openGiven zero K rec links B o .lent .pairs ≡ overwrite (encodeTable (K .words) (x .final .pairs)) (B .pairs)
+  pub given-pairs : openGiven zero K rec links B o .lent .pairs ≡ overwrite (encodeTable (K .words) (x .final .pairs)) (B .pairs)
   unfolding openGiven roundsLeave
   given-pairs = refl
 

@@ -24,7 +24,7 @@ use Rattle.opening.specs.Demand2.{mapAfter}
 use Rattle.opening.specs.Demand3.{IsCall}
 use Rattle.opening.proofs.Lendings.{overwrite-all, lent-length, lent-whole, restored-same, restored-new}
 use Rattle.opening.proofs.Memories.{IsHeld, Says, record-path, memory-path, writeMap, written-says, memoryFor, links-length, pairs-length}
-use Rattle.opening.proofs.Grants.{after-is, granted-long, held-after, refused-alike}
+use Rattle.opening.proofs.Grants.{after-is, granted-long, held-after, figures-are-sound, refused-alike}
 use Rattle.opening.proofs.Openings.{opened-moved, opened-writes, says-true}
 use Rattle.opening.proofs.Marks.{refused-marked, opened-marked}
 
@@ -111,7 +111,7 @@ module _ (K : Shape) (shape : IsShape K) (G : Network) (held : IsHeld K G) (c : 
   unfolding plainRefusal feedOf
   refusal-is =
       ap (λ (s : Sizes). openRefusal K (M .rec) L (B .pairs) s (c .notice)) sizes-are
-      ∙ refused-alike K shape G held (M .rec) L (B .pairs) (feedOf K c .sizes) (c .notice) lent-says
+      ∙ refused-alike K shape G held (diameter G) (farthest G) (figures-are-sound K shape G held) (M .rec) L (B .pairs) (feedOf K c .sizes) (c .notice) lent-says
 
   -- ---- an accepted call
 

@@ -1,0 +1,184 @@
+-- AN OPENING CALL KEEPS A MAP THAT NOTHING REFUSES, on any sound stored figures, true or false: sizes stay, the words mean the network with the
+-- depot, and its figures are sound. Assumes nothing.
+use mathlib.Core.Path.{_≡_, refl, sym, ap, ap₂, _∙_}
+use mathlib.Core.Bool.{Bool, true, cond}
+use mathlib.Core.List.{List, [], _∷_}
+use Prim.Native.Nat.{ℕ, zero, suc, _*_, _≤_, _<_}
+use native.Mathlib.Omega.{arith}
+use lib.Dec.{T}
+use lib.ListN.{length}
+use borrow.Author.Tests.{ltb-true, lt-ltb}
+use Rattle.lists.specs.Lists.{range, lastOr}
+use Rattle.lists.proofs.Tests.{t→true, true→t}
+use Rattle.lists.proofs.Fills.{overwrite-length, fill-length}
+use Rattle.rows.specs.Rows.{tableBit, encodeRow, encodeTable}
+use Rattle.rows.proofs.Written.{encode-row-length, encode-table-length}
+use Rattle.graph.specs.Network.{Network}
+use Rattle.graph.specs.Distance.{unreached, dist}
+use Rattle.graph.specs.Chart.{chart, countPairs}
+use Rattle.graph.specs.Rounds.{markOf, boundOf}
+use Rattle.graph.specs.Opening.{Notice, addDepot, Opened}
+use Rattle.graph.proofs.OpeningCases.{IsInserted}
+use Rattle.graph.proofs.Opened.{inserted}
+use Rattle.graph.proofs.Charts.{chart-metric}
+use Rattle.graph.proofs.SoundFigures.{AreSound, opening-sound, ecc-below}
+use Rattle.layers.specs.Layers.{layerBit, depthFrom, Tables, searchLeaves}
+use Rattle.map.specs.Memory.{Shape, IsShape, places, networkOf}
+use Rattle.map.specs.Sound.{AreFiguresSound}
+use Rattle.map.specs.declared.Record.{Record}
+use Rattle.map.proofs.Theorems.{network-linked-below}
+use Rattle.rounds.specs.Leaves.{searchAfter, Lent, roundsLeave}
+use Rattle.rounds.specs.Sizes.{sizesOf, longEnough}
+use Rattle.reckon.proofs.Longs.{are-long}
+use Rattle.opening.specs.OpenCall.{openRefusal, networkAfter, openedBy, openGiven, openCall}
+use Rattle.opening.specs.Steps.{mapRefusal}
+use Rattle.opening.proofs.Memories.{IsHeld, Stores, network-read, pairs-read}
+use Rattle.opening.proofs.Grants.{granted-long, granted-figures, granted-net, admitted, held-after, number-after, links-pass, figures-pass, connected-pass}
+use Rattle.opening.proofs.Openings.{given-number, given-chain, given-codes, given-count, given-links, given-pairs}
+use Rattle.opening.proofs.Refuses.{refused-never}
+
+-- ---- SIZES STAY
+
+-- what the last search leaves is as long as what it was lent
+searched-lengths : (W : ℕ) (G : Network) (rs : List ℕ) (B : Tables) → 64 * W ≤ length (B .hops) → W ≤ length (B .even) → W ≤ length (B .odd)
+    → (length (searchAfter W G rs B .hops) ≡ length (B .hops)) × (length (searchAfter W G rs B .even) ≡ length (B .even)) × (length (searchAfter W G rs B .odd) ≡ length (B .odd))
+unfolding searchAfter searchLeaves
+searched-lengths W G [] B h x y = (refl, refl, refl)
+searched-lengths W G (r ∷ rs) B h x y =
+    let s = lastOr r rs in
+    let layer : ℕ → ℕ → Bool = λ parity. layerBit (dist G s) (depthFrom G s) parity in (
+      fill-length (dist G s) (B .hops) (64 * W) h,
+      overwrite-length (encodeRow W (layer 0)) (B .even) (omega (arith, encode-row-length W (layer 0))),
+      overwrite-length (encodeRow W (layer 1)) (B .odd) (omega (arith, encode-row-length W (layer 1))),
+    )
+
+module _ (K : Shape) (rec : Record) (links : List ℕ) (B : Lent) (o : Notice) where
+  abbrev H : Network
+  H = networkAfter K rec links o
+
+  abbrev x : Opened
+  x = openedBy K rec links (B .pairs) o
+
+  given-sizes : longEnough K (sizesOf links B) ≡ true → sizesOf (openGiven zero K rec links B o .links) (openGiven zero K rec links B o .lent) ≡ sizesOf links B
+  unfolding sizesOf openGiven roundsLeave
+  given-sizes long =
+      let fit = are-long K (sizesOf links B) long in
+      let searched = searched-lengths (K .words) H (x .final .references) (B .searched) (fit .hops-fit) (fit .even-fit) (fit .odd-fit) in
+      let bounds : ℕ → ℕ = λ v. cond (H .isOpen v) (boundOf (x .final .status v)) unreached in
+      let skips : ℕ → ℕ = λ v. cond (H .isOpen v) (markOf (K .searchedMark) (K .otherMark) (x .final .status v)) (K .otherMark) in
+      λ i. record {
+        links = overwrite-length (encodeTable (K .words) (H .linked)) links (omega (arith, fit .links-fit, encode-table-length (K .words) (H .linked))) i;
+        pairs = overwrite-length (encodeTable (K .words) (x .final .pairs)) (B .pairs) (omega (arith, fit .pairs-fit, encode-table-length (K .words) (x .final .pairs))) i;
+        hops = searched .0 i;
+        bounds = fill-length bounds (B .bounds) (places K) (fit .bounds-fit) i;
+        skips = fill-length skips (B .skips) (places K) (fit .skips-fit) i;
+        even = searched .1 i;
+        odd = searched .2 i;
+      }
+
+  -- ---- AN ACCEPTED CALL
+
+  module _ (shape : IsShape K) (ok : openRefusal K rec links (B .pairs) (sizesOf links B) o ≡ 0) (low : o .code < places K) where
+    abbrev G : Network
+    G = networkOf (K .words) (rec .codes) links
+
+    held : IsHeld K H
+    held = held-after K shape rec links (B .pairs) (sizesOf links B) o ok low
+
+    was-inserted : IsInserted (chart G) (chart H) (o .code)
+    unfolding networkAfter
+    was-inserted = inserted G (granted-net K shape rec links (B .pairs) (sizesOf links B) o ok) (o .code) (o .neighbours) (admitted K shape rec links (B .pairs) (sizesOf links B) o ok low)
+
+    -- the stored figures are sound for the network with the depot too
+    stored-sound : AreSound (chart H) (H .limit) (rec .chain) (tableBit (K .words) (B .pairs))
+    unfolding chart networkOf networkAfter addDepot
+    stored-sound =
+        let f = granted-figures K shape rec links (B .pairs) (sizesOf links B) o ok in
+        record {
+          below = f .below;
+          pairs = λ u v h.
+              let l = network-linked-below (K .words) (rec .codes) (B .pairs) u v (true→t h) in
+              let e = f .ends u v (l .0) (l .1) (true→t h) in (
+                lt-ltb u v (f .rising u v (l .0) (l .1) (true→t h)),
+                was-inserted .old u (t→true (G .isOpen u) (e .0)),
+                was-inserted .old v (t→true (G .isOpen v) (e .1)),
+              );
+        }
+
+    left-sound : AreSound (chart H) (H .limit) (x .final .candidate) (x .final .pairs)
+    unfolding openedBy
+    left-sound =
+        opening-sound (chart H) (chart-metric H (held .net)) (H .limit) (ecc-below H (held .net)) (o .code) (was-inserted .new)
+        (rec .chain) (tableBit (K .words) (B .pairs)) stored-sound
+
+    left-ends : (u v : ℕ) → T (x .final .pairs u v) → T (H .isOpen u) × T (H .isOpen v)
+    unfolding chart
+    left-ends u v h = let p = left-sound .pairs u v (t→true (x .final .pairs u v) h) in (true→t (p .1), true→t (p .2))
+
+    pub left-figures : AreFiguresSound (networkAfter K rec links o) (openedBy K rec links (B .pairs) o .final .pairs)
+        (openedBy K rec links (B .pairs) o .final .candidate) (countPairs (range (places K)) (openedBy K rec links (B .pairs) o .final .pairs))
+    left-figures = record {
+      rising = λ u v l m h. ltb-true u v (left-sound .pairs u v (t→true (x .final .pairs u v) h) .0);
+      ends = λ u v l m h. left-ends u v h;
+      counted = ap (λ (n : ℕ). countPairs (range n) (x .final .pairs)) (sym (held .limit));
+      below = left-sound .below;
+    }
+
+    -- what the call leaves stores the network with the depot, and the chain and the pairs of the opening
+    pub left-stores : Stores K (networkAfter K rec links o) (openedBy K rec links (B .pairs) o .final .candidate) (openedBy K rec links (B .pairs) o .final .pairs)
+        (openGiven zero K rec links B o .after) (openGiven zero K rec links B o .links) (openGiven zero K rec links B o .lent .pairs)
+    left-stores = record {
+      network = ap₂ (networkOf (K .words)) (given-codes K rec links B o) (given-links K rec links B o) ∙ network-read K H held (rec .codes) links;
+      pairs = ap (tableBit (K .words)) (given-pairs K rec links B o) ∙ pairs-read K H held (x .final .pairs) left-ends (B .pairs);
+      number = given-number K rec links B o ∙ number-after K shape rec links (B .pairs) (sizesOf links B) o ok low;
+      chain = given-chain K rec links B o;
+      count = given-count K rec links B o;
+    }
+
+    accepted-kept : mapRefusal K (openGiven zero K rec links B o .after) (openGiven zero K rec links B o .links) (openGiven zero K rec links B o .lent .pairs)
+        (sizesOf (openGiven zero K rec links B o .links) (openGiven zero K rec links B o .lent)) ≡ 0
+    accepted-kept =
+        let l = openGiven zero K rec links B o in
+        let long = granted-long K shape rec links (B .pairs) (sizesOf links B) o ok in
+        sym (refused-never K (l .after) (l .links) (l .lent .pairs) (sizesOf (l .links) (l .lent))
+        (ap (longEnough K) (given-sizes long) ∙ long)
+        (links-pass K shape H held (x .final .candidate) (x .final .pairs) left-figures (l .after) (l .links) (l .lent .pairs) left-stores)
+        (figures-pass K shape H held (x .final .candidate) (x .final .pairs) left-figures (l .after) (l .links) (l .lent .pairs) left-stores)
+        (connected-pass K shape H held (x .final .candidate) (x .final .pairs) left-figures (l .after) (l .links) (l .lent .pairs) left-stores))
+
+-- ---- THE THEOREMS
+
+module _ (K : Shape) (shape : IsShape K) (rec : Record) (links : List ℕ) (B : Lent) (o : Notice) where
+  abbrev refusal : ℕ
+  refusal = openRefusal K rec links (B .pairs) (sizesOf links B) o
+
+  -- a call leaves every buffer as long as it was lent it
+  pub sizes-kept : sizesOf (openCall K rec links B o .links) (openCall K rec links B o .lent) ≡ sizesOf links B
+  unfolding openCall openGiven
+  sizes-kept = go refusal refl
+    where
+      go : (k : ℕ) → refusal ≡ k → sizesOf (openGiven k K rec links B o .links) (openGiven k K rec links B o .lent) ≡ sizesOf links B
+      go zero ok = given-sizes K rec links B o (granted-long K shape rec links (B .pairs) (sizesOf links B) o ok)
+      go (suc k) ko = refl
+
+  -- and the open set, which has a row's words
+  pub codes-kept : K .words ≤ length (rec .codes) → length (openCall K rec links B o .after .codes) ≡ length (rec .codes)
+  unfolding openCall openGiven
+  codes-kept row = go refusal
+    where
+      go : (k : ℕ) → length (openGiven k K rec links B o .after .codes) ≡ length (rec .codes)
+      go zero =
+          let opens = networkAfter K rec links o .isOpen in
+          overwrite-length (encodeRow (K .words) opens) (rec .codes) (omega (arith, row, encode-row-length (K .words) opens))
+      go (suc k) = refl
+
+  -- after an opening call on memory that nothing refuses, nothing refuses it: sizes, soundness of links and figures, connectedness stay
+  pub map-kept : o .code < places K → mapRefusal K rec links (B .pairs) (sizesOf links B) ≡ 0
+      → mapRefusal K (openCall K rec links B o .after) (openCall K rec links B o .links) (openCall K rec links B o .lent .pairs) (sizesOf (openCall K rec links B o .links) (openCall K rec links B o .lent)) ≡ 0
+  unfolding openCall openGiven
+  map-kept low free = go refusal refl
+    where
+      go : (k : ℕ) → refusal ≡ k
+          → mapRefusal K (openGiven k K rec links B o .after) (openGiven k K rec links B o .links) (openGiven k K rec links B o .lent .pairs) (sizesOf (openGiven k K rec links B o .links) (openGiven k K rec links B o .lent)) ≡ 0
+      go zero ok = accepted-kept K rec links B o shape ok low
+      go (suc k) ko = free
