@@ -1,0 +1,24 @@
+-- The beginning.
+pub mod Begins
+-- The line buffer: a byte held, and the bytes of a piece up to the end of a line.
+pub mod Holding
+-- What the reader's answer says of the line, and the answer to it.
+pub mod Answers
+-- Where the step stops.
+pub mod Stops
+-- The report behind what is written.
+pub mod Reports
+-- A line taken, and the end of the stream.
+pub mod Turns
+-- The bytes of a piece, part by part; what holds at each turn of the loop.
+pub mod Feeds
+-- The lines of an input, and the held bytes of a line.
+pub mod Lines
+-- A line on lent memory is the line on the network.
+pub mod Following
+-- The bytes one by one, against the lines of the whole input.
+pub mod Runs
+-- The turns, and the end of the input.
+pub mod Turning
+-- THE THEOREMS: however the input is cut into pieces, the output is the definition's.
+pub mod Theorems

@@ -1,0 +1,90 @@
+-- THE THEOREMS OF THE STREAM, about the very definitions that the contracts cite. Assumes nothing.
+use mathlib.Core.Path.{_≡_, refl, sym, ap, _∙_, subst}
+use mathlib.Core.Logic.{_⊎_}
+use mathlib.Core.Bool.{true, false}
+use mathlib.Core.List.{List, [], _∷_, _++_}
+use Prim.Native.Nat.{ℕ, _≤_, _<_}
+use native.Mathlib.Nat.{zero-add}
+use native.Mathlib.Omega.{arith}
+use lib.ListN.{length, take}
+use borrow.Author.Tests.{lt-leb}
+use Rattle.graph.specs.Opening.{emptyNetwork}
+use Rattle.map.specs.Memory.{base, places}
+use Rattle.map.specs.declared.Record.{Record}
+use Rattle.report.specs.Line.{bufferLimit}
+use Rattle.opening.proofs.Memories.{Says}
+use Rattle.opening.proofs.Theorems.{base-shape}
+use Rattle.opening.proofs.Empties.{empty-held}
+use Rattle.stream.specs.Stream.{linesLimit, reportsFrom, streamOutput}
+use Rattle.stream.specs.Feeding.{beginCall, Feeding, stopped, feedBytes}
+use Rattle.stream.specs.Pieces.{Standing, Turn, turnLeft, standsAfter, usedBy, writtenBy, lastWritten, HasBegun}
+use Rattle.stream.specs.declared.Progress.{Progress}
+use Rattle.stream.proofs.Stops.{stopped-lines}
+use Rattle.stream.proofs.Lines.{open-none}
+use Rattle.stream.proofs.Following.{begun-says}
+use Rattle.stream.proofs.Runs.{append-none, Place, restFrom, bytes-past, bytes-all, bytes-first}
+use Rattle.stream.proofs.Turning.{entering, StandsOn, turn-is, Turned, turns-go, rest-over, finish-goes}
+
+-- ---- the beginning
+
+atStart : Place
+atStart = record { lines = 0; network = emptyNetwork (places base); begun = [] }
+
+whole-rest : (input : List ℕ) → restFrom atStart input ≡ streamOutput input
+unfolding atStart restFrom streamOutput
+whole-rest input = refl
+
+begun-on : (s : Standing) → HasBegun s → StandsOn atStart s
+unfolding atStart beginCall
+begun-on s is = record {
+  lines = ap (λ (p : Progress). p .lines) (is .progressIs);
+  isHeld = empty-held base base-shape;
+  isSaid =
+      subst (λ (p : Progress). Says base (emptyNetwork (places base)) (p .rec) (s .links) (s .lent .pairs)) (sym (is .progressIs))
+      (subst (λ (l : List ℕ). Says base (emptyNetwork (places base)) (beginCall (is .links) (is .pairs) .progress .rec) l (s .lent .pairs)) (sym (is .linksAre))
+      (subst (λ (l : List ℕ). Says base (emptyNetwork (places base)) (beginCall (is .links) (is .pairs) .progress .rec) (beginCall (is .links) (is .pairs) .links) l) (sym (is .pairsAre)) (begun-says (is .links) (is .pairs))));
+  long = is .long;
+  holds = record {
+    text = ap (λ (p : Progress). take (p .held) (s .line)) (is .progressIs);
+    count = ap (λ (p : Progress). p .held) (is .progressIs);
+    room = is .room;
+  };
+}
+
+turned : (s : Standing) → HasBegun s → (ts : List Turn) → Turned atStart s ts
+unfolding atStart
+turned s is ts = turns-go ts atStart s (begun-on s is) open-none
+
+-- ---- HOWEVER THE INPUT IS CUT INTO PIECES, and whatever buffers are lent for the reports: what the turns and the end write is the whole output
+-- of the bytes used
+pub pieces-alike : (s : Standing) → HasBegun s → (ts : List Turn) (out : List ℕ) → bufferLimit ≤ length out
+    → writtenBy s ts ++ lastWritten (standsAfter s ts) out ≡ streamOutput (usedBy s ts)
+pieces-alike s is ts out room =
+    let t = turned s is ts in
+    ap (λ (x : List ℕ). writtenBy s ts ++ x) (finish-goes (standsAfter s ts) out room (t .place .lines) (t .place .network) (t .place .begun) (t .stands) (t .isOpen))
+    ∙ t .rest []
+    ∙ ap (restFrom atStart) (append-none (usedBy s ts))
+    ∙ whole-rest (usedBy s ts)
+
+-- after the last line of a stream nothing is read: whatever follows, the output is what was written
+pub rest-unread : (s : Standing) → HasBegun s → (ts : List Turn) (rest : List ℕ) → linesLimit ≤ standsAfter s ts .progress .lines
+    → writtenBy s ts ≡ streamOutput (usedBy s ts ++ rest)
+rest-unread s is ts rest l =
+    let t = turned s is ts in
+    sym (append-none (writtenBy s ts))
+    ∙ sym (ap (λ (x : List ℕ). writtenBy s ts ++ x) (rest-over (t .place) rest (omega (arith, l, t .stands .lines))))
+    ∙ t .rest rest
+    ∙ whole-rest (usedBy s ts ++ rest)
+
+-- a turn uses a byte at least where one is left, a line may come and the buffer has room for a report; it leaves none unless it stops
+pub turn-uses : (s : Standing) (out : List ℕ) (b : ℕ) (bs : List ℕ) → s .progress .lines < linesLimit → bufferLimit ≤ length out
+    → 0 < turnLeft s (record { piece = b ∷ bs; out = out }) .fed .used
+turn-uses s out b bs l room =
+    subst (λ (F : Feeding). 0 < F .fed .used) (sym (turn-is s (record { piece = b ∷ bs; out = out })))
+    (bytes-first b bs (entering s out) (sym (stopped-lines (s .progress .lines) 0 (length out) room) ∙ lt-leb linesLimit (s .progress .lines) l))
+
+pub turn-all : (s : Standing) (t : Turn) → (stopped (turnLeft s t) ≡ true) ⊎ (turnLeft s t .fed .used ≡ length (t .piece))
+turn-all s t =
+    subst (λ (F : Feeding). (stopped F ≡ true) ⊎ (F .fed .used ≡ length (t .piece))) (sym (turn-is s t))
+    (subst (λ (n : ℕ). (stopped (feedBytes (t .piece) (entering s (t .out))) ≡ true) ⊎ (feedBytes (t .piece) (entering s (t .out)) .fed .used ≡ n)) (zero-add (length (t .piece)))
+    (bytes-all (t .piece) (entering s (t .out))))

@@ -1,0 +1,42 @@
+-- A LINE TAKEN, and the end of the stream. Assumes nothing.
+use mathlib.Core.Path.{_≡_, sym}
+use mathlib.Core.Bool.{true, false, _||_}
+use mathlib.Core.List.{List}
+use Prim.Native.Nat.{ℕ, _+_}
+use lib.Dec.{eqb}
+use lib.ListN.{length, take}
+use borrow.Author.Tests.{eq-eqb, ne-eqb}
+use Rattle.lists.proofs.Tests.{or-right}
+use Rattle.rounds.specs.Leaves.{Lent}
+use Rattle.notice.specs.Lines.{readLine}
+use Rattle.report.specs.Line.{reportLine}
+use Rattle.opening.specs.OpenCall.{openLeft}
+use Rattle.opening.specs.declared.Opened.{Opened}
+use Rattle.stream.specs.Feeding.{answerTo, reportOf, pasted, Feeding, feeding, progressOf, fedOf, stopped, tookLine, finishCall}
+use Rattle.stream.specs.declared.Progress.{Progress}
+
+-- the answer to the held bytes, and its report behind what was written
+pub took : (F : Feeding) {got : Opened} {links : List ℕ} {B : Lent} {out : List ℕ} {end : ℕ}
+    → openLeft got links B ≡ answerTo (readLine (take (F .fed .progress .held) (F .line))) (F .fed .progress .rec) (F .links) (F .lent)
+    → (out ≡ pasted (reportLine (reportOf (F .fed .progress .lines + 1) got)) (F .fed .written) (F .out)) × (end ≡ F .fed .written + length (reportLine (reportOf (F .fed .progress .lines + 1) got)))
+    → feeding (fedOf (progressOf (got .after) (F .fed .progress .lines + 1) 0) (F .fed .used) end) links B (F .line) out ≡ tookLine F
+unfolding tookLine
+took F e w = rw (← e, w .0, w .1)
+
+-- ---- the end of the stream
+
+module _ (p : Progress) (links : List ℕ) (B : Lent) (line out : List ℕ) where
+  abbrev start : Feeding
+  start = feeding (fedOf p 0 0) links B line out
+
+  pub finish-none : p .held ≡ 0 → start ≡ finishCall p links B line out
+  unfolding finishCall
+  finish-none e = rw (eq-eqb (p .held) 0 e)
+
+  pub finish-stopped : true ≡ stopped start → start ≡ finishCall p links B line out
+  unfolding finishCall
+  finish-stopped e = rw (or-right (eqb (p .held) 0) (sym e))
+
+  pub finish-took : (p .held ≡ 0 → ⊥) → stopped start ≡ false → tookLine start ≡ finishCall p links B line out
+  unfolding finishCall
+  finish-took n e = rw (ne-eqb (p .held) 0 n, e)

@@ -1,0 +1,323 @@
+// The stream: notice lines in, report lines out, the input in pieces of any size.
+ghost use mathlib.Core.Path.{_≡_};
+ghost use Prim.Native.Nat.{_+_, _≤_, _<_};
+ghost use lib.ListN.{length, drop};
+ghost use Rattle.layers.specs.Layers.{tables};
+ghost use Rattle.map.specs.Memory.{base, tableWords};
+ghost use Rattle.rounds.specs.Leaves.{lent};
+ghost use Rattle.rounds.specs.Sizes.{sizes};
+ghost use Rattle.notice.specs.Lines.{lineLimit, readLine};
+ghost use Rattle.report.specs.Line.{bufferLimit, reportLine};
+ghost use Rattle.opening.specs.OpenCall.{openLeft};
+ghost use Rattle.opening.specs.Steps.{mapRefusal, refusedWith};
+ghost use Rattle.stream.specs.Stream.{linesLimit};
+ghost use Rattle.stream.specs.Feeding.{begun, beginCall, holding, holdByte, partLeft, partFrom, answerTo, reportOf, pasted, IsReady, isStopped, feeding, fedOf, tookLine, feedCall, finishCall};
+use map::Record;
+use notice::Reading;
+use opening::Opened;
+use opening::Report;
+use outcome::Outcome;
+use report::Written;
+
+// How far a stream has come: the map's record, the lines answered, and the bytes that the line buffer holds of the next one.
+pub struct Progress {
+    pub rec: Record,
+    pub lines: u32,
+    pub held: usize,
+}
+
+// What a call leaves beside the lent memory: the progress, the bytes of the piece used, and the bytes of reports written.
+pub struct Fed {
+    pub progress: Progress,
+    pub used: usize,
+    pub written: usize,
+}
+
+// What the line buffer took of a piece: the place behind it, the bytes held then, and whether the line ended.
+pub struct Part {
+    pub at: usize,
+    pub held: usize,
+    pub ended: bool,
+}
+
+// Begins a stream: the map is emptied, and no line is read.
+pub fn begin(links: &mut [u64], pairs: &mut [u64]) -> Progress
+    requires { ⌜ (tableWords base ≤ length (now links)) × (tableWords base ≤ length (now pairs)) ⌝ }
+    ensures { λ r. ⌜ begun r (now (links .exit)) (now (pairs .exit)) ≡ beginCall (now (links .entry)) (now (pairs .entry)) ⌝ }
+{
+    let none = Record {
+        codes: [0u64; 4],
+        number: 0,
+        chain: 0,
+        count: 0,
+    };
+    let got = map::empty_map(links, pairs, none);
+    let rec = got.after;
+    Progress {
+        rec: rec,
+        lines: 0,
+        held: 0,
+    }
+}
+
+// ---- the line buffer
+
+// Puts a byte behind those that are held. A line's first 517 bytes decide how it reads, so that no more are kept.
+fn hold(line: &mut [u8], held: usize, b: u8) -> usize
+    requires { ⌜ lineLimit ≤ length (now line) ⌝ }
+    ensures { λ r. ⌜ holding (now (line .exit)) r ≡ holdByte b (holding (now (line .entry)) held) ⌝ }
+{
+    if held < 517 {
+        line[held] = b;
+        return held + 1;
+    }
+    held
+}
+
+// Takes the bytes of a piece up to the end of a line, or all that are left of it.
+fn hold_part(line: &mut [u8], piece: &[u8], from: usize, held: usize) -> Part
+    requires { ⌜ lineLimit ≤ length (now line) ⌝ }
+    ensures { λ r. ⌜ partLeft r (now (line .exit)) ≡ partFrom from (holding (now (line .entry)) held) (drop from (now (piece .entry))) ⌝ }
+{
+    let mut at = from;
+    let mut count = held;
+    while at < piece.len() {
+        let b = piece[at];
+        count = hold(line, count, b);
+        at += 1;
+        if b == 10 {
+            return Part {
+                at: at,
+                held: count,
+                ended: true,
+            };
+        }
+    }
+    Part {
+        at: at,
+        held: count,
+        ended: false,
+    }
+}
+
+// ---- a line's answer
+
+// What a garbled line is answered.
+fn garbled(rec: Record, number: u8) -> Opened
+    ensures { λ r. ⌜ r ≡ refusedWith number rec ⌝ }
+{
+    let report = Report {
+        outcome: Outcome::Refused(number),
+        searches: 0,
+    };
+    Opened { report, after: rec }
+}
+
+// Answers a line: the reader's refusal, or the opening of its frame.
+fn answer_line(
+    rec: Record,
+    links: &mut [u64],
+    pairs: &mut [u64],
+    hops: &mut [u16],
+    bounds: &mut [u16],
+    skips: &mut [u16],
+    even: &mut [u64],
+    odd: &mut [u64],
+    text: &[u8],
+) -> Opened
+    requires { ⌜ mapRefusal base rec (now links) (now pairs) (sizes (length (now links)) (length (now pairs)) (length (now hops)) (length (now bounds)) (length (now skips)) (length (now even)) (length (now odd))) ≡ 0 ⌝ }
+    ensures { λ r. ⌜ openLeft r (now (links .exit)) (lent (now (pairs .exit)) (tables (now (hops .exit)) (now (even .exit)) (now (odd .exit))) (now (bounds .exit)) (now (skips .exit))) ≡ answerTo (readLine (now (text .entry))) rec (now (links .entry)) (lent (now (pairs .entry)) (tables (now (hops .entry)) (now (even .entry)) (now (odd .entry))) (now (bounds .entry)) (now (skips .entry))) ⌝ }
+{
+    let mut frame = [0u8; 258];
+    let got = notice::read_notice(text, &mut frame);
+    match got {
+        Reading::Frame(n, _) => {
+            let code = frame[1];
+            opening::open_sound(
+                rec,
+                links,
+                pairs,
+                hops,
+                bounds,
+                skips,
+                even,
+                odd,
+                code,
+                &frame[3..n],
+            )
+        }
+        Reading::Refused(k) => garbled(rec, k),
+    }
+}
+
+// Writes the report of line `number` behind what is written, and answers the place behind it.
+fn put_report(out: &mut [u8], at: usize, number: u32, got: Opened) -> usize
+    requires { ⌜ at + bufferLimit ≤ length (now out) ⌝ }
+    ensures { λ r. ⌜ (now (out .exit) ≡ pasted (reportLine (reportOf number got)) at (now (out .entry))) × (r ≡ at + length (reportLine (reportOf number got))) × (r ≤ length (now (out .exit))) ⌝ }
+{
+    let rec = got.after;
+    let call = got.report;
+    let outcome = call.outcome;
+    let line = report::Report {
+        number: number,
+        outcome: outcome,
+        depots: rec.number,
+        chain: rec.chain,
+        pairs: rec.count,
+        searches: call.searches,
+    };
+    let answer = report::write_report(&mut out[at..], line);
+    match answer {
+        Written::Line(k) => at + k,
+        Written::Refused(_) => at,
+    }
+}
+
+// Answers the line that is held, and reports it.
+fn take_line(
+    fed: Fed,
+    links: &mut [u64],
+    pairs: &mut [u64],
+    hops: &mut [u16],
+    bounds: &mut [u16],
+    skips: &mut [u16],
+    even: &mut [u64],
+    odd: &mut [u64],
+    out: &mut [u8],
+    line: &[u8],
+) -> Fed
+    requires { ⌜ (mapRefusal base (fed .progress .rec) (now links) (now pairs) (sizes (length (now links)) (length (now pairs)) (length (now hops)) (length (now bounds)) (length (now skips)) (length (now even)) (length (now odd))) ≡ 0) × (fed .progress .held ≤ length (now line)) × (fed .progress .lines < linesLimit) × (fed .written + bufferLimit ≤ length (now out)) ⌝ }
+    ensures { λ r. ⌜ (feeding r (now (links .exit)) (lent (now (pairs .exit)) (tables (now (hops .exit)) (now (even .exit)) (now (odd .exit))) (now (bounds .exit)) (now (skips .exit))) (now (line .entry)) (now (out .exit)) ≡ tookLine (feeding fed (now (links .entry)) (lent (now (pairs .entry)) (tables (now (hops .entry)) (now (even .entry)) (now (odd .entry))) (now (bounds .entry)) (now (skips .entry))) (now (line .entry)) (now (out .entry)))) × (r .written ≤ length (now (out .exit))) ⌝ }
+{
+    let before = fed.progress;
+    let held = before.held;
+    let rec = before.rec;
+    let got = answer_line(
+        rec,
+        links,
+        pairs,
+        hops,
+        bounds,
+        skips,
+        even,
+        odd,
+        &line[..held],
+    );
+    let number = before.lines + 1;
+    let end = put_report(out, fed.written, number, got);
+    let now = got.after;
+    let progress = Progress {
+        rec: now,
+        lines: number,
+        held: 0,
+    };
+    Fed {
+        progress: progress,
+        used: fed.used,
+        written: end,
+    }
+}
+
+// ---- the step
+
+// Whether no further line may be begun: the report may not fit, or the stream has had its lines.
+fn is_stopped(lines: u32, written: usize, room: usize) -> bool
+    ensures { λ r. ⌜ r ≡ isStopped lines written room ⌝ }
+{
+    if room < 48 {
+        return true;
+    }
+    if room - 48 < written {
+        return true;
+    }
+    1000000 <= lines
+}
+
+// Feeds a piece of the input: answers each line that ends in it, holds what is left, and writes the reports from the start of `out`. It
+// stops before a line whose report might not fit and after the last line of a stream; what is not used is to be fed again.
+pub fn feed(
+    progress: Progress,
+    links: &mut [u64],
+    pairs: &mut [u64],
+    hops: &mut [u16],
+    bounds: &mut [u16],
+    skips: &mut [u16],
+    even: &mut [u64],
+    odd: &mut [u64],
+    line: &mut [u8],
+    out: &mut [u8],
+    piece: &[u8],
+) -> Fed
+    requires { ⌜ IsReady progress (now links) (lent (now pairs) (tables (now hops) (now even) (now odd)) (now bounds) (now skips)) (now line) ⌝ }
+    ensures { λ r. ⌜ (feeding r (now (links .exit)) (lent (now (pairs .exit)) (tables (now (hops .exit)) (now (even .exit)) (now (odd .exit))) (now (bounds .exit)) (now (skips .exit))) (now (line .exit)) (now (out .exit)) ≡ feedCall progress (now (links .entry)) (lent (now (pairs .entry)) (tables (now (hops .entry)) (now (even .entry)) (now (odd .entry))) (now (bounds .entry)) (now (skips .entry))) (now (line .entry)) (now (out .entry)) (now (piece .entry))) × IsReady (r .progress) (now (links .exit)) (lent (now (pairs .exit)) (tables (now (hops .exit)) (now (even .exit)) (now (odd .exit))) (now (bounds .exit)) (now (skips .exit))) (now (line .exit)) × (r .used ≤ length (now (piece .entry))) × (r .written ≤ length (now (out .exit))) ⌝ }
+{
+    let mut now = Fed {
+        progress: progress,
+        used: 0,
+        written: 0,
+    };
+    while now.used < piece.len() {
+        let before = now.progress;
+        if is_stopped(before.lines, now.written, out.len()) {
+            return now;
+        }
+        let part = hold_part(line, piece, now.used, before.held);
+        let rec = before.rec;
+        let after = Progress {
+            rec: rec,
+            lines: before.lines,
+            held: part.held,
+        };
+        let kept = Fed {
+            progress: after,
+            used: part.at,
+            written: now.written,
+        };
+        if !part.ended {
+            return kept;
+        }
+        now = take_line(
+            kept,
+            links,
+            pairs,
+            hops,
+            bounds,
+            skips,
+            even,
+            odd,
+            out,
+            &*line,
+        );
+    }
+    now
+}
+
+// Ends the stream: a last stretch that is held is a line too.
+pub fn finish(
+    progress: Progress,
+    links: &mut [u64],
+    pairs: &mut [u64],
+    hops: &mut [u16],
+    bounds: &mut [u16],
+    skips: &mut [u16],
+    even: &mut [u64],
+    odd: &mut [u64],
+    line: &[u8],
+    out: &mut [u8],
+) -> Fed
+    requires { ⌜ IsReady progress (now links) (lent (now pairs) (tables (now hops) (now even) (now odd)) (now bounds) (now skips)) (now line) ⌝ }
+    ensures { λ r. ⌜ (feeding r (now (links .exit)) (lent (now (pairs .exit)) (tables (now (hops .exit)) (now (even .exit)) (now (odd .exit))) (now (bounds .exit)) (now (skips .exit))) (now (line .entry)) (now (out .exit)) ≡ finishCall progress (now (links .entry)) (lent (now (pairs .entry)) (tables (now (hops .entry)) (now (even .entry)) (now (odd .entry))) (now (bounds .entry)) (now (skips .entry))) (now (line .entry)) (now (out .entry))) × (r .written ≤ length (now (out .exit))) ⌝ }
+{
+    let fed = Fed {
+        progress: progress,
+        used: 0,
+        written: 0,
+    };
+    if progress.held == 0 {
+        return fed;
+    }
+    if is_stopped(progress.lines, 0, out.len()) {
+        return fed;
+    }
+    take_line(fed, links, pairs, hops, bounds, skips, even, odd, out, line)
+}
