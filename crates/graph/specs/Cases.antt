@@ -13,17 +13,21 @@ use Rattle.graph.specs.Chart.{chart, Pairs, countPairs}
 use Rattle.graph.specs.Rounds.{markOf, boundOf, reckon}
 use Rattle.graph.specs.Opening.{Notice, emptyNetwork, addDepot, noticeFaults, Change, grew, kept, shrank, opening}
 
--- the pairs as a list
-unfoldable pub pairList : List ℕ → Pairs → List (ℕ × ℕ)
-pairList vs P = over vs
-  where
-    row : ℕ → List ℕ → List (ℕ × ℕ)
-    row u [] = []
-    row u (v ∷ ws) = let r = row u ws in cond (P u v) ((u, v) ∷ r) r
+-- the depot u with each of the depots that P pairs it with
+unfoldable pub partners : Pairs → ℕ → List ℕ → List (ℕ × ℕ)
+partners P u [] = []
+partners P u (v ∷ vs) = let r = partners P u vs in cond (P u v) ((u, v) ∷ r) r
 
-    over : List ℕ → List (ℕ × ℕ)
-    over [] = []
-    over (u ∷ us) = row u vs ++ over us
+-- the same for each of the depots us
+unfoldable pub pairsFrom : Pairs → List ℕ → List ℕ → List (ℕ × ℕ)
+unfolding partners
+pairsFrom P vs [] = []
+pairsFrom P vs (u ∷ us) = partners P u vs ++ pairsFrom P vs us
+
+-- the pairs among the depots vs, as a list
+unfoldable pub pairList : List ℕ → Pairs → List (ℕ × ℕ)
+unfolding pairsFrom
+pairList vs P = pairsFrom P vs vs
 
 -- ---- the whole reckoning
 

@@ -59,13 +59,13 @@ module _ (K : Shape) (shape : IsShape K) where
   unfolding emptyNetwork
   all-closed u = refl
 
-  none-farthest : farthest E ≡ (λ u v. false)
+  pub none-farthest : farthest E ≡ (λ u v. false)
   none-farthest = fun-ext (λ u. fun-ext (λ v. not→false (farthest E u v) (λ h. false→not (all-closed u) (farthest-is E (empty-held .net) u v .0 h .first))))
 
   none-number : length (vertices E) ≡ 0
   none-number = number-is K E empty-held ∙ count-none (E .isOpen) (range (places K)) (λ u m. all-closed u)
 
-  none-diameter : diameter E ≡ 0
+  pub none-diameter : diameter E ≡ 0
   none-diameter = go (diameter-is E (empty-held .net) .attained)
     where
       go : (diameter E ≡ 0) ⊎ ((u : ℕ) × T (E .isOpen u) × IsEcc E (E .isOpen) u (diameter E)) → diameter E ≡ 0

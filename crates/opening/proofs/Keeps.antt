@@ -111,11 +111,11 @@ module _ (K : Shape) (rec : Record) (links : List ℕ) (B : Lent) (o : Notice) w
         opening-sound (chart H) (chart-metric H (held .net)) (H .limit) (ecc-below H (held .net)) (o .code) (was-inserted .new)
         (rec .chain) (tableBit (K .words) (B .pairs)) stored-sound
 
-    left-ends : (u v : ℕ) → T (x .final .pairs u v) → T (H .isOpen u) × T (H .isOpen v)
+    pub left-ends : (u v : ℕ) → T (openedBy K rec links (B .pairs) o .final .pairs u v) → T (networkAfter K rec links o .isOpen u) × T (networkAfter K rec links o .isOpen v)
     unfolding chart
     left-ends u v h = let p = left-sound .pairs u v (t→true (x .final .pairs u v) h) in (true→t (p .1), true→t (p .2))
 
-    pub left-figures : AreFiguresSound (networkAfter K rec links o) (openedBy K rec links (B .pairs) o .final .pairs)
+    left-figures : AreFiguresSound (networkAfter K rec links o) (openedBy K rec links (B .pairs) o .final .pairs)
         (openedBy K rec links (B .pairs) o .final .candidate) (countPairs (range (places K)) (openedBy K rec links (B .pairs) o .final .pairs))
     left-figures = record {
       rising = λ u v l m h. ltb-true u v (left-sound .pairs u v (t→true (x .final .pairs u v) h) .0);

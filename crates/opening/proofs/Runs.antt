@@ -41,7 +41,7 @@ module _ (K : Shape) (shape : IsShape K) where
     unfolding callStep openCall
     call-answer = one-step K shape G held c call .answer
 
-    call-memory : memoryAfter (memoryFor K G) c (callStep (openCall K) (memoryFor K G) c) ≡ memoryFor K (next K G c)
+    pub call-memory : memoryAfter (memoryFor K G) c (callStep (openCall K) (memoryFor K G) c) ≡ memoryFor K (next K G c)
     unfolding callStep openCall
     call-memory = one-step K shape G held c call .memory
 

@@ -97,7 +97,7 @@ module _ (K : Shape) (shape : IsShape K) (G : Network) (held : IsHeld K G) (c : 
       (lent-whole (tableWords K) (c .pairs) (M .pairs) (pairs-length K G) (tables-whole long .1))
       (record-path (sym (overwrite-all (encodeRow (K .words) (G .isOpen)) (encodeRow (K .words) (G .isOpen)) refl)) refl refl refl)
 
-  lent-says : longEnough K (feedOf K c .sizes) ≡ true → Says K G (M .rec) L (B .pairs)
+  pub lent-says : longEnough K (feedOf K c .sizes) ≡ true → Says K G (M .rec) L (B .pairs)
   lent-says long =
       subst (λ (ps : List ℕ). Says K G (M .rec) L ps) (sym (lent-pairs M c))
       (subst (λ (A : Memory). Says K G (A .rec) (A .links) (A .pairs)) (sym (lent-written long)) (written-says K G held (lentMap M c)))
@@ -107,7 +107,7 @@ module _ (K : Shape) (shape : IsShape K) (G : Network) (held : IsHeld K G) (c : 
   abbrev refusal : ℕ
   refusal = openRefusal K (M .rec) L (B .pairs) (sizesOf L B) (c .notice)
 
-  refusal-is : refusal ≡ plainRefusal K G (feedOf K c)
+  pub refusal-is : refusal ≡ plainRefusal K G (feedOf K c)
   unfolding plainRefusal feedOf
   refusal-is =
       ap (λ (s : Sizes). openRefusal K (M .rec) L (B .pairs) s (c .notice)) sizes-are

@@ -1,0 +1,238 @@
+-- THE STREAM'S OPENINGS ON LENT MEMORY: from the memory of a network, the lines of a list of calls are those of the same notices on the network.
+-- Assumes nothing.
+use mathlib.Core.Path.{_≡_, refl, sym, ap, ap₂, _∙_, subst}
+use mathlib.Core.Bool.{true}
+use mathlib.Core.List.{List, [], _∷_, List·Memᴰ·head, List·Memᴰ·tail}
+use Prim.Native.Nat.{ℕ, zero, suc, _<_}
+use lib.ListN.{length}
+use Rattle.lists.specs.Lists.{range, filterb, firstOf}
+use Rattle.lists.proofs.Tests.{t→true, true→t}
+use Rattle.graph.specs.Network.{Network}
+use Rattle.graph.specs.Distance.{vertices}
+use Rattle.graph.specs.Chart.{chart, Pairs, diameter, farthest, countPairs}
+use Rattle.graph.specs.Opening.{Notice, Change, grew, kept, shrank, addDepot, noticeFaults, Opened, opening}
+use Rattle.graph.specs.Cases.{pairList, Line, letterOf, Figured, lineFor, followOne, followAll}
+use Rattle.graph.proofs.Theorems.{figures-are, true-chain, true-pairs, farthest-is, net-after, opening-correct}
+use Rattle.map.specs.Memory.{base}
+use Rattle.map.specs.declared.Record.{Record}
+use Rattle.rounds.specs.Leaves.{Lent}
+use Rattle.rounds.specs.Sizes.{sizesOf, longEnough}
+use Rattle.outcome.specs.Outcome as Outcome
+use Rattle.opening.specs.OpenCall.{changeOf, openRefusal, networkAfter, openedBy, OpenLeft, openGiven, openCall}
+use Rattle.opening.specs.PlainList.{plainRefusal, plainNext}
+use Rattle.opening.specs.History.{Memory, Call, lend, lentOf, callStep, memoryAfter, feedOf}
+use Rattle.opening.specs.Demand3.{IsCall, AreCalls}
+use Rattle.opening.proofs.Memories.{IsHeld, Stores, memoryFor}
+use Rattle.opening.proofs.Grants.{held-after}
+use Rattle.opening.proofs.Steps.{lent-says, refusal-is, one-step}
+use Rattle.opening.proofs.Runs.{call-memory}
+use Rattle.opening.proofs.Keeps.{left-ends, left-stores}
+use Rattle.opening.proofs.Theorems.{base-shape}
+use Rattle.cases.specs.Results.{pairsIn, answerOf, answersOf, noticesOf, AllLong}
+use Rattle.cases.proofs.Listings.{pairs-open, count-open}
+
+-- a network with its own figures
+abbrev pub figuredFor : Network → Figured
+figuredFor G = record { net = G; chain = diameter G; pairs = farthest G }
+
+-- ---- graph's definitions, opened one step
+
+line-is : (l k s : ℕ) (N : Network) (D : ℕ) (P : Pairs) → lineFor l k s (record { net = N; chain = D; pairs = P })
+    ≡ record { letter = l; refusal = k; number = length (vertices N); chain = D; count = countPairs (vertices N) P; searches = s; pairs = pairList (vertices N) P }
+unfolding lineFor
+line-is l k s N D P = refl
+
+vertices-are : (N : Network) → vertices N ≡ filterb (N .isOpen) (range (N .limit))
+unfolding vertices
+vertices-are N = refl
+
+-- the figures and the line of an opening that leaves x in the network N
+abbrev figuredBy : Network → Opened → Figured
+figuredBy N x = record { net = N; chain = x .final .candidate; pairs = x .final .pairs }
+
+abbrev lineBy : Network → Opened → Line
+lineBy N x = lineFor (letterOf (x .change)) 0 (length (x .final .references)) (figuredBy N x)
+
+accepted-is : (M : Figured) (o : Notice)
+    → followOne zero M o ≡ (
+      figuredBy (addDepot (M .net) (o .code) (o .neighbours)) (opening (chart (addDepot (M .net) (o .code) (o .neighbours))) (o .code) (M .chain) (M .pairs)),
+      lineBy (addDepot (M .net) (o .code) (o .neighbours)) (opening (chart (addDepot (M .net) (o .code) (o .neighbours))) (o .code) (M .chain) (M .pairs)),
+    )
+unfolding followOne
+accepted-is M o = refl
+
+refused-is : (k : ℕ) (M : Figured) (o : Notice) → followOne (suc k) M o ≡ (M, lineFor 82 (suc k) 0 M)
+unfolding followOne
+refused-is k M o = refl
+
+follow-cons : (M : Figured) (o : Notice) (os : List Notice)
+    → followAll M (o ∷ os) ≡ followOne (firstOf (noticeFaults (M .net) o)) M o .1 ∷ followAll (followOne (firstOf (noticeFaults (M .net) o)) M o .0) os
+unfolding followAll
+follow-cons M o os = refl
+
+-- ---- a line read from a memory that stores a network with figures
+
+line-read : (N : Network) (D : ℕ) (P : Pairs) → N .limit ≡ 256 → ((u v : ℕ) → P u v ≡ true → (N .isOpen u ≡ true) × (N .isOpen v ≡ true))
+    → (l : OpenLeft) → Stores base N D P (l .after) (l .links) (l .lent .pairs)
+    → answerOf l ≡ lineFor (Outcome.letterOf (l .report .outcome)) (Outcome.refusalOf (l .report .outcome)) (l .report .searches) (record { net = N; chain = D; pairs = P })
+unfolding answerOf pairsIn
+line-read N D P limit ends l s =
+    (λ i. record {
+      letter = Outcome.letterOf (l .report .outcome);
+      refusal = Outcome.refusalOf (l .report .outcome);
+      number = s .number i;
+      chain = s .chain i;
+      count = (s .count ∙ counted) i;
+      searches = l .report .searches;
+      pairs = (ap (pairList (range 256)) (s .pairs) ∙ listed) i;
+    })
+    ∙ sym (line-is (Outcome.letterOf (l .report .outcome)) (Outcome.refusalOf (l .report .outcome)) (l .report .searches) N D P)
+  where
+    open-codes : filterb (N .isOpen) (range 256) ≡ vertices N
+    open-codes = ap (λ (n : ℕ). filterb (N .isOpen) (range n)) (sym limit) ∙ sym (vertices-are N)
+
+    counted : countPairs (range 256) P ≡ countPairs (vertices N) P
+    counted = sym (count-open P (N .isOpen) ends (range 256)) ∙ ap (λ (vs : List ℕ). countPairs vs P) open-codes
+
+    listed : pairList (range 256) P ≡ pairList (vertices N) P
+    listed = sym (pairs-open P (N .isOpen) ends (range 256)) ∙ ap (λ (vs : List ℕ). pairList vs P) open-codes
+
+-- the letters of specs and graph are one
+letter-same : (c : Change) → Outcome.letterOf (changeOf c) ≡ letterOf c
+unfolding Outcome.letterOf changeOf letterOf
+letter-same grew = refl
+letter-same kept = refl
+letter-same shrank = refl
+
+accepted-none : (c : Change) → Outcome.refusalOf (changeOf c) ≡ 0
+unfolding Outcome.refusalOf changeOf
+accepted-none grew = refl
+accepted-none kept = refl
+accepted-none shrank = refl
+
+-- an opening on memory that stores a network with figures is the network's
+opened-is : (G : Network) (D : ℕ) (P : Pairs) (rec : Record) (links stored : List ℕ) (o : Notice) → Stores base G D P rec links stored
+    → (networkAfter base rec links o ≡ addDepot G (o .code) (o .neighbours)) × (openedBy base rec links stored o ≡ opening (chart (addDepot G (o .code) (o .neighbours))) (o .code) D P)
+unfolding networkAfter openedBy
+opened-is G D P rec links stored o s = (rw (s .network), rw (s .network, s .chain, s .pairs))
+
+-- ---- ONE CALL
+
+module _ (G : Network) (held : IsHeld base G) (c : Call) (call : IsCall base c) (long : longEnough base (feedOf base c .sizes) ≡ true) where
+  abbrev o : Notice
+  o = c .notice
+
+  abbrev R : Record
+  R = memoryFor base G .rec
+
+  abbrev L : List ℕ
+  L = lend (c .links) (memoryFor base G .links)
+
+  abbrev B : Lent
+  B = lentOf (memoryFor base G) c
+
+  abbrev N : Network
+  N = addDepot G (c .notice .code) (c .notice .neighbours)
+
+  abbrev y : Opened
+  y = opening (chart (addDepot G (c .notice .code) (c .notice .neighbours))) (c .notice .code) (diameter G) (farthest G)
+
+  says : Stores base G (diameter G) (farthest G) R L (B .pairs)
+  says = lent-says base base-shape G held c long
+
+  plain-is : plainRefusal base G (feedOf base c) ≡ firstOf (noticeFaults G o)
+  unfolding plainRefusal feedOf firstOf
+  plain-is = rw long
+
+  -- ---- accepted
+
+  module _ (ok : openRefusal base R L (B .pairs) (sizesOf L B) o ≡ 0) where
+    abbrev l : OpenLeft
+    l = openGiven zero base R L B o
+
+    abbrev H : Network
+    H = networkAfter base R L o
+
+    abbrev x : Opened
+    x = openedBy base R L (B .pairs) o
+
+    ends : (u v : ℕ) → x .final .pairs u v ≡ true → (H .isOpen u ≡ true) × (H .isOpen v ≡ true)
+    ends u v h = let e = left-ends base R L B o base-shape ok (call .code) u v (true→t h) in (t→true (H .isOpen u) (e .0), t→true (H .isOpen v) (e .1))
+
+    given-line : lineFor (Outcome.letterOf (l .report .outcome)) (Outcome.refusalOf (l .report .outcome)) (l .report .searches) (figuredBy H x) ≡ lineBy H x
+    unfolding openGiven
+    given-line = rw (letter-same (x .change), accepted-none (x .change))
+
+    accepted-line : answerOf (openGiven zero base R L B o) ≡ followOne zero (figuredFor G) o .1
+    accepted-line =
+        let same = opened-is G (diameter G) (farthest G) R L (B .pairs) o says in
+        line-read H (x .final .candidate) (x .final .pairs) (held-after base base-shape R L (B .pairs) (sizesOf L B) o ok (call .code) .limit) ends l (left-stores base R L B o base-shape ok (call .code))
+        ∙ given-line
+        ∙ ap₂ lineBy (same .0) (same .1)
+        ∙ sym (ap (λ (r : Figured × Line). r .1) (accepted-is (figuredFor G) o))
+
+  accepted-next : firstOf (noticeFaults G o) ≡ 0 → followOne zero (figuredFor G) o .0 ≡ figuredFor N
+  accepted-next ok =
+      let low = subst (λ (n : ℕ). o .code < n) (sym (held .limit)) (call .code) in
+      let net = net-after G (held .net) o low ok (diameter G) (farthest G) in
+      let figures = opening-correct G (held .net) o low ok (diameter G) (farthest G) (figures-are G (held .net)) .figures in
+      ap (λ (r : Figured × Line). r .0) (accepted-is (figuredFor G) o)
+      ∙ (λ i. record {
+        net = N;
+        chain = true-chain N net (y .final .candidate) (y .final .pairs) figures i;
+        pairs = true-pairs N net (y .final .candidate) (y .final .pairs) figures i;
+      })
+
+  -- ---- refused
+
+  own-ends : (u v : ℕ) → farthest G u v ≡ true → (G .isOpen u ≡ true) × (G .isOpen v ≡ true)
+  own-ends u v h = let f = farthest-is G (held .net) u v .0 (true→t h) in (t→true (G .isOpen u) (f .first), t→true (G .isOpen v) (f .second))
+
+  refused-line : (k : ℕ) → answerOf (openGiven (suc k) base R L B o) ≡ followOne (suc k) (figuredFor G) o .1
+  unfolding openGiven Outcome.letterOf Outcome.refusalOf
+  refused-line k =
+      line-read G (diameter G) (farthest G) (held .limit) own-ends (openGiven (suc k) base R L B o) says
+      ∙ sym (ap (λ (r : Figured × Line). r .1) (refused-is k (figuredFor G) o))
+
+  -- ---- either
+
+  call-line : answerOf (callStep (openCall base) (memoryFor base G) c) ≡ followOne (firstOf (noticeFaults G o)) (figuredFor G) o .1
+  unfolding callStep openCall
+  call-line = go (openRefusal base R L (B .pairs) (sizesOf L B) o) refl ∙ ap (λ (k : ℕ). followOne k (figuredFor G) o .1) (refusal-is base base-shape G held c ∙ plain-is)
+    where
+      go : (k : ℕ) → openRefusal base R L (B .pairs) (sizesOf L B) o ≡ k → answerOf (openGiven k base R L B o) ≡ followOne k (figuredFor G) o .1
+      go zero ok = accepted-line ok
+      go (suc k) ko = refused-line k
+
+  call-next : followOne (firstOf (noticeFaults G o)) (figuredFor G) o .0 ≡ figuredFor (plainNext (firstOf (noticeFaults G o)) G o)
+  unfolding plainNext
+  call-next = go (firstOf (noticeFaults G o)) refl
+    where
+      go : (k : ℕ) → firstOf (noticeFaults G o) ≡ k → followOne k (figuredFor G) o .0 ≡ figuredFor (plainNext k G o)
+      go zero ok = accepted-next ok
+      go (suc k) ko = ap (λ (r : Figured × Line). r .0) (refused-is k (figuredFor G) o)
+
+-- ---- A LIST OF CALLS
+
+lines-cons : (M : Memory) (c : Call) (cs : List Call)
+    → answersOf (openCall base) M (c ∷ cs) ≡ answerOf (callStep (openCall base) M c) ∷ answersOf (openCall base) (memoryAfter M c (callStep (openCall base) M c)) cs
+unfolding answersOf
+lines-cons M c cs = refl
+
+lines-nil : (M : Memory) (F : Figured) → answersOf (openCall base) M [] ≡ followAll F []
+unfolding answersOf followAll
+lines-nil M F = refl
+
+pub lines-are : (G : Network) → IsHeld base G → (cs : List Call) → AreCalls base cs → AllLong cs → answersOf (openCall base) (memoryFor base G) cs ≡ followAll (figuredFor G) (noticesOf cs)
+unfolding noticesOf
+lines-are G held [] calls lent = lines-nil (memoryFor base G) (figuredFor G)
+lines-are G held (c ∷ cs) calls lent =
+    let call = calls c (List·Memᴰ·head refl) in
+    let long = lent c (List·Memᴰ·head refl) in
+    let H = plainNext (plainRefusal base G (feedOf base c)) G (c .notice) in
+    let same = ap (λ (k : ℕ). figuredFor (plainNext k G (c .notice))) (plain-is G held c call long) in
+    lines-cons (memoryFor base G) c cs
+    ∙ ap₂ (λ (r : Line) (M : Memory). r ∷ answersOf (openCall base) M cs) (call-line G held c call long) (call-memory base base-shape G held c call)
+    ∙ ap₂ (λ (r : Line) (rs : List Line). r ∷ rs) refl (lines-are H (one-step base base-shape G held c call .isHeld) cs (λ d m. calls d (List·Memᴰ·tail m)) (λ d m. lent d (List·Memᴰ·tail m)))
+    ∙ ap (λ (M : Figured). followOne (firstOf (noticeFaults G (c .notice))) (figuredFor G) (c .notice) .1 ∷ followAll M (noticesOf cs)) (same ∙ sym (call-next G held c call long))
+    ∙ sym (follow-cons (figuredFor G) (c .notice) (noticesOf cs))

@@ -1,0 +1,116 @@
+-- THE THEOREM: the table of cases holds of the calls on lent memory, carried over from the same cases on networks (graph, Cases.antt).
+-- Assumes nothing.
+use mathlib.Core.Path.{_≡_, refl, sym, ap, ap₂, _∙_, subst}
+use mathlib.Core.Logic.{_⊎_, inl, inr}
+use mathlib.Core.Bool.{Bool, true, false, _&&_, _||_}
+use mathlib.Core.List.{List, [], _∷_, List·Memᴰ, List·Memᴰ·cases-cons, List·Memᴰ·not-nil}
+use Prim.Native.Nat.{ℕ, suc, _≤_, zero-le}
+use lib.Dec.{eqb, ltb, lit≤}
+use lib.ListN.{length}
+use borrow.Author.Tests.{le-ltb, le-leb, ltb-true}
+use Rattle.lists.specs.Lists.{range, allb, countb, mapl, overwrite, firstOf}
+use Rattle.rows.specs.Rows.{encodeRow, encodeTable}
+use Rattle.graph.specs.Chart.{chart, countPairs}
+use Rattle.graph.specs.Rounds.{reckon}
+use Rattle.lists.proofs.Tests.{true→t, and-true}
+use Rattle.graph.specs.Opening.{Notice, emptyNetwork}
+use Rattle.graph.specs.Cases as Graph
+use Rattle.map.specs.Memory.{base, networkOf}
+use Rattle.map.specs.Empty.{emptyRefusal, emptyGiven, emptyCall}
+use Rattle.map.specs.declared.Record.{Record}
+use Rattle.map.specs.declared.Emptying.the-variants.{Done}
+use Rattle.map.proofs.Theorems.{emptied-is-empty}
+use Rattle.reckon.specs.ReckonCall.{reckonCall}
+use Rattle.opening.specs.OpenCall.{openCall}
+use Rattle.opening.specs.History.{Memory, emptyMemory, Call}
+use Rattle.opening.specs.Demand3.{IsCall, AreCalls}
+use Rattle.opening.proofs.Memories.{network-path, network-read}
+use Rattle.opening.proofs.Empties.{empty-held, none-diameter, none-farthest, empty-memory}
+use Rattle.opening.proofs.Theorems.{base-shape}
+use Rattle.cases.specs.Results.{answersOf, noticesOf, AllLong}
+use Rattle.cases.specs.Table.{emptyResult, singleResult, sevenResult, sevenAnswers, Cases}
+use Rattle.cases.proofs.Paths.{path-held}
+use Rattle.cases.proofs.Reckonings.{pathResult, path-result}
+use Rattle.cases.proofs.Lines.{figuredFor, lines-are}
+
+-- ---- the paths reckoned, by the rules on the network
+
+empty-result : pathResult 0 0 ≡ emptyResult
+unfolding pathResult Graph.path chart reckon countPairs Graph.pairList mapl
+empty-result = refl
+
+single-result : pathResult 1 1 ≡ singleResult
+unfolding pathResult Graph.path chart reckon countPairs Graph.pairList mapl
+single-result = refl
+
+seven-result : pathResult 7 7 ≡ sevenResult
+unfolding pathResult Graph.path chart reckon countPairs Graph.pairList mapl
+seven-result = refl
+
+counted : (countb (Graph.path 0 .isOpen) (range 256) ≡ 0) × (countb (Graph.path 1 .isOpen) (range 256) ≡ 1) × (countb (Graph.path 7 .isOpen) (range 256) ≡ 7)
+unfolding Graph.path countb range
+counted = (refl, refl, refl)
+
+-- ---- memory that means them
+
+path-written : (k : ℕ) → k ≤ 256 → (codes links : List ℕ) → networkOf 4 (overwrite (encodeRow 4 (Graph.path k .isOpen)) codes) (overwrite (encodeTable 4 (Graph.path k .linked)) links) ≡ Graph.path k
+path-written k low = network-read base (Graph.path k) (path-held k low)
+
+module _ (rec : Record) (links pairs : List ℕ) (l : 1024 ≤ length links) (p : 1024 ≤ length pairs) where
+  emptied-done : emptyCall base rec links pairs .answer ≡ Done
+  unfolding emptyCall emptyGiven emptyRefusal firstOf
+  emptied-done = rw (le-leb 1024 (length links) l, le-leb 1024 (length pairs) p)
+
+  emptied-path : (networkOf 4 (emptyCall base rec links pairs .after .codes) (emptyCall base rec links pairs .links) ≡ Graph.path 0) × (emptyCall base rec links pairs .after .number ≡ 0)
+  unfolding networkOf Graph.path
+  emptied-path =
+      let e = emptied-is-empty base rec links pairs emptied-done in
+      (network-path refl (λ c. e .closed c ∙ sym (none c)) (λ u v. e .unlinked u v ∙ sym (ap (λ (b : Bool). b && ltb v 0 && (eqb (suc u) v || eqb u (suc v))) (none u))), e .number)
+    where
+      none : (c : ℕ) → ltb c 0 ≡ false
+      none c = le-ltb c 0 zero-le
+
+-- ---- the seven lines
+
+-- calls whose codes and neighbours are bytes
+areBytes : Notice → Bool
+areBytes o = ltb (o .code) 256 && allb (λ v. ltb v 256) (o .neighbours)
+
+calls-of : (cs : List Call) → allb areBytes (noticesOf cs) ≡ true → AreCalls base cs
+unfolding noticesOf allb areBytes
+calls-of [] h c m = absurd (List·Memᴰ·not-nil m)
+calls-of (d ∷ cs) h c m = go (and-true (areBytes (d .notice)) (allb areBytes (noticesOf cs)) h) (List·Memᴰ·cases-cons m) (calls-of cs)
+  where
+    go : (areBytes (d .notice) ≡ true) × (allb areBytes (noticesOf cs) ≡ true) → (c ≡ d) ⊎ List·Memᴰ c cs → (allb areBytes (noticesOf cs) ≡ true → AreCalls base cs) → IsCall base c
+    go k (inl q) ih =
+        let b = and-true (ltb (d .notice .code) 256) (allb (λ v. ltb v 256) (d .notice .neighbours)) (k .0) in
+        subst (IsCall base) (sym q) (record { code = ltb-true (d .notice .code) 256 (b .0); neighbours = true→t (b .1) })
+    go k (inr n) ih = ih (k .1) c n
+
+seven-bytes : allb areBytes Graph.sevenLines ≡ true
+unfolding allb areBytes
+seven-bytes = refl
+
+start-figured : figuredFor (emptyNetwork 256) ≡ Graph.noDepot
+unfolding Graph.noDepot
+start-figured = λ i. record { net = emptyNetwork 256; chain = none-diameter base base-shape i; pairs = none-farthest base base-shape i }
+
+stream-holds : (cs : List Call) → noticesOf cs ≡ Graph.sevenLines → AllLong cs → answersOf (openCall base) (emptyMemory base) cs ≡ sevenAnswers
+stream-holds cs e lent =
+    let calls = calls-of cs (ap (allb areBytes) e ∙ seven-bytes) in
+    ap (λ (M : Memory). answersOf (openCall base) M cs) (empty-memory base base-shape)
+    ∙ lines-are (emptyNetwork 256) (empty-held base base-shape) cs calls lent
+    ∙ ap₂ Graph.followAll start-figured e
+    ∙ ap (λ (t : Graph.Cases). t .stream) Graph.cases
+
+-- ---- ALL OF IT
+
+pub cases-hold : Cases (emptyCall base) (reckonCall base) (openCall base)
+cases-hold = record {
+  empty = λ rec links B lent. path-result 0 0 (lit≤ tt) (sym (counted .0)) rec links B lent ∙ empty-result;
+  single = λ rec links B lent. path-result 1 1 (lit≤ tt) (sym (counted .1)) rec links B lent ∙ single-result;
+  seven = λ rec links B lent. path-result 7 7 (lit≤ tt) (sym (counted .2)) rec links B lent ∙ seven-result;
+  written = path-written;
+  emptied = λ rec links pairs l p. let e = emptied-path rec links pairs l p in (emptied-done rec links pairs l p, e .0, e .1);
+  stream = stream-holds;
+}

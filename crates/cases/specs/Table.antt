@@ -1,0 +1,90 @@
+-- THE TABLE OF CASES of document 01 ('The stream program', 'Conditions of acceptance'): the empty map, the single map and the path of seven
+-- reckoned, and the seven stream lines, on any lent memory that is long enough, whatever scratch and longer buffers hold. `cases-hold` (proofs)
+-- says it of `reckonCall base`, `openCall base` and `emptyCall base`, which the contracts cite.
+-- Assumes nothing.
+use mathlib.Core.Path.{_≡_}
+use mathlib.Core.List.{List, [], _∷_}
+use Prim.Native.Nat.{ℕ, _≤_}
+use lib.ListN.{length}
+use Rattle.lists.specs.Lists.{overwrite}
+use Rattle.rows.specs.Rows.{encodeRow, encodeTable}
+use Rattle.graph.specs.Cases.{path, Line, sevenLines}
+use Rattle.map.specs.Memory.{base, networkOf}
+use Rattle.map.specs.Empty.{EmptyLeft}
+use Rattle.map.specs.declared.Record.{Record}
+use Rattle.map.specs.declared.Emptying.the-variants.{Done}
+use Rattle.rounds.specs.Leaves.{Lent}
+use Rattle.reckon.specs.ReckonCall.{ReckonLeft}
+use Rattle.opening.specs.History.{emptyMemory, Call, Step}
+use Rattle.cases.specs.Results.{repeated, IsMapOf, Result, resultOf, answersOf, noticesOf, AllLong}
+
+-- ---- the numbers
+
+-- an empty map and a map of one depot: chain 0 and no pairs
+abbrev pub emptyResult : Result
+emptyResult = record {
+  refusal = 0;
+  searches = 0;
+  references = [];
+  number = 0;
+  chain = 0;
+  count = 0;
+  skips = repeated 256 257;
+  bounds = repeated 256 65535;
+  pairs = [];
+}
+
+abbrev pub singleResult : Result
+singleResult = record {
+  refusal = 0;
+  searches = 1;
+  references = 0 ∷ [];
+  number = 1;
+  chain = 0;
+  count = 0;
+  skips = 256 ∷ repeated 255 257;
+  bounds = 0 ∷ repeated 255 65535;
+  pairs = [];
+}
+
+-- "the path 0-1-2-3-4-5-6: references 1, 2, 3, 5, 0, 6; depot 4 skipped by 3 with bound 4; chain 6, pair (0,6)"
+abbrev pub sevenResult : Result
+sevenResult = record {
+  refusal = 0;
+  searches = 6;
+  references = 1 ∷ 2 ∷ 3 ∷ 5 ∷ 0 ∷ 6 ∷ [];
+  number = 7;
+  chain = 6;
+  count = 1;
+  skips = 256 ∷ 256 ∷ 256 ∷ 256 ∷ 3 ∷ 256 ∷ 256 ∷ repeated 249 257;
+  bounds = 6 ∷ 5 ∷ 4 ∷ 3 ∷ 4 ∷ 5 ∷ 6 ∷ repeated 249 65535;
+  pairs = (0, 6) ∷ [];
+}
+
+-- the seven lines of the stream: letter (75 K, 71 G, 83 S, 82 R) and refusal, depots open, chain, pair count, searches; and the pairs
+abbrev pub sevenAnswers : List Line
+sevenAnswers =
+    record { letter = 75; refusal = 0; number = 1; chain = 0; count = 0; searches = 1; pairs = [] }
+    ∷ record { letter = 71; refusal = 0; number = 2; chain = 1; count = 1; searches = 1; pairs = (0, 1) ∷ [] }
+    ∷ record { letter = 71; refusal = 0; number = 3; chain = 2; count = 1; searches = 1; pairs = (0, 2) ∷ [] }
+    ∷ record { letter = 71; refusal = 0; number = 4; chain = 3; count = 1; searches = 1; pairs = (0, 3) ∷ [] }
+    ∷ record { letter = 71; refusal = 0; number = 5; chain = 4; count = 1; searches = 1; pairs = (0, 4) ∷ [] }
+    ∷ record { letter = 83; refusal = 0; number = 6; chain = 3; count = 2; searches = 6; pairs = (0, 3) ∷ (1, 4) ∷ [] }
+    ∷ record { letter = 82; refusal = 5; number = 6; chain = 3; count = 2; searches = 0; pairs = (0, 3) ∷ (1, 4) ∷ [] }
+    ∷ []
+
+-- ---- THE TABLE, of a program with these three calls
+
+pub record Cases (emptying : Record → List ℕ → List ℕ → EmptyLeft) (reckoning : Record → List ℕ → Lent → ReckonLeft) (opening : Step) : Type 0 where
+  -- reckoned, on any memory that means the map
+  pub empty : (rec : Record) (links : List ℕ) (B : Lent) → IsMapOf (path 0) 0 rec links B → resultOf reckoning rec links B ≡ emptyResult
+  pub single : (rec : Record) (links : List ℕ) (B : Lent) → IsMapOf (path 1) 1 rec links B → resultOf reckoning rec links B ≡ singleResult
+  pub seven : (rec : Record) (links : List ℕ) (B : Lent) → IsMapOf (path 7) 7 rec links B → resultOf reckoning rec links B ≡ sevenResult
+  -- there is such memory: a path's words over whatever stood there; for the empty map, what an emptying leaves
+  pub written : (k : ℕ) → k ≤ 256 → (codes links : List ℕ) → networkOf 4 (overwrite (encodeRow 4 (path k .isOpen)) codes) (overwrite (encodeTable 4 (path k .linked)) links) ≡ path k
+  pub emptied : (rec : Record) (links pairs : List ℕ) → 1024 ≤ length links → 1024 ≤ length pairs
+      → (emptying rec links pairs .answer ≡ Done)
+      × (networkOf 4 (emptying rec links pairs .after .codes) (emptying rec links pairs .links) ≡ path 0)
+      × (emptying rec links pairs .after .number ≡ 0)
+  -- opened from the empty map, each call lent the map as the last one left it and any other memory that is long enough
+  pub stream : (cs : List Call) → noticesOf cs ≡ sevenLines → AllLong cs → answersOf opening (emptyMemory base) cs ≡ sevenAnswers
