@@ -9,10 +9,10 @@ use lib.Dec.{eqb, ltb, lit≤}
 use lib.ListN.{length}
 use borrow.Author.Tests.{le-ltb, le-leb, ltb-true}
 use Rattle.lists.specs.Lists.{range, allb, countb, mapl, overwrite, firstOf}
+use Rattle.lists.proofs.Tests.{true→t, and-true}
 use Rattle.rows.specs.Rows.{encodeRow, encodeTable}
 use Rattle.graph.specs.Chart.{chart, countPairs}
 use Rattle.graph.specs.Rounds.{reckon}
-use Rattle.lists.proofs.Tests.{true→t, and-true}
 use Rattle.graph.specs.Opening.{Notice, emptyNetwork}
 use Rattle.graph.specs.Cases as Graph
 use Rattle.map.specs.Memory.{base, networkOf}
@@ -21,14 +21,22 @@ use Rattle.map.specs.declared.Record.{Record}
 use Rattle.map.specs.declared.Emptying.the-variants.{Done}
 use Rattle.map.proofs.Theorems.{emptied-is-empty}
 use Rattle.reckon.specs.ReckonCall.{reckonCall}
+use Rattle.outcome.specs.Outcome.{letterOf, refusalOf}
 use Rattle.opening.specs.OpenCall.{openCall}
+use Rattle.opening.specs.PlainList.{moved}
 use Rattle.opening.specs.History.{Memory, emptyMemory, Call}
 use Rattle.opening.specs.Demand3.{IsCall, AreCalls}
 use Rattle.opening.proofs.Memories.{network-path, network-read}
 use Rattle.opening.proofs.Empties.{empty-held, none-diameter, none-farthest, empty-memory}
 use Rattle.opening.proofs.Theorems.{base-shape}
-use Rattle.cases.specs.Results.{answersOf, noticesOf, AllLong}
-use Rattle.cases.specs.Table.{emptyResult, singleResult, sevenResult, sevenAnswers, Cases}
+use Rattle.notice.specs.Hex.{isDigit, digitValue}
+use Rattle.notice.specs.Lines.{endOf, spellsFrame, isFrame, bytesOf, readHead}
+use Rattle.report.specs.Decimal.{spell, decimal}
+use Rattle.report.specs.Line.{outcomeText, field, figuresText}
+use Rattle.stream.specs.Stream.{streamOutput}
+use Rattle.stream.proofs.Theorems.{pieces-alike}
+use Rattle.cases.specs.Results.{answersOf, noticesOf, AllLong, bytesIn}
+use Rattle.cases.specs.Table.{emptyResult, singleResult, sevenResult, sevenAnswers, sevenInput, sevenOutput, Cases}
 use Rattle.cases.proofs.Paths.{path-held}
 use Rattle.cases.proofs.Reckonings.{pathResult, path-result}
 use Rattle.cases.proofs.Lines.{figuredFor, lines-are}
@@ -103,6 +111,12 @@ stream-holds cs e lent =
     ∙ ap₂ Graph.followAll start-figured e
     ∙ ap (λ (t : Graph.Cases). t .stream) Graph.cases
 
+-- ---- the stream's bytes, by computation
+
+text-holds : streamOutput (bytesIn sevenInput) ≡ bytesIn sevenOutput
+unfolding bytesIn streamOutput moved allb readHead endOf spellsFrame isFrame bytesOf isDigit digitValue outcomeText letterOf refusalOf figuresText field decimal spell
+text-holds = refl
+
 -- ---- ALL OF IT
 
 pub cases-hold : Cases (emptyCall base) (reckonCall base) (openCall base)
@@ -113,4 +127,6 @@ cases-hold = record {
   written = path-written;
   emptied = λ rec links pairs l p. let e = emptied-path rec links pairs l p in (emptied-done rec links pairs l p, e .0, e .1);
   stream = stream-holds;
+  text = text-holds;
+  pieces = λ s is ts out room used. pieces-alike s is ts out room ∙ ap streamOutput used ∙ text-holds;
 }

@@ -1,10 +1,11 @@
 -- THE TABLE OF CASES of document 01 ('The stream program', 'Conditions of acceptance'): the empty map, the single map and the path of seven
 -- reckoned, and the seven stream lines, on any lent memory that is long enough, whatever scratch and longer buffers hold. `cases-hold` (proofs)
--- says it of `reckonCall base`, `openCall base` and `emptyCall base`, which the contracts cite.
+-- says it of `emptyCall base`, `reckonCall base` and `openCall base`, which the contracts cite, and of the stream's own calls.
 -- Assumes nothing.
 use mathlib.Core.Path.{_≡_}
-use mathlib.Core.List.{List, [], _∷_}
+use mathlib.Core.List.{List, [], _∷_, _++_}
 use Prim.Native.Nat.{ℕ, _≤_}
+use Prim.Native.String.{String}
 use lib.ListN.{length}
 use Rattle.lists.specs.Lists.{overwrite}
 use Rattle.rows.specs.Rows.{encodeRow, encodeTable}
@@ -16,7 +17,10 @@ use Rattle.map.specs.declared.Emptying.the-variants.{Done}
 use Rattle.rounds.specs.Leaves.{Lent}
 use Rattle.reckon.specs.ReckonCall.{ReckonLeft}
 use Rattle.opening.specs.History.{emptyMemory, Call, Step}
-use Rattle.cases.specs.Results.{repeated, IsMapOf, Result, resultOf, answersOf, noticesOf, AllLong}
+use Rattle.report.specs.Line.{bufferLimit}
+use Rattle.stream.specs.Stream.{streamOutput}
+use Rattle.stream.specs.Pieces.{Standing, Turn, standsAfter, usedBy, writtenBy, lastWritten, HasBegun}
+use Rattle.cases.specs.Results.{repeated, IsMapOf, Result, resultOf, answersOf, noticesOf, AllLong, bytesIn}
 
 -- ---- the numbers
 
@@ -73,6 +77,13 @@ sevenAnswers =
     ∷ record { letter = 82; refusal = 5; number = 6; chain = 3; count = 2; searches = 0; pairs = (0, 3) ∷ (1, 4) ∷ [] }
     ∷ []
 
+-- the same lines as whole input and whole output
+abbrev pub sevenInput : String
+sevenInput = "010000\n01010100\n01020101\n01030102\n01040103\n010503000204\n010503000204\n"
+
+abbrev pub sevenOutput : String
+sevenOutput = "1 K 1 0 0 1\n2 G 2 1 1 1\n3 G 3 2 1 1\n4 G 4 3 1 1\n5 G 5 4 1 1\n6 S 6 3 2 6\n7 R5 6 3 2 0\n"
+
 -- ---- THE TABLE, of a program with these three calls
 
 pub record Cases (emptying : Record → List ℕ → List ℕ → EmptyLeft) (reckoning : Record → List ℕ → Lent → ReckonLeft) (opening : Step) : Type 0 where
@@ -88,3 +99,7 @@ pub record Cases (emptying : Record → List ℕ → List ℕ → EmptyLeft) (re
       × (emptying rec links pairs .after .number ≡ 0)
   -- opened from the empty map, each call lent the map as the last one left it and any other memory that is long enough
   pub stream : (cs : List Call) → noticesOf cs ≡ sevenLines → AllLong cs → answersOf opening (emptyMemory base) cs ≡ sevenAnswers
+  -- the stream's bytes: the whole output of the whole input; and on lent memory, however the input is cut into pieces
+  pub text : streamOutput (bytesIn sevenInput) ≡ bytesIn sevenOutput
+  pub pieces : (s : Standing) → HasBegun s → (ts : List Turn) (out : List ℕ) → bufferLimit ≤ length out → usedBy s ts ≡ bytesIn sevenInput
+      → writtenBy s ts ++ lastWritten (standsAfter s ts) out ≡ bytesIn sevenOutput
