@@ -3,25 +3,27 @@ use mathlib.Core.Path.{_≡_, refl, sym, ap, _∙_, subst}
 use mathlib.Core.Logic.{_⊎_}
 use mathlib.Core.Bool.{true, false}
 use mathlib.Core.List.{List, [], _∷_, _++_}
-use Prim.Native.Nat.{ℕ, _≤_, _<_}
+use Prim.Native.Nat.{ℕ, _≤_, _<_, zero-le}
 use native.Mathlib.Nat.{zero-add}
 use native.Mathlib.Omega.{arith}
 use lib.ListN.{length, take}
-use borrow.Author.Tests.{lt-leb}
+use borrow.Author.Tests.{lt-leb, le-leb}
 use Rattle.graph.specs.Opening.{emptyNetwork}
-use Rattle.map.specs.Memory.{base, places}
-use Rattle.map.specs.declared.Record.{Record}
+use Rattle.map.specs.Memory.{base, places, tableWords}
+use Rattle.rounds.specs.Leaves.{Lent}
+use Rattle.rounds.specs.Sizes.{sizesOf, longEnough}
+use Rattle.notice.specs.Lines.{lineLimit}
 use Rattle.report.specs.Line.{bufferLimit}
 use Rattle.opening.proofs.Memories.{Says}
 use Rattle.opening.proofs.Theorems.{base-shape}
 use Rattle.opening.proofs.Empties.{empty-held}
 use Rattle.stream.specs.Stream.{linesLimit, reportsFrom, streamOutput}
-use Rattle.stream.specs.Feeding.{beginCall, Feeding, stopped, feedBytes}
+use Rattle.stream.specs.Feeding.{Begun, begun, beginCall, IsReady, Feeding, stopped, feedBytes}
 use Rattle.stream.specs.Pieces.{Standing, Turn, turnLeft, standsAfter, usedBy, writtenBy, lastWritten, HasBegun}
 use Rattle.stream.specs.declared.Progress.{Progress}
 use Rattle.stream.proofs.Stops.{stopped-lines}
 use Rattle.stream.proofs.Lines.{open-none}
-use Rattle.stream.proofs.Following.{begun-says}
+use Rattle.stream.proofs.Following.{begun-says, says-free}
 use Rattle.stream.proofs.Runs.{append-none, Place, restFrom, bytes-past, bytes-all, bytes-first}
 use Rattle.stream.proofs.Turning.{entering, StandsOn, turn-is, Turned, turns-go, rest-over, finish-goes}
 
@@ -88,3 +90,33 @@ turn-all s t =
     subst (λ (F : Feeding). (stopped F ≡ true) ⊎ (F .fed .used ≡ length (t .piece))) (sym (turn-is s t))
     (subst (λ (n : ℕ). (stopped (feedBytes (t .piece) (entering s (t .out))) ≡ true) ⊎ (feedBytes (t .piece) (entering s (t .out)) .fed .used ≡ n)) (zero-add (length (t .piece)))
     (bytes-all (t .piece) (entering s (t .out))))
+
+-- ---- a stream that has begun is ready, on buffers that have their named sizes
+
+long-by : (links : List ℕ) (B : Lent) → tableWords base ≤ length links → tableWords base ≤ length (B .pairs) → places base ≤ length (B .searched .hops) → places base ≤ length (B .bounds)
+    → places base ≤ length (B .skips) → base .words ≤ length (B .searched .even) → base .words ≤ length (B .searched .odd) → longEnough base (sizesOf links B) ≡ true
+unfolding longEnough sizesOf
+long-by links B l p h b s e o =
+    rw (
+      le-leb (tableWords base) (length links) l,
+      le-leb (tableWords base) (length (B .pairs)) p,
+      le-leb (places base) (length (B .searched .hops)) h,
+      le-leb (places base) (length (B .bounds)) b,
+      le-leb (places base) (length (B .skips)) s,
+      le-leb (base .words) (length (B .searched .even)) e,
+      le-leb (base .words) (length (B .searched .odd)) o,
+    )
+
+pub begun-ready : (links₀ pairs₀ : List ℕ) {p : Progress} {links : List ℕ} {B : Lent} {line : List ℕ} → begun p links (B .pairs) ≡ beginCall links₀ pairs₀
+    → tableWords base ≤ length links → tableWords base ≤ length (B .pairs) → places base ≤ length (B .searched .hops) → places base ≤ length (B .bounds)
+    → places base ≤ length (B .skips) → base .words ≤ length (B .searched .even) → base .words ≤ length (B .searched .odd) → lineLimit ≤ length line
+    → IsReady p links B line
+unfolding beginCall
+begun-ready links₀ pairs₀ {p} {links} {B} {line} e l q h b s x y room = record {
+  free =
+      says-free (emptyNetwork (places base)) (empty-held base base-shape) (p .rec) links B
+      (subst (λ (z : Begun). Says base (emptyNetwork (places base)) (z .progress .rec) (z .links) (z .pairs)) (sym e) (begun-says links₀ pairs₀))
+      (long-by links B l q h b s x y);
+  room = room;
+  held = subst (λ (z : Begun). z .progress .held ≤ lineLimit) (sym e) zero-le;
+}

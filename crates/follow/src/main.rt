@@ -1,0 +1,229 @@
+// The program: notice lines from standard input, a report line for each to standard output. What a read brings is answered and written before
+// the next read, so that a person or a scanner on a pipe sees each report at once; a file goes through in large pieces.
+ghost use Prim.Native.Nat.{_≤_};
+ghost use lib.ListN.{length};
+ghost use Rattle.layers.specs.Layers.{tables};
+ghost use Rattle.rounds.specs.Leaves.{lent};
+ghost use Rattle.stream.specs.Feeding.{IsReady};
+use stream::Progress;
+
+// Where the program stands: the stream's progress, and whether there is more to do.
+struct Answered {
+    progress: Progress,
+    going: bool,
+}
+
+// Answers a piece, writing the reports as the buffer fills. Nothing more is to be done after a write that fails, and where nothing of the piece is
+// used: the stream has had its lines.
+fn answer(
+    progress: Progress,
+    links: &mut [u64],
+    pairs: &mut [u64],
+    hops: &mut [u16],
+    bounds: &mut [u16],
+    skips: &mut [u16],
+    even: &mut [u64],
+    odd: &mut [u64],
+    line: &mut [u8],
+    out: &mut [u8],
+    piece: &[u8],
+) -> Answered
+    requires { ⌜ IsReady progress (now links) (lent (now pairs) (tables (now hops) (now even) (now odd)) (now bounds) (now skips)) (now line) ⌝ }
+    ensures { λ r. ⌜ IsReady (r .progress) (now (links .exit)) (lent (now (pairs .exit)) (tables (now (hops .exit)) (now (even .exit)) (now (odd .exit))) (now (bounds .exit)) (now (skips .exit))) (now (line .exit)) ⌝ }
+{
+    let mut now = progress;
+    let mut at: usize = 0;
+    while at < piece.len() {
+        let fed = stream::feed(
+            now,
+            links,
+            pairs,
+            hops,
+            bounds,
+            skips,
+            even,
+            odd,
+            line,
+            out,
+            &piece[at..],
+        );
+        now = fed.progress;
+        let written = fed.written;
+        let used = fed.used;
+        if !io::write_all(1, &out[..written]) {
+            return Answered {
+                progress: now,
+                going: false,
+            };
+        }
+        if used == 0 {
+            return Answered {
+                progress: now,
+                going: false,
+            };
+        }
+        at += used;
+    }
+    Answered {
+        progress: now,
+        going: true,
+    }
+}
+
+// Answers standard input to its end. A proved loop has to end, and nothing says that the input does: so the loop counts its turns down, from a
+// number that no run uses up.
+fn answer_all(
+    progress: Progress,
+    links: &mut [u64],
+    pairs: &mut [u64],
+    hops: &mut [u16],
+    bounds: &mut [u16],
+    skips: &mut [u16],
+    even: &mut [u64],
+    odd: &mut [u64],
+    line: &mut [u8],
+    out: &mut [u8],
+    input: &mut [u8],
+) -> Answered
+    requires { ⌜ IsReady progress (now links) (lent (now pairs) (tables (now hops) (now even) (now odd)) (now bounds) (now skips)) (now line) ⌝ }
+    ensures { λ r. ⌜ IsReady (r .progress) (now (links .exit)) (lent (now (pairs .exit)) (tables (now (hops .exit)) (now (even .exit)) (now (odd .exit))) (now (bounds .exit)) (now (skips .exit))) (now (line .exit)) ⌝ }
+{
+    let mut now = progress;
+    let mut turns = u64::MAX;
+    while turns > 0 {
+        let got = libc::read(0, input);
+        let n = io::count(got, &*input);
+        if n == 0 {
+            return Answered {
+                progress: now,
+                going: true,
+            };
+        }
+        let answered = answer(
+            now,
+            links,
+            pairs,
+            hops,
+            bounds,
+            skips,
+            even,
+            odd,
+            line,
+            out,
+            &input[..n],
+        );
+        if !answered.going {
+            return answered;
+        }
+        now = answered.progress;
+        turns -= 1;
+    }
+    Answered {
+        progress: now,
+        going: true,
+    }
+}
+
+// Reports a last stretch without an ending.
+fn end(
+    progress: Progress,
+    links: &mut [u64],
+    pairs: &mut [u64],
+    hops: &mut [u16],
+    bounds: &mut [u16],
+    skips: &mut [u16],
+    even: &mut [u64],
+    odd: &mut [u64],
+    out: &mut [u8],
+    line: &[u8],
+)
+    requires { ⌜ IsReady progress (now links) (lent (now pairs) (tables (now hops) (now even) (now odd)) (now bounds) (now skips)) (now line) ⌝ }
+{
+    let fed = stream::finish(
+        progress,
+        links,
+        pairs,
+        hops,
+        bounds,
+        skips,
+        even,
+        odd,
+        line,
+        out,
+    );
+    let written = fed.written;
+    io::write_all(1, &out[..written]);
+}
+
+// Follows standard input.
+fn follow(
+    progress: Progress,
+    links: &mut [u64],
+    pairs: &mut [u64],
+    hops: &mut [u16],
+    bounds: &mut [u16],
+    skips: &mut [u16],
+    even: &mut [u64],
+    odd: &mut [u64],
+    line: &mut [u8],
+    out: &mut [u8],
+    input: &mut [u8],
+)
+    requires { ⌜ IsReady progress (now links) (lent (now pairs) (tables (now hops) (now even) (now odd)) (now bounds) (now skips)) (now line) ⌝ }
+{
+    let answered = answer_all(
+        progress,
+        links,
+        pairs,
+        hops,
+        bounds,
+        skips,
+        even,
+        odd,
+        line,
+        out,
+        input,
+    );
+    if answered.going {
+        let now = answered.progress;
+        end(
+            now,
+            links,
+            pairs,
+            hops,
+            bounds,
+            skips,
+            even,
+            odd,
+            out,
+            &*line,
+        );
+    }
+}
+
+fn main() {
+    let mut links = [0u64; 1024];
+    let mut pairs = [0u64; 1024];
+    let mut hops = [0u16; 256];
+    let mut bounds = [0u16; 256];
+    let mut skips = [0u16; 256];
+    let mut even = [0u64; 4];
+    let mut odd = [0u64; 4];
+    let mut line = [0u8; 517];
+    let mut out = [0u8; 65536];
+    let mut input = [0u8; 65536];
+    let progress = stream::begin(&mut links, &mut pairs);
+    follow(
+        progress,
+        &mut links,
+        &mut pairs,
+        &mut hops,
+        &mut bounds,
+        &mut skips,
+        &mut even,
+        &mut odd,
+        &mut line,
+        &mut out,
+        &mut input,
+    );
+}
