@@ -22,7 +22,7 @@ use Rattle.notice.proofs.Theorems.{read-frame}
 use Rattle.opening.specs.OpenCall.{OpenLeft, openLeft, openCall}
 use Rattle.opening.specs.Steps.{noticeOf, refusedWith}
 use Rattle.opening.specs.declared.Opened.{Opened}
-use Rattle.stream.specs.Stream.{noticeIn}
+use Rattle.transcript.specs.Transcript.{noticeIn}
 use Rattle.stream.specs.Feeding.{answerTo}
 
 -- the reader on a frame buffer that is long enough

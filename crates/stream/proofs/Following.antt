@@ -39,8 +39,9 @@ use Rattle.opening.proofs.Refuses.{refused-never}
 use Rattle.opening.proofs.Theorems.{base-shape}
 use Rattle.opening.proofs.Keeps.{sizes-kept}
 use Rattle.opening.proofs.Empties.{empty-held, empty-memory}
-use Rattle.stream.specs.Stream.{noticeIn, Followed, searchesBy, followBy, followLine, reportOn}
-use Rattle.stream.specs.Feeding.{answerTo, reportOf}
+use Rattle.transcript.specs.Transcript.{noticeIn, Followed, searchesBy, followBy, followLine, reportOn}
+use Rattle.lines.specs.Lines.{reportOf}
+use Rattle.stream.specs.Feeding.{answerTo}
 
 -- ---- the number of farthest pairs is that of pairs of open depots
 

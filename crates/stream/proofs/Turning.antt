@@ -14,10 +14,10 @@ use Rattle.lists.proofs.Tests.{look, or-left}
 use Rattle.graph.specs.Network.{Network}
 use Rattle.notice.specs.Lines.{readLine}
 use Rattle.report.specs.Line.{bufferLimit}
-use Rattle.stream.specs.Stream.{linesLimit, linesOf, followLine, reportsFrom}
+use Rattle.transcript.specs.Transcript.{linesLimit, linesOf, followLine, reportsFrom}
 use Rattle.stream.specs.Feeding.{Feeding, feeding, fedOf, stopped, tookLine, feedBytes, feedCall, finishCall}
 use Rattle.stream.specs.Pieces.{Standing, Turn, turnLeft, standingAfter, standsAfter, usedBy, writtenBy, lastWritten}
-use Rattle.stream.proofs.Stops.{going, stopped-lines}
+use Rattle.lines.proofs.Stops.{going, stopped-lines}
 use Rattle.stream.proofs.Lines.{isOpenLine, lines-open}
 use Rattle.stream.proofs.Runs.{append-append, append-none, Place, restFrom, StandsAt, Goes, lineReport, took-written, rest-line, bytes-go}
 

@@ -1,13 +1,13 @@
--- `stream::put_report` meets its contract: the part of the buffer behind what is written takes the line. Assumes nothing.
+-- `lines::put_report` meets its contract: the part of the buffer behind what is written takes the line. Assumes nothing.
 use mathlib.Core.Path.{ap}
 use Prim.Native.Nat.{ℕ, _+_}
 use native.Mathlib.Omega.{arith}
-use Rattle.stream.proofs.Reports.{report-length, report-placed, report-taken, report-fits}
+use Rattle.lines.proofs.Reports.{report-length, report-placed, report-taken, report-fits}
 use borrow.Author.Needs.{needs}
-use Rattle.stream.proofs.put_report.Statement.{statement}
-use Rattle.stream.proofs.put_report.Tie as tie
-use Rattle.stream.proofs.put_report.Reads as reads
-use Rattle.stream.proofs.put_report.Lts as lts
+use Rattle.lines.proofs.put_report.Statement.{statement}
+use Rattle.lines.proofs.put_report.Tie as tie
+use Rattle.lines.proofs.put_report.Reads as reads
+use Rattle.lines.proofs.put_report.Lts as lts
 use Rattle.report.proofs.write_report.Reads as write-report-reads
 
 -- src/lib.rt:149:39

@@ -1,4 +1,5 @@
--- THE STREAM: what a whole input gives as whole output (document 01, 'The stream program'), over bytes and networks. No word and no table is in it.
+-- THE TRANSCRIPT: what a whole input of the stream gives as whole output (document 01, 'The stream program'), over bytes and networks. No word
+-- and no table is in it.
 -- Assumes nothing.
 use mathlib.Core.Bool.{cond}
 use mathlib.Core.List.{List, [], _∷_, _++_}
@@ -87,6 +88,6 @@ reportsFrom n G [] = []
 reportsFrom n G (l ∷ ls) = let x = followLine G (readLine l) in reportLine (reportOn (n + 1) x) ++ reportsFrom (n + 1) (x .network) ls
 
 -- "Starting from an empty map": the whole output of an input
-unfoldable pub streamOutput : List ℕ → List ℕ
+unfoldable pub transcript : List ℕ → List ℕ
 unfolding reportsFrom emptyNetwork linesOf
-streamOutput input = reportsFrom 0 (emptyNetwork 256) (take linesLimit (linesOf input))
+transcript input = reportsFrom 0 (emptyNetwork 256) (take linesLimit (linesOf input))

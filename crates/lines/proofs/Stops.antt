@@ -7,8 +7,8 @@ use lib.Dec.{ltb, leb}
 use borrow.Author.Tests.{lt-ltb, le-ltb, ltb-false, leb-false}
 use Rattle.lists.proofs.Tests.{clash}
 use Rattle.report.specs.Line.{bufferLimit}
-use Rattle.stream.specs.Stream.{linesLimit}
-use Rattle.stream.specs.Feeding.{isStopped}
+use Rattle.transcript.specs.Transcript.{linesLimit}
+use Rattle.lines.specs.Lines.{isStopped}
 
 -- neither test holds
 or-false : (a b : Bool) → (a || b) ≡ false → (a ≡ false) × (b ≡ false)

@@ -1,10 +1,10 @@
--- `stream::hold` meets its contract: there is room for the byte, or there is none. Assumes nothing.
-use Rattle.stream.proofs.Holding.{hold-put, hold-full}
+-- `lines::hold` meets its contract: there is room for the byte, or there is none. Assumes nothing.
+use Rattle.lines.proofs.Holding.{hold-put, hold-full}
 use borrow.Author.Needs.{needs}
-use Rattle.stream.proofs.hold.Statement.{statement}
-use Rattle.stream.proofs.hold.Tie as tie
-use Rattle.stream.proofs.hold.Reads as reads
-use Rattle.stream.proofs.hold.Lts as lts
+use Rattle.lines.proofs.hold.Statement.{statement}
+use Rattle.lines.proofs.hold.Tie as tie
+use Rattle.lines.proofs.hold.Reads as reads
+use Rattle.lines.proofs.hold.Lts as lts
 
 -- src/lib.rt:51:9
 slice-write-line : tie.Need-slice-write-line

@@ -8,7 +8,7 @@ use lib.ListN.{length, getD, drop, set, drop-of-length-le}
 use lib.Seq.{drop-cons}
 use borrow.Author.Tests.{lt-ltb, le-ltb, eq-eqb, ne-eqb}
 use Rattle.notice.specs.Lines.{lineLimit, lineEnd}
-use Rattle.stream.specs.Feeding.{Holding, holding, holdByte, partFrom}
+use Rattle.lines.specs.Lines.{Holding, holding, holdByte, partFrom}
 
 -- ---- a byte
 

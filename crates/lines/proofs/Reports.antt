@@ -11,7 +11,7 @@ use Rattle.report.specs.Line.{bufferLimit, ReportLeft, reportDone, reportLeft, 
 use Rattle.report.specs.declared.Written.{Written}
 use Rattle.report.specs.declared.Written.the-variants.{Line, Refused as NoLine}
 use Rattle.report.specs.declared.Report.{Report}
-use Rattle.stream.specs.Feeding.{pasted}
+use Rattle.lines.specs.Lines.{pasted}
 
 -- the writer on a part that is long enough
 report-into : (r : Report) (buffer : List ℕ) → bufferLimit ≤ length buffer → reportCall r buffer ≡ reportLeft (reportDone (length (reportLine r))) (overwrite (reportLine r) buffer)

@@ -1,10 +1,10 @@
--- `stream::is_stopped` meets its contract. Assumes nothing.
+-- `lines::is_stopped` meets its contract. Assumes nothing.
 use native.Mathlib.Omega.{arith}
-use Rattle.stream.proofs.Stops.{stopped-small, stopped-room, stopped-lines}
-use Rattle.stream.proofs.is_stopped.Statement.{statement}
-use Rattle.stream.proofs.is_stopped.Tie as tie
-use Rattle.stream.proofs.is_stopped.Reads as reads
-use Rattle.stream.proofs.is_stopped.Lts as lts
+use Rattle.lines.proofs.Stops.{stopped-small, stopped-room, stopped-lines}
+use Rattle.lines.proofs.is_stopped.Statement.{statement}
+use Rattle.lines.proofs.is_stopped.Tie as tie
+use Rattle.lines.proofs.is_stopped.Reads as reads
+use Rattle.lines.proofs.is_stopped.Lts as lts
 
 -- src/lib.rt:208:9
 returns : tie.Need-returns

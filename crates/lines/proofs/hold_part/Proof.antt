@@ -1,16 +1,16 @@
--- `stream::hold_part` meets its contract. The invariant: from here the part ends where it ends from the start. Assumes nothing.
+-- `lines::hold_part` meets its contract. The invariant: from here the part ends where it ends from the start. Assumes nothing.
 use mathlib.Core.Path.{_≡_, refl, _∙_}
 use Prim.Native.Nat.{_-_}
 use native.Mathlib.Omega.{arith}
 use lib.ListN.{length, drop}
 use borrow.Author.Needs.{needs}
-use Rattle.stream.specs.Feeding.{holding, partFrom}
-use Rattle.stream.proofs.Holding.{part-out, part-here, part-on}
-use Rattle.stream.proofs.hold_part.Statement.{statement}
-use Rattle.stream.proofs.hold_part.Tie as tie
-use Rattle.stream.proofs.hold_part.Reads as reads
-use Rattle.stream.proofs.hold_part.Lts as lts
-use Rattle.stream.proofs.hold.Reads as hold-reads
+use Rattle.lines.specs.Lines.{holding, partFrom}
+use Rattle.lines.proofs.Holding.{part-out, part-here, part-on}
+use Rattle.lines.proofs.hold_part.Statement.{statement}
+use Rattle.lines.proofs.hold_part.Tie as tie
+use Rattle.lines.proofs.hold_part.Reads as reads
+use Rattle.lines.proofs.hold_part.Lts as lts
+use Rattle.lines.proofs.hold.Reads as hold-reads
 
 abbrev Inv-loop : tie.InvT-loop
 Inv-loop line₀ piece from held at₀ count₀ line at count = (partFrom at (holding line count) (drop at piece) ≡ partFrom at₀ (holding line₀ count₀) (drop at₀ piece)) × (length line ≡ length line₀)
