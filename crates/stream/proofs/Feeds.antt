@@ -19,7 +19,6 @@ use Rattle.notice.specs.Lines.{lineLimit, lineEnd, isByte, Line, garbled, frame
 use Rattle.notice.proofs.Tests.{frame-parts}
 use Rattle.notice.proofs.Ends.{all-at}
 use Rattle.notice.proofs.Theorems.{read-frame}
-use Rattle.opening.specs.OpenCall.{OpenLeft}
 use Rattle.opening.specs.Steps.{mapRefusal}
 use Rattle.opening.proofs.Theorems.{base-shape}
 use Rattle.opening.proofs.Keeps.{map-kept}

@@ -1,7 +1,7 @@
 -- THE THEOREMS OF THE STREAM, about the very definitions that the contracts cite. Assumes nothing.
 use mathlib.Core.Path.{_≡_, refl, sym, ap, _∙_, subst}
 use mathlib.Core.Logic.{_⊎_}
-use mathlib.Core.Bool.{true, false}
+use mathlib.Core.Bool.{true}
 use mathlib.Core.List.{List, [], _∷_, _++_}
 use Prim.Native.Nat.{ℕ, _≤_, _<_, zero-le}
 use native.Mathlib.Nat.{zero-add}
@@ -17,14 +17,14 @@ use Rattle.report.specs.Line.{bufferLimit}
 use Rattle.opening.proofs.Memories.{Says}
 use Rattle.opening.proofs.Theorems.{base-shape}
 use Rattle.opening.proofs.Empties.{empty-held}
-use Rattle.transcript.specs.Transcript.{linesLimit, reportsFrom, transcript}
+use Rattle.transcript.specs.Transcript.{linesLimit, transcript}
 use Rattle.stream.specs.Feeding.{Begun, begun, beginCall, IsReady, Feeding, stopped, feedBytes}
 use Rattle.stream.specs.Pieces.{Standing, Turn, turnLeft, standsAfter, usedBy, writtenBy, lastWritten, HasBegun}
 use Rattle.stream.specs.declared.Progress.{Progress}
 use Rattle.lines.proofs.Stops.{stopped-lines}
 use Rattle.stream.proofs.Lines.{open-none}
 use Rattle.stream.proofs.Following.{begun-says, says-free}
-use Rattle.stream.proofs.Runs.{append-none, Place, restFrom, bytes-past, bytes-all, bytes-first}
+use Rattle.stream.proofs.Runs.{append-none, Place, restFrom, bytes-all, bytes-first}
 use Rattle.stream.proofs.Turning.{entering, StandsOn, turn-is, Turned, turns-go, rest-over, finish-goes}
 
 -- ---- the beginning

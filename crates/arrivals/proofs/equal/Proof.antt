@@ -5,8 +5,6 @@ use lib.ListN.{length}
 use borrow.Author.Needs.{needs}
 use Rattle.arrivals.proofs.equal.Statement.{statement}
 use Rattle.arrivals.proofs.equal.Tie as tie
-use Rattle.arrivals.proofs.equal.Reads as reads
-use Rattle.arrivals.proofs.equal.Lts as lts
 
 abbrev Inv-loop : tie.InvT-loop
 Inv-loop a b i₀ i = (i ≤ length a) × (length a ≡ length b)

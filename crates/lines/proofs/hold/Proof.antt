@@ -3,8 +3,6 @@ use Rattle.lines.proofs.Holding.{hold-put, hold-full}
 use borrow.Author.Needs.{needs}
 use Rattle.lines.proofs.hold.Statement.{statement}
 use Rattle.lines.proofs.hold.Tie as tie
-use Rattle.lines.proofs.hold.Reads as reads
-use Rattle.lines.proofs.hold.Lts as lts
 
 -- src/lib.rt:51:9
 slice-write-line : tie.Need-slice-write-line

@@ -8,9 +8,6 @@ use Rattle.lines.specs.Lines.{holding, partFrom}
 use Rattle.lines.proofs.Holding.{part-out, part-here, part-on}
 use Rattle.lines.proofs.hold_part.Statement.{statement}
 use Rattle.lines.proofs.hold_part.Tie as tie
-use Rattle.lines.proofs.hold_part.Reads as reads
-use Rattle.lines.proofs.hold_part.Lts as lts
-use Rattle.lines.proofs.hold.Reads as hold-reads
 
 abbrev Inv-loop : tie.InvT-loop
 Inv-loop line₀ piece from held at₀ count₀ line at count = (partFrom at (holding line count) (drop at piece) ≡ partFrom at₀ (holding line₀ count₀) (drop at₀ piece)) × (length line ≡ length line₀)

@@ -3,8 +3,6 @@ use native.Mathlib.Omega.{arith}
 use Rattle.lines.proofs.Stops.{stopped-small, stopped-room, stopped-lines}
 use Rattle.lines.proofs.is_stopped.Statement.{statement}
 use Rattle.lines.proofs.is_stopped.Tie as tie
-use Rattle.lines.proofs.is_stopped.Reads as reads
-use Rattle.lines.proofs.is_stopped.Lts as lts
 
 -- src/lib.rt:208:9
 returns : tie.Need-returns

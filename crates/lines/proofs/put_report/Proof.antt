@@ -6,9 +6,6 @@ use Rattle.lines.proofs.Reports.{report-length, report-placed, report-t
 use borrow.Author.Needs.{needs}
 use Rattle.lines.proofs.put_report.Statement.{statement}
 use Rattle.lines.proofs.put_report.Tie as tie
-use Rattle.lines.proofs.put_report.Reads as reads
-use Rattle.lines.proofs.put_report.Lts as lts
-use Rattle.report.proofs.write_report.Reads as write-report-reads
 
 -- src/lib.rt:149:39
 sub-write-report : tie.Need-sub-write-report

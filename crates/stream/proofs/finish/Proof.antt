@@ -8,10 +8,6 @@ use Rattle.stream.proofs.Turns.{finish-none, finish-stopped, finish-too
 use borrow.Author.Needs.{needs}
 use Rattle.stream.proofs.finish.Statement.{statement}
 use Rattle.stream.proofs.finish.Tie as tie
-use Rattle.stream.proofs.finish.Reads as reads
-use Rattle.stream.proofs.finish.Lts as lts
-use Rattle.lines.proofs.is_stopped.Reads as is-stopped-reads
-use Rattle.stream.proofs.take_line.Reads as take-line-reads
 
 -- src/lib.rt:297:9
 returns : tie.Need-returns
