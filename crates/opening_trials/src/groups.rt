@@ -246,6 +246,10 @@ fn all_doubtful(kind: Kind) -> Tally {
 pub fn up_to_40() {
     print(b"40 depots in a path", all_small(Kind::Path));
     print(b"40 depots in a ring that closes", all_small(Kind::Ring));
+    print(
+        b"40 depots on a trail with short cuts",
+        all_small(Kind::Trail(12)),
+    );
     print(b"40 depots in a star", all_small(Kind::Star));
     print(b"40 depots in a grid", all_small(Kind::Grid));
     print(b"40 depots in a tree", all_small(Kind::Tree));
@@ -267,6 +271,10 @@ pub fn up_to_40() {
 
 pub fn up_to_256() {
     print(b"256 depots in a ring that closes", mixed(Kind::Ring));
+    print(
+        b"256 depots on a trail with short cuts",
+        mixed(Kind::Trail(1)),
+    );
     print(b"256 depots in a grid", mixed(Kind::Grid));
     print(b"256 depots in a tree", mixed(Kind::Tree));
     print(b"256 depots at random, few links", mixed(Kind::Random(1)));
@@ -287,6 +295,10 @@ pub fn few_depots() {
     print(
         b"30 depots in a ring, figures made false",
         all_doubtful(Kind::Ring),
+    );
+    print(
+        b"30 depots on a trail, figures made false",
+        all_doubtful(Kind::Trail(15)),
     );
     print(
         b"30 depots at random, figures made false",

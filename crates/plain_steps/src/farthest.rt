@@ -3,7 +3,6 @@ use crate::distances::distance;
 use crate::distances::way;
 use crate::places::PAIRS;
 use testbed::flags::get;
-use testbed::flags::place;
 use testbed::flags::put;
 use testbed::tally::next;
 

@@ -2,8 +2,8 @@
 use crate::flags;
 
 // The kinds, whose depots stand in an order. Those of a random network are linked to an earlier one surely and to each other one by a chance of
-// so many in a hundred; those of a loose network by such a chance alone, so that it is often apart. In a network of the other kinds that have
-// links each depot is linked to an earlier one.
+// so many in a hundred; those of a loose network by such a chance alone, so that it is often apart. A trail is a path with short cuts, by a chance of
+// so many in a thousand. In a network of the other kinds that have links each depot is linked to an earlier one.
 pub enum Kind {
     Path,
     Ring,
@@ -13,6 +13,7 @@ pub enum Kind {
     Tree,
     Random(usize),
     Loose(usize),
+    Trail(usize),
     Linkless,
 }
 
@@ -71,6 +72,14 @@ fn at_random(seed: usize, i: usize, j: usize, percent: usize) -> bool {
     noise(seed, i, j) % 100 < percent
 }
 
+// Whether a depot of a trail is linked to i, being `gap` past it.
+fn on_trail(seed: usize, i: usize, gap: usize, chance: usize) -> bool {
+    if gap == 1 {
+        return true;
+    }
+    noise(seed, i, gap) % 1000 < chance
+}
+
 // Whether the depots i < j are linked.
 fn joined(p: Plan, i: usize, j: usize) -> bool {
     if j <= i {
@@ -87,6 +96,7 @@ fn joined(p: Plan, i: usize, j: usize) -> bool {
         Kind::Tree => (j - 1) / 2 == i,
         Kind::Random(percent) => at_random(p.shift, i, j, percent),
         Kind::Loose(percent) => noise(p.shift, i, j) % 100 < percent,
+        Kind::Trail(chance) => on_trail(p.shift, i, gap, chance),
         Kind::Linkless => false,
     }
 }

@@ -9,7 +9,6 @@ use testbed::lent::words_are;
 use testbed::networks::Kind;
 use testbed::networks::Plan;
 use testbed::record::lend;
-use testbed::record::same_record;
 use testbed::tally;
 use testbed::tally::Tally;
 use testbed::tally::both;
