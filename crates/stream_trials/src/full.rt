@@ -8,8 +8,8 @@ use crate::long::longest;
 use crate::network::Figures;
 use crate::plain::Said;
 use crate::plain::report;
-use crate::tally::Tally;
-use crate::tally::start;
+use testbed::tally::Tally;
+use testbed::tally::start;
 
 // The depots 1 to 254, each beside 0.
 fn star(out: &mut [u8], at: usize) -> usize {

@@ -7,8 +7,8 @@ use crate::bytes::repeat;
 use crate::bytes::wide;
 use crate::cuts::given;
 use crate::cuts::made;
-use crate::tally::Tally;
-use crate::tally::start;
+use testbed::tally::Tally;
+use testbed::tally::start;
 
 // ---- lines
 
