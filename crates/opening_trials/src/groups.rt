@@ -56,7 +56,7 @@ fn all_small(kind: Kind) -> Tally {
     small(t, kind, 3)
 }
 
-// A network of 256, `mix` bent calls before each opening, and the plain search after every 64th call. All else is compared after each call.
+// A network of 256, `mix` bent calls before each opening, and the plain search from every depot after each opening.
 fn large(kind: Kind, calls: usize, mix: usize) -> State {
     let plan = Plan {
         kind,
@@ -68,7 +68,7 @@ fn large(kind: Kind, calls: usize, mix: usize) -> State {
         plan,
         calls,
         mix,
-        search_every: 64,
+        search_every: mix % 256 + 1,
         false_every: 0,
         false_chain: 0,
     };
