@@ -27,9 +27,9 @@ use Rattle.opening.proofs.Grants.{held-after}
 use Rattle.opening.proofs.Steps.{lent-says, refusal-is, one-step}
 use Rattle.opening.proofs.Runs.{call-memory}
 use Rattle.opening.proofs.Keeps.{left-ends, left-stores}
-use Rattle.opening.proofs.Theorems.{base-shape}
 use Rattle.cases.specs.Results.{pairsIn, answerOf, answersOf, noticesOf, AllLong}
 use Rattle.cases.proofs.Listings.{pairs-open, count-open}
+use Rattle.map.proofs.Theorems.{base-shape}
 
 -- a network with its own figures
 abbrev pub figuredFor : Network → Figured

@@ -19,7 +19,7 @@ use Rattle.map.specs.Memory.{base, networkOf}
 use Rattle.map.specs.Empty.{emptyRefusal, emptyGiven, emptyCall}
 use Rattle.map.specs.declared.Record.{Record}
 use Rattle.map.specs.declared.Emptying.the-variants.{Done}
-use Rattle.map.proofs.Theorems.{emptied-is-empty}
+use Rattle.map.proofs.Theorems.{emptied-is-empty, base-shape}
 use Rattle.reckon.specs.ReckonCall.{reckonCall}
 use Rattle.outcome.specs.Outcome.{letterOf, refusalOf}
 use Rattle.opening.specs.OpenCall.{openCall}
@@ -28,7 +28,6 @@ use Rattle.opening.specs.History.{Memory, emptyMemory, Call}
 use Rattle.opening.specs.Demand3.{IsCall, AreCalls}
 use Rattle.opening.proofs.Memories.{network-path, network-read}
 use Rattle.opening.proofs.Empties.{empty-held, none-diameter, none-farthest, empty-memory}
-use Rattle.opening.proofs.Theorems.{base-shape}
 use Rattle.notice.specs.Hex.{isDigit, digitValue}
 use Rattle.notice.specs.Lines.{endOf, spellsFrame, isFrame, bytesOf, readHead}
 use Rattle.report.specs.Decimal.{spell, decimal}

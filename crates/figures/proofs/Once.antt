@@ -4,7 +4,6 @@ use mathlib.Core.Logic.{_⊎_, inl, inr}
 use mathlib.Core.Bool.{Bool, true, false, cond}
 use mathlib.Core.List.{List, []}
 use Prim.Native.Nat.{ℕ, _%_, _<_}
-use native.Mathlib.Omega.{arith}
 use lib.Dec.{T, eqb}
 use lib.ListN.{set}
 use borrow.Author.Tests.{eqb-true, eq-eqb, ne-eqb}
@@ -19,15 +18,11 @@ use Rattle.graph.specs.Rounds.{waiting, searched, markOf, boundOf}
 use Rattle.graph.specs.Opening.{searchedOnce}
 use Rattle.rows.specs.Rows.{encodeTable}
 use Rattle.layers.specs.Layers.{Tables, tables, searchLeaves}
-use Rattle.map.specs.Memory.{Shape, places, base, IsShape}
+use Rattle.map.specs.Memory.{Shape, places, base}
 use Rattle.pairs.specs.Pairs.{Tally, tally, tallyOf, settleOf}
 use Rattle.rounds.specs.Leaves.{Lent, lent, ran, ranBy, roundsLeave, searchAfter}
 use Rattle.rounds.specs.Workspace.{lastRow}
 use Rattle.figures.specs.Steps.{Marked, marking, markOnce, Joined, joined, joinOf}
-
--- document 01's shape
-pub base-shape : IsShape base
-base-shape = record { positive = omega arith; most = omega arith; searchedFree = omega arith; otherFree = omega arith; marksDiffer = λ e. omega arith }
 
 -- ---- the marks
 

@@ -27,7 +27,7 @@ use Rattle.rounds.proofs.Finish.{start-holds, start-running, run-leaves, run-fi
 use Rattle.rounds.proofs.Turns.{settle-counted}
 use Rattle.figures.specs.Figured.{figured, figuredBy, changeAs}
 use Rattle.figures.specs.Steps.{IsSearched}
-use Rattle.figures.proofs.Once.{base-shape}
+use Rattle.map.proofs.Theorems.{base-shape}
 
 -- ---- the pairs are counted at each call
 

@@ -1,6 +1,6 @@
 -- THE REPORT of a line, behind what is written. Assumes nothing.
-use mathlib.Core.Path.{_≡_, refl, sym, ap, _∙_}
-use mathlib.Core.List.{List, [], _∷_, _++_}
+use mathlib.Core.Path.{_≡_, sym, ap, _∙_}
+use mathlib.Core.List.{List, _++_}
 use Prim.Native.Nat.{ℕ, _+_, _-_, _≤_}
 use native.Mathlib.Omega.{arith}
 use lib.ListN.{length, take, drop, length-append, length-take, length-drop, drop-of-length-le}
@@ -12,15 +12,12 @@ use Rattle.report.specs.declared.Written.{Written}
 use Rattle.report.specs.declared.Written.the-variants.{Line, Refused as NoLine}
 use Rattle.report.specs.declared.Report.{Report}
 use Rattle.lines.specs.Lines.{pasted}
+use Rattle.lists.proofs.Appends.{append-none}
 
 -- the writer on a part that is long enough
 report-into : (r : Report) (buffer : List ℕ) → bufferLimit ≤ length buffer → reportCall r buffer ≡ reportLeft (reportDone (length (reportLine r))) (overwrite (reportLine r) buffer)
 unfolding reportCall
 report-into r buffer k = rw (le-ltb (length buffer) bufferLimit k)
-
-append-none : (l : List ℕ) → l ++ [] ≡ l
-append-none [] = refl
-append-none (x ∷ l) = ap (λ (r : List ℕ). x ∷ r) (append-none l)
 
 -- the part from `at` on, put back
 part-back : (out part : List ℕ) (at : ℕ) → take at out ++ (part ++ drop (length out - at) (drop at out)) ≡ take at out ++ part

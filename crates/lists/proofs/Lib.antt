@@ -10,3 +10,5 @@ pub mod RangeCounts
 pub mod Fills
 -- buffers whose first places are filled
 pub mod Buffers
+-- Lists put together.
+pub mod Appends

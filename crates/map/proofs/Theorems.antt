@@ -5,7 +5,7 @@ use mathlib.Core.Bool.{Bool, true, false, not, _&&_}
 use mathlib.Core.List.{List}
 use Prim.Native.Nat.{ℕ, zero, suc, _*_, _<_}
 use native.Mathlib.Omega.{arith}
-use lib.Dec.{T, eqb, ltb}
+use lib.Dec.{T, eqb, ltb, lit<, lit≤}
 use borrow.Author.Tests.{ltb-true, lt-ltb, eqb-true, eqb-false, eq-eqb, ne-eqb, not-true}
 use Rattle.lists.specs.Lists.{range, countb}
 use Rattle.lists.proofs.Counts.{count-none}
@@ -13,7 +13,7 @@ use Rattle.lists.proofs.Tests.{t→true, true→t, false→not, and-true, and-i
 use Rattle.rows.specs.Rows.{rowBit, tableBit}
 use Rattle.graph.specs.Network.{Network}
 use Rattle.graph.specs.Chart.{Pairs, countPairs}
-use Rattle.map.specs.Memory.{Shape, networkOf}
+use Rattle.map.specs.Memory.{Shape, networkOf, IsShape, base}
 use Rattle.map.specs.Sound.{allSet, soundLink, soundLinks, soundPair, soundFigures, AreLinksSound, AreFiguresSound}
 use Rattle.map.specs.Empty.{emptyRecord, emptyRefusal, emptyGiven, emptyCall, EmptyLeft, IsEmpty, refusalOf}
 use Rattle.map.specs.declared.Record.{Record}
@@ -186,3 +186,8 @@ empty-figures-sound W left some e =
       counted = e .count ∙ sym (sum-none _ (range (64 * W)) (λ u. count-none _ (range (64 * W)) (λ v m. e .unpaired u v)));
       below = omega (arith, e .chain);
     })
+
+-- ---- document 01's shape is one
+
+pub base-shape : IsShape base
+base-shape = record { positive = lit< tt; most = lit< tt; searchedFree = lit≤ tt; otherFree = lit≤ tt; marksDiffer = λ e. omega arith }

@@ -25,7 +25,7 @@ use Rattle.layers.specs.Layers.{tables}
 use Rattle.map.specs.Memory.{base, networkOf}
 use Rattle.map.specs.Sound.{AreFiguresSound}
 use Rattle.map.specs.declared.Record.{Record}
-use Rattle.map.proofs.Theorems.{network-linked-below}
+use Rattle.map.proofs.Theorems.{network-linked-below, base-shape}
 use Rattle.rounds.specs.Leaves.{Lent, lent, Ran, ran, ranBy}
 use Rattle.rounds.specs.Sizes.{Sizes, sizes}
 use Rattle.reckon.proofs.Longs.{AreLong, are-long}
@@ -37,7 +37,6 @@ use Rattle.figures.specs.Figured.{changeAs, Figured, figured, figuredBy, IsFigu
 use Rattle.opening.specs.OpenCall.{changeOf, openRefusal, networkAfter, openedBy, OpenLeft, openGiven}
 use Rattle.opening.specs.Steps.{noticeOf}
 use Rattle.opening.proofs.Grants.{granted-long, granted-figures, held-after, number-after}
-use Rattle.opening.proofs.Theorems.{base-shape}
 
 -- ---- the open set
 

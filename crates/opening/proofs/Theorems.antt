@@ -2,8 +2,6 @@
 use mathlib.Core.Path.{_≡_, refl, sym, ap, _∙_, subst}
 use mathlib.Core.List.{List, [], _∷_, _++_, Memᴰ·append-left, Memᴰ·append-right, List·Memᴰ·head}
 use Prim.Native.Nat.{ℕ, _<_}
-use native.Mathlib.Omega.{arith}
-use lib.Dec.{lit<, lit≤}
 use Rattle.rows.specs.Rows.{tableBit}
 use Rattle.graph.specs.Network.{Network, AreTrue}
 use Rattle.graph.specs.Opening.{Notice, emptyNetwork}
@@ -25,6 +23,7 @@ use Rattle.opening.proofs.Marks.{opened-marked}
 use Rattle.opening.proofs.Empties.{empty-held, empty-memory}
 use Rattle.opening.proofs.Runs.{fed-snoc, call-marked, IsRun, run}
 use Rattle.opening.proofs.Orders.{order-free}
+use Rattle.map.proofs.Theorems.{base-shape}
 
 -- ---- DEMAND 2 for openings, on any lent memory
 
@@ -89,9 +88,6 @@ demand3 K shape = record {
 }
 
 -- ---- document 01's map
-
-pub base-shape : IsShape base
-base-shape = record { positive = lit< tt; most = lit< tt; searchedFree = lit≤ tt; otherFree = lit≤ tt; marksDiffer = λ e. omega arith }
 
 pub demand3-base : Demand3 base (openCall base)
 demand3-base = demand3 base base-shape

@@ -7,14 +7,13 @@ use Prim.Native.Nat.{ℕ, _≤_, _<_}
 use native.Mathlib.Nat.{lt-irrefl}
 use native.Mathlib.Omega.{arith}
 use lib.Dec.{T, eqb, ltb}
-use lib.ListN.{length, getD, drop}
-use lib.Seq.{drop-append-seam}
+use lib.ListN.{length, getD}
 use borrow.Author.Tests.{eqb-true, eq-eqb, lt-ltb}
 use Rattle.lists.specs.Lists.{range, countb, memb, mapl, lastOr, overwrite}
 use Rattle.lists.proofs.Tests.{t→true, true→t, false→not, clash, and-intro, same-test}
 use Rattle.lists.proofs.Members.{range-out, in-memb}
 use Rattle.lists.proofs.Counts.{count-le-length, count-filter, count-ext, length-count}
-use Rattle.lists.proofs.Fills.{overwrite-length, fill-at}
+use Rattle.lists.proofs.Fills.{fill-at}
 use Rattle.graph.specs.Network.{Network, IsEcc, IsFarthest}
 use Rattle.graph.specs.Distance.{vertices, unreached}
 use Rattle.graph.specs.Rounds.{Status, waiting, skipped, searched, State, markOf, boundOf}
@@ -23,15 +22,6 @@ use Rattle.graph.specs.Correct.{Stands, AreReferences}
 use Rattle.rows.specs.Rows.{tableBit, encodeTable}
 use Rattle.rows.proofs.Written.{table-read}
 use Rattle.map.specs.Memory.{Shape, IsShape, places}
-use Rattle.search.specs.Demand2.{KeepsPast}
-
--- a first part written over a buffer keeps its size and the rest
-pub over-keeps : (n : ℕ) (new old : List ℕ) → length new ≡ n → n ≤ length old → KeepsPast n old (overwrite new old)
-unfolding overwrite
-over-keeps n new old e l = record {
-  size = overwrite-length new old (omega (arith, e, l));
-  past = subst (λ (k : ℕ). drop k (overwrite new old) ≡ drop k old) e (drop-append-seam new (drop (length new) old));
-}
 
 -- the last of a list is in it
 last-in : (r : ℕ) (rs : List ℕ) → List·Memᴰ (lastOr r rs) (r ∷ rs)

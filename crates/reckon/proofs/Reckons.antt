@@ -15,7 +15,7 @@ use Rattle.graph.specs.Rounds.{start, reckon}
 use Rattle.graph.specs.Correct.{IsNet}
 use Rattle.graph.proofs.Connected.{connected-iff}
 use Rattle.layers.specs.Layers.{tables}
-use Rattle.map.specs.Memory.{Shape, IsShape, base, networkOf}
+use Rattle.map.specs.Memory.{Shape, IsShape, networkOf}
 use Rattle.map.specs.Sound.{soundLinks}
 use Rattle.map.specs.declared.Record.{Record}
 use Rattle.map.proofs.Theorems.{sound-links-iff}
@@ -30,9 +30,6 @@ use Rattle.rounds.proofs.Finish.{start-holds, start-running, run-leaves, run-fi
 use Rattle.reckon.specs.ReckonCall.{linkFaults, reckonRefusal, figuredBy, reckonLeft, reckonGiven, reckonCall}
 use Rattle.reckon.specs.declared.Reckoning.the-variants.{Searches, Refused}
 use Rattle.reckon.proofs.Longs.{AreLong, are-long}
-
-pub base-shape : IsShape base
-base-shape = record { positive = omega arith; most = omega arith; searchedFree = omega arith; otherFree = omega arith; marksDiffer = λ e. omega arith }
 
 -- ---- the refusals, by the code's tests
 

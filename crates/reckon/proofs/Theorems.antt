@@ -19,20 +19,20 @@ use Rattle.rows.proofs.Written.{table-at, encode-table-length}
 use Rattle.layers.specs.Layers.{Tables, searchLeaves}
 use Rattle.map.specs.Memory.{Shape, IsShape, places, base, networkOf}
 use Rattle.map.specs.declared.Record.{Record}
-use Rattle.map.proofs.Theorems.{network-open-below, sound-links-iff}
+use Rattle.map.proofs.Theorems.{network-open-below, sound-links-iff, base-shape}
 use Rattle.search.specs.SearchCall.{searchRefusal, SearchLeft, searchLeft, searchGiven, searchCall}
 use Rattle.search.specs.Demand2.{IsSearch}
 use Rattle.search.specs.declared.Found.the-variants.{Reached}
 use Rattle.search.proofs.Accepts.{room-all, refused-never}
-use Rattle.search.proofs.Theorems.{search-demand2}
+use Rattle.search.proofs.Theorems.{search-demand2, over-keeps}
 use Rattle.rounds.specs.Leaves.{Lent, roundsLeave, searchAfter}
 use Rattle.rounds.specs.Sizes.{sizesOf}
 use Rattle.reckon.specs.ReckonCall.{reckonRefusal, figuredBy, reckonGiven, reckonCall, refusalOf}
 use Rattle.reckon.specs.Demand2.{IsReckoning, Demand2}
 use Rattle.reckon.specs.declared.Reckoning.the-variants.{Refused}
 use Rattle.reckon.proofs.Longs.{AreLong}
-use Rattle.reckon.proofs.Reckons.{base-shape, granted-long, granted-tests, granted-net}
-use Rattle.reckon.proofs.Marks.{over-keeps, last-memb, pairs-read, skip-marks, skips-counted, few-searches, bound-ecc}
+use Rattle.reckon.proofs.Reckons.{granted-long, granted-tests, granted-net}
+use Rattle.reckon.proofs.Marks.{last-memb, pairs-read, skip-marks, skips-counted, few-searches, bound-ecc}
 use Rattle.reckon.proofs.Skips.{skip-bound, closed-at}
 
 limit-of : (W : ℕ) (codes links : List ℕ) → networkOf W codes links .limit ≡ 64 * W

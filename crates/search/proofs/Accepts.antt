@@ -19,7 +19,7 @@ use Rattle.graph.proofs.Connected.{connected-iff}
 use Rattle.rows.specs.Rows.{tableBit}
 use Rattle.layers.specs.Layers.{Tables, tables, Searched, searched, searchLeaves, searchTable}
 use Rattle.layers.proofs.Theorems.{table-depth, table-leaves, depth-is}
-use Rattle.map.specs.Memory.{Shape, places, tableWords, IsShape, base, networkOf}
+use Rattle.map.specs.Memory.{Shape, places, tableWords, IsShape, networkOf}
 use Rattle.map.specs.Sound.{soundLinks}
 use Rattle.map.specs.declared.Record.{Record}
 use Rattle.map.proofs.Theorems.{sound-links-iff}
@@ -160,9 +160,6 @@ module _ (K : Shape) (shape : IsShape K) (rec : Record) (links : List ℕ) (B : 
 
       links-are : N .linked ≡ tableBit (K .words) links
       links-are = refl
-
-pub base-shape : IsShape base
-base-shape = record { positive = omega arith; most = omega arith; searchedFree = omega arith; otherFree = omega arith; marksDiffer = λ e. omega arith }
 
 -- ---- the row handed back, by the parity
 

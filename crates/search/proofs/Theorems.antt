@@ -106,7 +106,7 @@ module _ (K : Shape) (shape : IsShape K) (rec : Record) (links : List ℕ) (hops
 -- ---- WHAT AN ACCEPTED SEARCH LEAVES
 
 -- a first part written over a buffer keeps its size and the rest
-over-keeps : (n : ℕ) (new old : List ℕ) → length new ≡ n → n ≤ length old → KeepsPast n old (overwrite new old)
+pub over-keeps : (n : ℕ) (new old : List ℕ) → length new ≡ n → n ≤ length old → KeepsPast n old (overwrite new old)
 unfolding overwrite
 over-keeps n new old e l = record {
   size = overwrite-length new old (omega (arith, e, l));

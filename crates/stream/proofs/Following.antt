@@ -32,12 +32,12 @@ use Rattle.opening.proofs.Memories.{IsHeld, Says, writeMap, written-says, memor
 use Rattle.opening.proofs.Grants.{after-is, held-after, figures-are-sound, links-pass, figures-pass, connected-pass, refused-alike}
 use Rattle.opening.proofs.Openings.{given-searches, opened-moved, opened-writes, says-true}
 use Rattle.opening.proofs.Refuses.{refused-never}
-use Rattle.opening.proofs.Theorems.{base-shape}
 use Rattle.opening.proofs.Keeps.{sizes-kept}
 use Rattle.opening.proofs.Empties.{empty-held, empty-memory}
 use Rattle.transcript.specs.Transcript.{noticeIn, Followed, searchesBy, followBy, followLine, reportOn}
 use Rattle.lines.specs.Lines.{reportOf}
 use Rattle.stream.specs.Feeding.{answerTo}
+use Rattle.map.proofs.Theorems.{base-shape}
 
 -- ---- the number of farthest pairs is that of pairs of open depots
 

@@ -23,14 +23,7 @@ use Rattle.stream.specs.Feeding.{Feeding, stopped, tookLine, heldByte, t
 use Rattle.lines.proofs.Stops.{going}
 use Rattle.stream.proofs.Lines.{isOpenLine, lines-ended, open-none, open-more, read-first, Holds, holds-byte}
 use Rattle.stream.proofs.Following.{IsLine, line-is}
-
-pub append-append : (xs ys zs : List ℕ) → xs ++ ys ++ zs ≡ xs ++ (ys ++ zs)
-append-append [] ys zs = refl
-append-append (x ∷ xs) ys zs = ap (λ (r : List ℕ). x ∷ r) (append-append xs ys zs)
-
-pub append-none : (xs : List ℕ) → xs ++ [] ≡ xs
-append-none [] = refl
-append-none (x ∷ xs) = ap (λ (r : List ℕ). x ∷ r) (append-none xs)
+use Rattle.lists.proofs.Appends.{append-append}
 
 -- a stream after n lines, on the map of the network G, with the bytes p of the next line
 pub record Place : Type 0 where

@@ -15,7 +15,6 @@ use Rattle.rounds.specs.Sizes.{sizesOf, longEnough}
 use Rattle.notice.specs.Lines.{lineLimit}
 use Rattle.report.specs.Line.{bufferLimit}
 use Rattle.opening.proofs.Memories.{Says}
-use Rattle.opening.proofs.Theorems.{base-shape}
 use Rattle.opening.proofs.Empties.{empty-held}
 use Rattle.transcript.specs.Transcript.{linesLimit, transcript}
 use Rattle.stream.specs.Feeding.{Begun, begun, beginCall, IsReady, Feeding, stopped, feedBytes}
@@ -24,8 +23,10 @@ use Rattle.stream.specs.declared.Progress.{Progress}
 use Rattle.lines.proofs.Stops.{stopped-lines}
 use Rattle.stream.proofs.Lines.{open-none}
 use Rattle.stream.proofs.Following.{begun-says, says-free}
-use Rattle.stream.proofs.Runs.{append-none, Place, restFrom, bytes-all, bytes-first}
+use Rattle.stream.proofs.Runs.{Place, restFrom, bytes-all, bytes-first}
 use Rattle.stream.proofs.Turning.{entering, StandsOn, turn-is, Turned, turns-go, rest-over, finish-goes}
+use Rattle.map.proofs.Theorems.{base-shape}
+use Rattle.lists.proofs.Appends.{append-none}
 
 -- ---- the beginning
 

@@ -19,7 +19,8 @@ use Rattle.stream.specs.Feeding.{Feeding, feeding, fedOf, stopped, tookL
 use Rattle.stream.specs.Pieces.{Standing, Turn, turnLeft, standingAfter, standsAfter, usedBy, writtenBy, lastWritten}
 use Rattle.lines.proofs.Stops.{going, stopped-lines}
 use Rattle.stream.proofs.Lines.{isOpenLine, lines-open}
-use Rattle.stream.proofs.Runs.{append-append, append-none, Place, restFrom, StandsAt, Goes, lineReport, took-written, rest-line, bytes-go}
+use Rattle.stream.proofs.Runs.{Place, restFrom, StandsAt, Goes, lineReport, took-written, rest-line, bytes-go}
+use Rattle.lists.proofs.Appends.{append-append, append-none}
 
 -- a stream between two calls, as a call finds it
 abbrev pub entering : Standing → List ℕ → Feeding

@@ -3,10 +3,11 @@
 use mathlib.Core.Path.{sym, _∙_}
 use native.Mathlib.Omega.{arith}
 use Rattle.map.specs.Memory.{base}
-use Rattle.reckon.proofs.Reckons.{base-shape, granted-long, granted-net, refused-call, accepted-call}
+use Rattle.reckon.proofs.Reckons.{granted-long, granted-net, refused-call, accepted-call}
 use borrow.Author.Needs.{needs}
 use Rattle.reckon.proofs.reckon_all.Statement.{statement}
 use Rattle.reckon.proofs.reckon_all.Tie as tie
+use Rattle.map.proofs.Theorems.{base-shape}
 
 -- src/lib.rt:139:9
 reckon-refusal-requires : tie.Need-reckon-refusal-requires

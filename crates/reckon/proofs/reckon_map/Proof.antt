@@ -2,10 +2,11 @@
 -- Assumes nothing.
 use native.Mathlib.Omega.{arith}
 use Rattle.map.specs.Memory.{base}
-use Rattle.reckon.proofs.Reckons.{base-shape, begun-counted, reckoned-is}
+use Rattle.reckon.proofs.Reckons.{begun-counted, reckoned-is}
 use borrow.Author.Needs.{needs}
 use Rattle.reckon.proofs.reckon_map.Statement.{statement}
 use Rattle.reckon.proofs.reckon_map.Tie as tie
+use Rattle.map.proofs.Theorems.{base-shape}
 
 -- src/lib.rt:103:41
 slice-aggregate-begin : tie.Need-slice-aggregate-begin

@@ -3,10 +3,11 @@
 use mathlib.Core.Path.{sym, _∙_}
 use native.Mathlib.Omega.{arith}
 use Rattle.map.specs.Memory.{base}
-use Rattle.search.proofs.Accepts.{granted, base-shape, refused-call, accepted-call}
+use Rattle.search.proofs.Accepts.{granted, refused-call, accepted-call}
 use borrow.Author.Needs.{needs}
 use Rattle.search.proofs.search_from.Statement.{statement}
 use Rattle.search.proofs.search_from.Tie as tie
+use Rattle.map.proofs.Theorems.{base-shape}
 
 search-refusal-requires : tie.Need-search-refusal-requires
 search-refusal-requires c κs = search needs
