@@ -5,6 +5,9 @@ mod maps;
 use map::Record;
 use maps::first_answer;
 use maps::line;
+use testbed::lent::same_words;
+use testbed::record::same_record;
+use testbed::tally::both;
 
 fn print_order(a_first: bool) {
     if a_first {
@@ -24,45 +27,10 @@ fn print_figures(rec: Record) {
     io::write_all(1, b") ");
 }
 
-// Whether two tables are equal word for word.
-fn equal(a: &[u64], b: &[u64]) -> bool {
-    if a.len() != b.len() {
-        return false;
-    }
-    let mut i = 0;
-    while i < a.len() {
-        if a[i] != b[i] {
-            return false;
-        }
-        i += 1;
-    }
-    true
-}
-
-fn same_codes(r: Record, s: Record) -> bool {
-    let c = r.codes;
-    let d = s.codes;
-    equal(&c, &d)
-}
-
 // Whether two maps are equal: record, link table and pair table.
 fn same(r: Record, s: Record, l: &[u64], m: &[u64], p: &[u64], q: &[u64]) -> bool {
-    if r.number != s.number {
-        return false;
-    }
-    if r.chain != s.chain {
-        return false;
-    }
-    if r.count != s.count {
-        return false;
-    }
-    if !same_codes(r, s) {
-        return false;
-    }
-    if !equal(l, m) {
-        return false;
-    }
-    equal(p, q)
+    let tables = both(same_words(l, m, 1024), same_words(p, q, 1024));
+    both(same_record(r, s), tables)
 }
 
 fn print_agreement(agree: bool) {
@@ -92,7 +60,7 @@ fn try_order(first: bool, second: bool, third: bool, near: u8) {
     print_figures(r3);
     let one = same(r1, r2, &l1, &l2, &p1, &p2);
     let two = same(r2, r3, &l2, &l3, &p2, &p3);
-    print_agreement(if one { two } else { false });
+    print_agreement(both(one, two));
 }
 
 // The eight orders.

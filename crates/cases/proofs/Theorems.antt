@@ -33,9 +33,10 @@ use Rattle.notice.specs.Hex.{isDigit, digitValue}
 use Rattle.notice.specs.Lines.{endOf, spellsFrame, isFrame, bytesOf, readHead}
 use Rattle.report.specs.Decimal.{spell, decimal}
 use Rattle.report.specs.Line.{outcomeText, field, figuresText}
-use Rattle.stream.specs.Stream.{streamOutput}
+use Rattle.transcript.specs.Transcript.{transcript}
 use Rattle.stream.proofs.Theorems.{pieces-alike}
-use Rattle.cases.specs.Results.{answersOf, noticesOf, AllLong, bytesIn}
+use Rattle.transcript.specs.Texts.{bytesIn}
+use Rattle.cases.specs.Results.{answersOf, noticesOf, AllLong}
 use Rattle.cases.specs.Table.{emptyResult, singleResult, sevenResult, sevenAnswers, sevenInput, sevenOutput, Cases}
 use Rattle.cases.proofs.Paths.{path-held}
 use Rattle.cases.proofs.Reckonings.{pathResult, path-result}
@@ -113,8 +114,8 @@ stream-holds cs e lent =
 
 -- ---- the stream's bytes, by computation
 
-text-holds : streamOutput (bytesIn sevenInput) ≡ bytesIn sevenOutput
-unfolding bytesIn streamOutput moved allb readHead endOf spellsFrame isFrame bytesOf isDigit digitValue outcomeText letterOf refusalOf figuresText field decimal spell
+text-holds : transcript (bytesIn sevenInput) ≡ bytesIn sevenOutput
+unfolding bytesIn transcript moved allb readHead endOf spellsFrame isFrame bytesOf isDigit digitValue outcomeText letterOf refusalOf figuresText field decimal spell
 text-holds = refl
 
 -- ---- ALL OF IT
@@ -128,5 +129,5 @@ cases-hold = record {
   emptied = λ rec links pairs l p. let e = emptied-path rec links pairs l p in (emptied-done rec links pairs l p, e .0, e .1);
   stream = stream-holds;
   text = text-holds;
-  pieces = λ s is ts out room used. pieces-alike s is ts out room ∙ ap streamOutput used ∙ text-holds;
+  pieces = λ s is ts out room used. pieces-alike s is ts out room ∙ ap transcript used ∙ text-holds;
 }

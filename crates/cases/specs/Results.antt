@@ -4,9 +4,6 @@ use mathlib.Core.Path.{_≡_}
 use mathlib.Core.Bool.{true}
 use mathlib.Core.List.{List, [], _∷_, List·Memᴰ}
 use Prim.Native.Nat.{ℕ}
-use Prim.Native.Char.{code}
-use Prim.Native.String.{String}
-use Prim.Native.String as Text
 use lib.ListN.{take}
 use Rattle.lists.specs.Lists.{range, mapl}
 use Rattle.rows.specs.Rows.{tableBit}
@@ -95,10 +92,3 @@ noticesOf (c ∷ cs) = c .notice ∷ noticesOf cs
 -- every buffer that a call is lent has its named size
 abbrev pub AllLong : List Call → Type 0
 AllLong cs = (c : Call) → List·Memᴰ c cs → longEnough base (feedOf base c .sizes) ≡ true
-
--- ---- the stream's bytes
-
--- the bytes of a text of ASCII
-unfoldable pub bytesIn : String → List ℕ
-bytesIn Text.[] = []
-bytesIn (Text._∷_ c s) = code c ∷ bytesIn s

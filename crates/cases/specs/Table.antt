@@ -18,9 +18,10 @@ use Rattle.rounds.specs.Leaves.{Lent}
 use Rattle.reckon.specs.ReckonCall.{ReckonLeft}
 use Rattle.opening.specs.History.{emptyMemory, Call, Step}
 use Rattle.report.specs.Line.{bufferLimit}
-use Rattle.stream.specs.Stream.{streamOutput}
+use Rattle.transcript.specs.Transcript.{transcript}
 use Rattle.stream.specs.Pieces.{Standing, Turn, standsAfter, usedBy, writtenBy, lastWritten, HasBegun}
-use Rattle.cases.specs.Results.{repeated, IsMapOf, Result, resultOf, answersOf, noticesOf, AllLong, bytesIn}
+use Rattle.transcript.specs.Texts.{bytesIn}
+use Rattle.cases.specs.Results.{repeated, IsMapOf, Result, resultOf, answersOf, noticesOf, AllLong}
 
 -- ---- the numbers
 
@@ -100,6 +101,6 @@ pub record Cases (emptying : Record → List ℕ → List ℕ → EmptyLeft) (re
   -- opened from the empty map, each call lent the map as the last one left it and any other memory that is long enough
   pub stream : (cs : List Call) → noticesOf cs ≡ sevenLines → AllLong cs → answersOf opening (emptyMemory base) cs ≡ sevenAnswers
   -- the stream's bytes: the whole output of the whole input; and on lent memory, however the input is cut into pieces
-  pub text : streamOutput (bytesIn sevenInput) ≡ bytesIn sevenOutput
+  pub text : transcript (bytesIn sevenInput) ≡ bytesIn sevenOutput
   pub pieces : (s : Standing) → HasBegun s → (ts : List Turn) (out : List ℕ) → bufferLimit ≤ length out → usedBy s ts ≡ bytesIn sevenInput
       → writtenBy s ts ++ lastWritten (standsAfter s ts) out ≡ bytesIn sevenOutput

@@ -14,9 +14,8 @@ use Rattle.lists.proofs.Tests.{clash, and-true, and-intro, or-true, or-left, or
 use Rattle.lists.proofs.Members.{memb-snoc}
 use Rattle.lists.proofs.Counts.{IsCounted, counted-snoc}
 use Rattle.graph.specs.Distance.{unreached}
-use Rattle.graph.specs.Chart.{Chart, destinations, ecc, Pairs, ownPairs}
+use Rattle.graph.specs.Chart.{Chart, ecc, Pairs, ownPairs}
 use Rattle.graph.specs.Rounds.{Status, waiting, skipped, searched, isWaiting, State, offer, raise, joinPairs, round}
-use Rattle.graph.specs.Opening.{shrunkCandidate}
 use Rattle.graph.proofs.Metric.{IsMetric, ecc-ge, ecc-bound}
 
 module _ (C : Chart) (metric : IsMetric C) where

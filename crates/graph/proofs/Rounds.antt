@@ -1,7 +1,7 @@
 -- THE ROUNDS END RIGHT, over any finite metric space: nothing remains, and candidate, pairs and cover are right. Assumes nothing.
 use mathlib.Core.Path.{_≡_, refl, sym, ap, _∙_}
 use mathlib.Core.Logic.{_⊎_, inl, inr}
-use mathlib.Core.Bool.{Bool, true, false, cond, not}
+use mathlib.Core.Bool.{Bool, true, false, cond}
 use mathlib.Core.List.{List, [], _∷_, List·Memᴰ, List·Memᴰ·head, List·Memᴰ·tail, List·Memᴰ·not-nil, Memᴰ·cast}
 use mathlib.Core.Option.{Option, none, some}
 use Prim.Native.Nat.{ℕ, zero, suc, _+_, _≤_, _<_}
@@ -14,9 +14,8 @@ use Rattle.lists.proofs.Tests.{look, clash}
 use Rattle.lists.proofs.Members.{filter-in, filter-out}
 use Rattle.lists.proofs.Counts.{count-lt, count-zero, count-none, counted-nil}
 use Rattle.graph.specs.Distance.{unreached}
-use Rattle.graph.specs.Chart.{Chart, destinations, ecc}
+use Rattle.graph.specs.Chart.{Chart, ecc}
 use Rattle.graph.specs.Rounds.{Status, waiting, skipped, searched, isWaiting, State, round, better, pick, remaining, orStop, rounds, start}
-use Rattle.graph.specs.Opening.{shrunkCandidate}
 use Rattle.graph.proofs.Metric.{IsMetric, ecc-ge, ecc-small}
 use Rattle.graph.proofs.Round.{Fine, Invariant, round-keeps, round-still, round-done}
 

@@ -1,11 +1,12 @@
 // The reader and the writer, beside the plain ones.
 use crate::plain;
 use crate::plain::FILL;
-use crate::tally::Tally;
-use crate::tally::both;
-use crate::tally::start;
 use notice::Reading;
 use notice::Writing;
+use testbed::lent::part;
+use testbed::tally::Tally;
+use testbed::tally::both;
+use testbed::tally::start;
 
 // One reading, beside the plain one: answer, and every byte of the frame buffer.
 fn try_read(t: Tally, input: &[u8]) -> Tally {
@@ -55,7 +56,7 @@ fn one_count(t: Tally, count: usize) -> Tally {
     plain::fill(&mut frame, count);
     frame[0] = 1;
     frame[2] = (count % 256) as u8;
-    try_write(t, plain::part(&frame, 3 + count % 256))
+    try_write(t, part(&frame, 3 + count % 256))
 }
 
 // A frame for each number of neighbours.
@@ -75,7 +76,7 @@ fn one_length(t: Tally, n: usize, kind: u8, count: u8) -> Tally {
     plain::fill(&mut frame, n);
     frame[0] = kind;
     frame[2] = count;
-    try_write(t, plain::part(&frame, n))
+    try_write(t, part(&frame, n))
 }
 
 // Frames of 0 to 299 bytes: of the kinds 0, 1 and 2, with the count 5, and with one that fits modulo 256.
@@ -128,7 +129,7 @@ fn every_start(before: Tally, line: &[u8]) -> Tally {
     let mut t = before;
     let mut n = 0;
     while n < 518 {
-        t = try_read(t, plain::part(line, n));
+        t = try_read(t, part(line, n));
         n += 1;
     }
     t

@@ -3,7 +3,6 @@
 mod lines;
 mod plain;
 mod reports;
-mod tally;
 
 use lines::all_counts;
 use lines::all_lengths;
@@ -20,41 +19,41 @@ use report::Written;
 use reports::all_reports;
 use reports::seven_lines;
 use reports::shown;
-use tally::Tally;
-use tally::print;
-use tally::start;
+use testbed::lent::first_bytes;
+use testbed::tally::Tally;
+use testbed::tally::print_as;
+use testbed::tally::start;
+
+// A line for a group.
+fn print(what: &[u8], t: Tally) {
+    print_as(what, t, b" cases, all as expected\n", b" cases, WRONG: ");
+}
 
 // Each group in turn: a failed case shows in its line, which the stored output does not have.
 fn main() {
     print(
-        b"frames of 0 to 255 neighbours, written and read back: ",
+        b"frames of 0 to 255 neighbours, written and read back",
         all_counts(),
     );
     print(
-        b"frames of 0 to 299 bytes, wrong kinds and counts among them: ",
+        b"frames of 0 to 299 bytes, wrong kinds and counts among them",
         all_lengths(),
     );
-    print(b"every byte at every place of a line: ", every_place());
-    print(b"every part of the longest line, 517 bytes: ", every_part());
+    print(b"every byte at every place of a line", every_place());
+    print(b"every part of the longest line, 517 bytes", every_part());
     print(
-        b"lower case, other bytes, odd digits, wrong counts and kinds, no end, empty, 0D: ",
+        b"lower case, other bytes, odd digits, wrong counts and kinds, no end, empty, 0D",
         named_lines(),
     );
-    print(
-        b"lines with others or noise behind them: ",
-        readable_lines(),
-    );
-    print(
-        b"buffers of 257, 258, 516, 517, 47 and 48 bytes: ",
-        buffers(),
-    );
-    print(b"report lines of every count of digits: ", all_reports());
-    print(b"the seven lines of the document: ", seven_lines());
+    print(b"lines with others or noise behind them", readable_lines());
+    print(b"buffers of 257, 258, 516, 517, 47 and 48 bytes", buffers());
+    print(b"report lines of every count of digits", all_reports());
+    print(b"the seven lines of the document", seven_lines());
 }
 
 // Whether the reader, lent the first bytes of a buffer, answers this refusal, 0 for none.
 fn read_into(lent: &mut [u8], size: usize, refusal: u8) -> bool {
-    match notice::read_notice(b"010500\n", plain::part_mut(lent, size)) {
+    match notice::read_notice(b"010500\n", first_bytes(lent, size)) {
         Reading::Frame(_, _) => refusal == 0,
         Reading::Refused(k) => k == refusal,
     }
@@ -62,7 +61,7 @@ fn read_into(lent: &mut [u8], size: usize, refusal: u8) -> bool {
 
 // The same of the writer.
 fn write_into(lent: &mut [u8], size: usize, frame: &[u8], refusal: u8) -> bool {
-    match notice::write_notice(frame, plain::part_mut(lent, size)) {
+    match notice::write_notice(frame, first_bytes(lent, size)) {
         Writing::Line(_) => refusal == 0,
         Writing::Refused(k) => k == refusal,
     }
@@ -71,7 +70,7 @@ fn write_into(lent: &mut [u8], size: usize, frame: &[u8], refusal: u8) -> bool {
 // The same of the report line.
 fn report_into(lent: &mut [u8], size: usize, refusal: u8) -> bool {
     let r = shown(1, Outcome::Accepted(Change::Kept), 1, 0, 0, 1);
-    match report::write_report(plain::part_mut(lent, size), r) {
+    match report::write_report(first_bytes(lent, size), r) {
         Written::Line(_) => refusal == 0,
         Written::Refused(k) => k == refusal,
     }

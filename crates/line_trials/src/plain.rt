@@ -163,22 +163,6 @@ fn put(out: &mut [u8], at: usize, b: u8) -> usize {
     at
 }
 
-// The first n bytes, or all where there are fewer.
-pub fn part(s: &[u8], n: usize) -> &[u8] {
-    if s.len() < n {
-        return s;
-    }
-    &s[..n]
-}
-
-// The same of a buffer that is lent on.
-pub fn part_mut(s: &mut [u8], n: usize) -> &mut [u8] {
-    if s.len() < n {
-        return s;
-    }
-    &mut s[..n]
-}
-
 // A byte as a number.
 fn wide(x: u8) -> usize {
     x as usize

@@ -1,15 +1,16 @@
 // The report line beside the plain one, and the stream of the document.
 use crate::plain;
 use crate::plain::FILL;
-use crate::tally::Tally;
-use crate::tally::both;
-use crate::tally::start;
 use notice::Reading;
 use notice::Writing;
 use outcome::Change;
 use outcome::Outcome;
 use report::Report;
 use report::Written;
+use testbed::lent::part;
+use testbed::tally::Tally;
+use testbed::tally::both;
+use testbed::tally::start;
 
 // One report, beside the plain one: answer, every byte of the buffer, and the part handed back.
 fn try_report(t: Tally, r: Report) -> Tally {
@@ -98,8 +99,8 @@ pub fn all_reports() -> Tally {
 // Whether the first bytes of a buffer are a frame whose line is this text.
 fn writes_back(frame: &[u8], n: usize, text: &[u8]) -> bool {
     let mut line = [FILL; 517];
-    match notice::write_notice(plain::part(frame, n), &mut line) {
-        Writing::Line(k) => check::same(plain::part(&line, k), text),
+    match notice::write_notice(part(frame, n), &mut line) {
+        Writing::Line(k) => check::same(part(&line, k), text),
         Writing::Refused(_) => false,
     }
 }

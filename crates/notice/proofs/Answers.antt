@@ -10,7 +10,7 @@ use lib.Seq.{length-take-le}
 use borrow.Author.Tests.{lt-ltb, le-ltb}
 use Rattle.outcome.specs.Numbers.{shortBuffer, garbledLine}
 use Rattle.lists.specs.Lists.{overwrite}
-use Rattle.notice.specs.Lines.{lineLimit, lineEnd, isFrame, digitsOf, lineOf, bytesOf, endOf, spellsFrame, frame, readHead, readLine}
+use Rattle.notice.specs.Lines.{lineLimit, lineEnd, isFrame, digitsOf, lineOf, bytesOf, endOf, spellsFrame, readHead, readLine}
 use Rattle.notice.specs.Calls.{frameLimit, lineDone, lineRefused, lineLeft, readInto, readCall, writeCall}
 use Rattle.notice.proofs.Copies.{overwrite-snoc}
 use Rattle.notice.proofs.Spelling.{length-digits, length-line, length-bytes}

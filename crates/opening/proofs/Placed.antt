@@ -1,6 +1,6 @@
 -- WHAT THE PARTS OF AN OPENING LEAVE, put together: with the code in the open set and its links in place the memory holds the new network, whose
 -- figures the step asks for; and the step's answer is the call's. Assumes nothing.
-use mathlib.Core.Path.{_≡_, refl, sym, ap, ap₂, _∙_, subst}
+use mathlib.Core.Path.{_≡_, refl, sym, ap, _∙_, subst}
 use mathlib.Core.Logic.{_⊎_, inl, inr}
 use mathlib.Core.Bool.{Bool, true, false, cond, _&&_, _||_}
 use mathlib.Core.List.{List}
@@ -9,11 +9,10 @@ use native.Mathlib.Omega.{arith}
 use lib.Dec.{T, eqb, ltb}
 use lib.ListN.{length, getD}
 use borrow.Author.Tests.{eq-eqb, ne-eqb, ltb-false}
-use Rattle.lists.specs.Lists.{range, memb, overwrite}
+use Rattle.lists.specs.Lists.{memb, overwrite}
 use Rattle.lists.proofs.Tests.{look, or-left, or-right, true→t, t→true}
 use Rattle.graph.specs.Network.{Network}
-use Rattle.graph.specs.Distance.{vertices}
-use Rattle.graph.specs.Chart.{chart, countPairs}
+use Rattle.graph.specs.Chart.{chart}
 use Rattle.graph.specs.Opening.{Notice, addDepot, opening, grew, kept, shrank}
 use Rattle.graph.specs.Opening as Graph
 use Rattle.graph.specs.Correct.{IsNet}
@@ -23,11 +22,11 @@ use Rattle.rows.proofs.Puts.{put-row}
 use Rattle.rows.proofs.Wholes.{row-whole, encode-row-ext}
 use Rattle.rows.proofs.Written.{row-read}
 use Rattle.layers.specs.Layers.{tables}
-use Rattle.map.specs.Memory.{Shape, IsShape, places, tableWords, base, networkOf}
+use Rattle.map.specs.Memory.{base, networkOf}
 use Rattle.map.specs.Sound.{AreFiguresSound}
 use Rattle.map.specs.declared.Record.{Record}
 use Rattle.map.proofs.Theorems.{network-linked-below}
-use Rattle.rounds.specs.Leaves.{Lent, lent, Ran, ran, ranBy, roundsLeave}
+use Rattle.rounds.specs.Leaves.{Lent, lent, Ran, ran, ranBy}
 use Rattle.rounds.specs.Sizes.{Sizes, sizes}
 use Rattle.reckon.proofs.Longs.{AreLong, are-long}
 use Rattle.outcome.specs.declared.Change.{Change}
@@ -35,9 +34,9 @@ use Rattle.outcome.specs.declared.Outcome.{Outcome}
 use Rattle.outcome.specs.declared.Outcome.the-variants.{Accepted}
 use Rattle.admission.proofs.Theorems.{linked-after, linked-is}
 use Rattle.figures.specs.Figured.{changeAs, Figured, figured, figuredBy, IsFigurable}
-use Rattle.opening.specs.OpenCall.{changeOf, openRefusal, networkAfter, openedBy, OpenLeft, openLeft, openGiven}
+use Rattle.opening.specs.OpenCall.{changeOf, openRefusal, networkAfter, openedBy, OpenLeft, openGiven}
 use Rattle.opening.specs.Steps.{noticeOf}
-use Rattle.opening.proofs.Grants.{granted-long, granted-net, granted-figures, held-after, number-after}
+use Rattle.opening.proofs.Grants.{granted-long, granted-figures, held-after, number-after}
 use Rattle.opening.proofs.Theorems.{base-shape}
 
 -- ---- the open set

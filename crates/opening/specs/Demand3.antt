@@ -8,7 +8,7 @@ use mathlib.Core.List.{List, [], _∷_, _++_, List·Memᴰ}
 use Prim.Native.Nat.{ℕ, _<_}
 use lib.Dec.{T, ltb}
 use Rattle.lists.specs.Lists.{allb}
-use Rattle.graph.specs.Network.{Network, IsDiameter}
+use Rattle.graph.specs.Network.{IsDiameter}
 use Rattle.graph.specs.Chart.{diameter}
 use Rattle.graph.specs.Opening.{Notice, emptyNetwork}
 use Rattle.map.specs.Memory.{Shape, places}

@@ -10,7 +10,6 @@ use Rattle.map.specs.Memory.{Shape, tableWords}
 use Rattle.map.specs.Empty.{zeros, emptyRecord}
 use Rattle.map.specs.declared.Record.{Record}
 use Rattle.rounds.specs.Leaves.{Lent}
-use Rattle.rounds.specs.Sizes.{Sizes}
 use Rattle.outcome.specs.declared.Outcome.{Outcome}
 use Rattle.opening.specs.OpenCall.{OpenLeft}
 use Rattle.opening.specs.PlainList.{Feed}

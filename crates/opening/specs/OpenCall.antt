@@ -8,7 +8,6 @@ use Rattle.lists.specs.Lists.{range, overwrite, firstOf}
 use Rattle.graph.specs.Network.{Network}
 use Rattle.graph.specs.Distance.{connected}
 use Rattle.graph.specs.Chart.{chart, countPairs}
-use Rattle.graph.specs.Rounds.{State}
 use Rattle.graph.specs.Opening.{Notice, addDepot, noticeFaults, Change, grew, kept, shrank, Opened, opening}
 use Rattle.rows.specs.Rows.{tableBit, encodeRow, encodeTable}
 use Rattle.map.specs.Memory.{Shape, places, networkOf}

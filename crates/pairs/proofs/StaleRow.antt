@@ -9,16 +9,16 @@ use native.Mathlib.Omega.{arith}
 use lib.Dec.{eqb, ltb}
 use lib.ListN.{length, getD, take, drop}
 use lib.Seq.{getD-take, getD-drop}
-use borrow.Author.Tests.{eq-eqb, ne-eqb, lt-ltb, le-ltb}
-use Rattle.lists.specs.Lists.{range, countb, maxOf, overwrite}
-use Rattle.lists.proofs.Tests.{eq-or-ne, lt-or-ge}
-use Rattle.lists.proofs.Members.{length-range}
+use borrow.Author.Tests.{eq-eqb, ne-eqb, lt-ltb, le-ltb, not-true}
+use Rattle.lists.specs.Lists.{range, anyb, countb, maxOf, overwrite}
+use Rattle.lists.proofs.Tests.{t→true, clash, not→false, eq-or-ne, lt-or-ge}
+use Rattle.lists.proofs.Members.{any-intro, range-in, length-range}
 use Rattle.lists.proofs.Counts.{count-le-length}
 use Rattle.words.specs.Bits.{bit}
 use Rattle.graph.specs.Chart.{Pairs}
 use Rattle.rows.specs.Rows.{rowBit, tableBit, encodeTable, putBit}
 use Rattle.rows.specs.Next.{IsNext}
-use Rattle.rows.proofs.Written.{row-in, table-in, table-at}
+use Rattle.rows.proofs.Written.{row-past, row-in, table-in, table-at}
 use Rattle.rows.proofs.Wholes.{table-whole, encode-table-ext}
 use Rattle.rows.proofs.Places.{row-fits}
 use Rattle.rows.proofs.Puts.{put-table}
@@ -197,3 +197,16 @@ module _ (W : ℕ) (hops : List ℕ) (D u : ℕ) (t₀ : List ℕ) where
 -- fewer pairs stay than codes are passed
 pub row-few : {W : ℕ} {hops : List ℕ} {D u : ℕ} {t₀ t : List ℕ} {n w at : ℕ} → RowDropping W hops D u t₀ t n w at → n ≤ at
 row-few {W} {hops} {D} {u} {t₀} {at = at} i = omega (arith, i .count, count-le-length (staying W hops D t₀ u) (range at), length-range at)
+
+-- ---- a row without a pair
+
+-- the test of the row says that no bit is set
+pub row-bare : (W : ℕ) (row : List ℕ) → true ≡ not (anyb (rowBit W row) (range (64 * W))) → (k : ℕ) → 0 ≤ k → rowBit W row k ≡ false
+row-bare W row e k l = go (lt-or-ge k (64 * W))
+  where
+    none : anyb (rowBit W row) (range (64 * W)) ≡ false
+    none = not-true (anyb (rowBit W row) (range (64 * W))) (sym e)
+
+    go : (k < 64 * W) ⊎ (64 * W ≤ k) → rowBit W row k ≡ false
+    go (inl h) = not→false (rowBit W row k) (λ t. clash (any-intro (rowBit W row) (range (64 * W)) (range-in (64 * W) h) (t→true (rowBit W row k) t)) none)
+    go (inr h) = row-past W row k h

@@ -105,8 +105,8 @@ fn way_by(hops: &[u16], u: usize, v: usize, chain: u16) -> u16
     chain
 }
 
-// Drops the stale pairs of row u: those whose way is below chain.
-fn drop_row(pairs: &mut [u64], hops: &[u16], words: usize, u: usize, chain: u16) -> Dropping
+// Drops the stale pairs of row u, member by member: those whose way is below chain.
+fn drop_members(pairs: &mut [u64], hops: &[u16], words: usize, u: usize, chain: u16) -> Dropping
     requires { ⌜ Reckoned words (now pairs) (now hops) × (u < 64 * words) ⌝ }
     ensures { λ r. ⌜ dropped (tally (now (pairs .exit)) (r .count)) (r .way) ≡ dropRowOf words (now (hops .entry)) chain u (now (pairs .entry)) ⌝ }
 {
@@ -132,6 +132,18 @@ fn drop_row(pairs: &mut [u64], hops: &[u16], words: usize, u: usize, chain: u16)
             from = v + 1;
         }
     }
+}
+
+// Drops the stale pairs of row u. Most rows have none at all, and these are left at the first look.
+fn drop_row(pairs: &mut [u64], hops: &[u16], words: usize, u: usize, chain: u16) -> Dropping
+    requires { ⌜ Reckoned words (now pairs) (now hops) × (u < 64 * words) ⌝ }
+    ensures { λ r. ⌜ dropped (tally (now (pairs .exit)) (r .count)) (r .way) ≡ dropRowOf words (now (hops .entry)) chain u (now (pairs .entry)) ⌝ }
+{
+    let base = words * u;
+    if rows::is_empty(&pairs[base..], words) {
+        return Dropping { count: 0, way: 0 };
+    }
+    drop_members(pairs, hops, words, u, chain)
 }
 
 // Drops the stale pairs of the table, row by row in the table itself, and answers what is left of them and the greatest way that was there.

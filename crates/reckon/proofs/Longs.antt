@@ -1,6 +1,6 @@
 -- The seven sizes, by the code's seven tests. Assumes nothing.
-use mathlib.Core.Path.{_≡_, refl}
-use mathlib.Core.Bool.{Bool, true, false, _&&_}
+use mathlib.Core.Path.{_≡_}
+use mathlib.Core.Bool.{true, false, _&&_}
 use Prim.Native.Nat.{ℕ, _≤_, _<_}
 use lib.Dec.{leb}
 use borrow.Author.Tests.{leb-true, le-leb, lt-leb}

@@ -5,7 +5,6 @@ use mathlib.Core.List.{List, [], _∷_}
 use Prim.Native.Nat.{ℕ, zero, suc}
 use lib.ListN.{length}
 use Rattle.lists.specs.Lists.{range, firstOf}
-use Rattle.graph.specs.Network.{Network}
 use Rattle.graph.specs.Distance.{connected}
 use Rattle.graph.specs.Chart.{chart, countPairs}
 use Rattle.graph.specs.Rounds.{State, reckon}

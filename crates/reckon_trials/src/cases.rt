@@ -1,38 +1,22 @@
 // Reckonings on many networks beside the plain search. Every lent place holds 7 before a call, and the record's figures are false.
 use crate::compare;
-use crate::flags;
-use crate::flags::bit;
-use crate::networks;
-use crate::networks::Plan;
-use crate::plain;
-use crate::plain::number;
-use crate::tally;
-use crate::tally::Tally;
-use crate::tally::both;
-use crate::tally::print;
-use crate::tally::seen;
 use map::Record;
 use reckon::Reckoning;
-
-// A record of these codes with false figures.
-pub fn record(codes: [u64; 4], number: usize) -> Record {
-    Record {
-        codes,
-        number: (number % 65536) as u16,
-        chain: 999,
-        count: 5,
-    }
-}
-
-// The tables of a network: as bytes, and packed into words.
-pub fn lend(links: &mut [u64], codes: &mut [u64], depots: &mut [u8], near: &mut [u8], p: Plan) {
-    networks::build(depots, near, p);
-    flags::pack(links, 1024, &*near);
-    flags::pack(codes, 4, &*depots);
-}
+use testbed::flags::bit;
+use testbed::networks::Kind;
+use testbed::networks::Plan;
+use testbed::plain;
+use testbed::plain::number;
+use testbed::record::lend;
+use testbed::record::record;
+use testbed::tally;
+use testbed::tally::Tally;
+use testbed::tally::both;
+use testbed::tally::print;
+use testbed::truth;
 
 // Whether a reckoning gives what the plain distances say, and keeps what stands past its buffers' sizes.
-fn agrees(links: &[u64], rec: Record, depots: &[u8], dist: &[u16]) -> bool {
+fn agrees(links: &[u64], rec: Record, dist: &[u16]) -> bool {
     let mut pairs = [7u64; 1030];
     let mut hops = [7u16; 260];
     let mut bounds = [7u16; 260];
@@ -53,7 +37,7 @@ fn agrees(links: &[u64], rec: Record, depots: &[u8], dist: &[u16]) -> bool {
     let after = got.after;
     let past = compare::kept(&pairs, &hops, &bounds, &skips, &even, &odd, 1024, 256, 4);
     let figures = compare::figures_are(answer, after, rec, &pairs, &skips, dist);
-    let marks = compare::marks_are(&bounds, &skips, depots, dist);
+    let marks = truth::marks_are(&bounds, &skips, dist);
     both(past, both(figures, marks))
 }
 
@@ -65,9 +49,9 @@ fn try_plan(t: Tally, p: Plan) -> Tally {
     let mut codes = [0u64; 4];
     let mut dist = [65535u16; 65536];
     lend(&mut links, &mut codes, &mut depots, &mut near, p);
-    plain::all_distances(&mut dist, &depots, &near);
+    plain::all_distances(&mut dist, 0, &depots, &near);
     let rec = record(codes, p.size);
-    seen(t, agrees(&links, rec, &depots, &dist))
+    t.seen(agrees(&links, rec, &dist))
 }
 
 // The sizes that each kind of network is tried with.
@@ -90,7 +74,7 @@ fn size(k: u8) -> usize {
 }
 
 // All networks of a kind.
-fn try_kind(kind: u8) -> Tally {
+fn try_kind(kind: Kind) -> Tally {
     let mut t = tally::start();
     let mut k: u8 = 0;
     while k < 13 {
@@ -144,7 +128,7 @@ fn path_gives(t: Tally, n: usize, chain: u16, count: u32, w: Want) -> Tally {
     let mut links = [0u64; 1024];
     let mut codes = [0u64; 4];
     let path = Plan {
-        kind: 0,
+        kind: Kind::Path,
         size: n,
         spread: 0,
         shift: 0,
@@ -174,7 +158,7 @@ fn path_gives(t: Tally, n: usize, chain: u16, count: u32, w: Want) -> Tally {
     );
     let answer = got.answer;
     let after = got.after;
-    seen(t, is_wanted(w, answer, after, &pairs, &bounds, &skips))
+    t.seen(is_wanted(w, answer, after, &pairs, &bounds, &skips))
 }
 
 // The empty map, a single depot, and the path of seven: 4 is skipped for 3. Its figures before are true, false, and out of range.
@@ -211,14 +195,14 @@ fn small() -> Tally {
 }
 
 pub fn all_groups() {
-    print(b"paths", try_kind(0));
-    print(b"cycles", try_kind(1));
-    print(b"stars", try_kind(2));
-    print(b"complete networks", try_kind(3));
-    print(b"grids", try_kind(4));
-    print(b"trees", try_kind(5));
-    print(b"random trees", try_kind(6));
-    print(b"random networks, few links", try_kind(7));
-    print(b"random networks, many links", try_kind(8));
+    print(b"paths", try_kind(Kind::Path));
+    print(b"cycles", try_kind(Kind::Ring));
+    print(b"stars", try_kind(Kind::Star));
+    print(b"complete networks", try_kind(Kind::Complete));
+    print(b"grids", try_kind(Kind::Grid));
+    print(b"trees", try_kind(Kind::Tree));
+    print(b"random trees", try_kind(Kind::Random(0)));
+    print(b"random networks, few links", try_kind(Kind::Random(2)));
+    print(b"random networks, many links", try_kind(Kind::Random(20)));
     print(b"no depot, one, and a path of seven", small());
 }

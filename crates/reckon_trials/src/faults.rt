@@ -1,33 +1,19 @@
 // Reckonings that are refused: each is held to its number, and to leaving every place as it was.
-use crate::cases::lend;
-use crate::cases::record;
 use crate::compare::kept;
-use crate::compare::same_depots;
-use crate::flags::flip;
-use crate::networks::Plan;
-use crate::tally;
-use crate::tally::Tally;
-use crate::tally::both;
-use crate::tally::print;
-use crate::tally::seen;
 use map::Record;
 use reckon::Reckoning;
-
-// The first n places of a buffer that is lent on, or the whole of a shorter one.
-fn first_numbers(s: &mut [u16], n: usize) -> &mut [u16] {
-    if s.len() < n {
-        return s;
-    }
-    &mut s[..n]
-}
-
-// The same of words.
-fn first_words(s: &mut [u64], n: usize) -> &mut [u64] {
-    if s.len() < n {
-        return s;
-    }
-    &mut s[..n]
-}
+use testbed::flags::flip;
+use testbed::lent::first_numbers;
+use testbed::lent::first_words;
+use testbed::networks::Kind;
+use testbed::networks::Plan;
+use testbed::record::lend;
+use testbed::record::record;
+use testbed::record::same_record;
+use testbed::tally;
+use testbed::tally::Tally;
+use testbed::tally::both;
+use testbed::tally::print;
 
 // The size lent of buffer i: one less than it needs where it is the short one.
 fn size(need: usize, i: usize, short: usize) -> usize {
@@ -42,8 +28,7 @@ fn is_refused(answer: Reckoning, after: Record, rec: Record, k: u8) -> bool {
     let Reckoning::Refused(n) = answer else {
         return false;
     };
-    let figures = both(after.chain == rec.chain, after.count == rec.count);
-    both(both(n == k, figures), same_depots(after, rec))
+    both(n == k, same_record(after, rec))
 }
 
 // A reckoning whose refusal is k, its buffer number `short` being short: 1 to 7, or none.
@@ -68,7 +53,7 @@ fn gives(t: Tally, links: &mut [u64], rec: Record, short: usize, k: u8) -> Tally
     let answer = got.answer;
     let after = got.after;
     let left = kept(&pairs, &hops, &bounds, &skips, &even, &odd, 0, 0, 0);
-    seen(t, both(left, is_refused(answer, after, rec, k)))
+    t.seen(both(left, is_refused(answer, after, rec, k)))
 }
 
 // Each buffer short, on a sound map and on a spoilt one.
@@ -119,7 +104,7 @@ pub fn all_groups() {
     let mut links = [0u64; 1024];
     let mut codes = [0u64; 4];
     let grid = Plan {
-        kind: 4,
+        kind: Kind::Grid,
         size: 100,
         spread: 0,
         shift: 0,

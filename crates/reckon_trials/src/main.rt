@@ -3,10 +3,6 @@
 mod cases;
 mod compare;
 mod faults;
-mod flags;
-mod networks;
-mod plain;
-mod tally;
 
 fn main() {
     cases::all_groups();

@@ -1,13 +1,13 @@
 -- Bounds, marks and remaining depots of a round in lent memory are the network's. Assumes nothing.
-use mathlib.Core.Path.{_≡_, refl, sym, ap, ap₂, _∙_, subst}
-use mathlib.Core.Logic.{_≢_, _⊎_, inl, inr}
+use mathlib.Core.Path.{_≡_, refl, ap, _∙_}
+use mathlib.Core.Logic.{_⊎_, inl, inr}
 use mathlib.Core.Bool.{Bool, true, false, cond, not, _&&_}
 use mathlib.Core.List.{List}
 use Prim.Native.Nat.{ℕ, _+_, _*_, _≤_, _<_, min}
 use native.Mathlib.Omega.{arith}
 use lib.Dec.{eqb, ltb}
-use lib.ListN.{length, getD, set}
-use borrow.Author.Tests.{eqb-true, eqb-false, eq-eqb, ne-eqb, ltb-true, ltb-false}
+use lib.ListN.{getD, set}
+use borrow.Author.Tests.{eqb-true, eq-eqb, ne-eqb, ltb-true, ltb-false}
 use Rattle.lists.specs.Lists.{range, mapl, overwrite}
 use Rattle.lists.proofs.Tests.{look}
 use Rattle.lists.proofs.Fills.{overwrite-twice, length-fill, fill-at, fill-ext}
@@ -19,7 +19,7 @@ use Rattle.rows.specs.Rows.{rowBit, encodeRow, putBit}
 use Rattle.rows.proofs.Written.{row-at}
 use Rattle.rows.proofs.Wholes.{encode-row-ext, row-over}
 use Rattle.rows.proofs.Puts.{put-row}
-use Rattle.bounds.specs.Bounds.{Marks, marks, leaveOf, boundAfter, skipAfter, waitingAfter, relaxOf}
+use Rattle.bounds.specs.Bounds.{Marks, leaveOf, boundAfter, skipAfter, waitingAfter, relaxOf}
 use Rattle.rounds.proofs.Holding.{runBound, runMark, boundPlace, skipPlace, waitingPlace}
 
 -- ---- one depot that is not the reference

@@ -1,33 +1,28 @@
 -- The pairs of a round in the pair table are the network's. Assumes nothing.
-use mathlib.Core.Path.{_≡_, refl, sym, ap, ap₂, _∙_, subst}
+use mathlib.Core.Path.{_≡_, ap, ap₂, _∙_}
 use mathlib.Core.Logic.{_⊎_, inl, inr}
 use mathlib.Core.Bool.{Bool, true, false, cond, not, _&&_, _||_}
-use mathlib.Core.List.{List, [], _∷_, List·Memᴰ, List·Memᴰ·head, List·Memᴰ·tail}
-use Prim.Native.Nat.{ℕ, _+_, _*_, _%_, _≤_, _<_}
+use mathlib.Core.List.{List}
+use Prim.Native.Nat.{ℕ, _*_, _%_, _<_}
 use native.Mathlib.Nat.{lt-irrefl}
 use native.Mathlib.Omega.{arith}
 use lib.Dec.{T, eqb, ltb}
-use lib.ListN.{length}
-use borrow.Author.Tests.{eqb-true, eqb-false, eq-eqb, ne-eqb, lt-ltb}
-use Rattle.lists.specs.Lists.{range, sumOf, countb, overwrite}
-use Rattle.lists.proofs.Tests.{look, t→true, true→t, clash, and-true, and-intro, or-true, or-left, or-right, same-test}
-use Rattle.lists.proofs.Members.{range-out}
-use Rattle.lists.proofs.Fills.{overwrite-twice}
-use Rattle.lists.proofs.RangeCounts.{count-same}
+use borrow.Author.Tests.{eqb-true, eqb-false, eq-eqb}
+use Rattle.lists.specs.Lists.{range, overwrite}
+use Rattle.lists.proofs.Tests.{look, t→true, clash, and-true, and-intro, or-true, same-test}
 use Rattle.graph.specs.Network.{Network}
-use Rattle.graph.specs.Distance.{vertices, unreached, dist}
+use Rattle.graph.specs.Distance.{unreached, dist}
 use Rattle.graph.specs.Chart.{chart, ecc, Pairs, countPairs, ownPairs}
 use Rattle.graph.specs.Rounds.{joinPairs}
 use Rattle.graph.specs.Correct.{IsNet}
 use Rattle.graph.proofs.Connected.{hop-closed}
 use Rattle.graph.proofs.Metric.{ecc-small}
 use Rattle.graph.proofs.Charts.{chart-metric, depot-in}
-use Rattle.rows.specs.Rows.{rowBit, tableBit, encodeRow, encodeTable}
-use Rattle.rows.proofs.Written.{row-at, table-at, encode-table-length}
-use Rattle.rows.proofs.Wholes.{encode-table-ext}
+use Rattle.rows.specs.Rows.{rowBit, tableBit, encodeTable}
+use Rattle.rows.proofs.Written.{row-at, table-at}
 use Rattle.layers.specs.Layers.{depthFrom, layerBit, Tables, searchLeaves}
 use Rattle.layers.proofs.Theorems.{depth-is}
-use Rattle.pairs.specs.Pairs.{Tally, tally, pairsWith, tallyOf, settleOf}
+use Rattle.pairs.specs.Pairs.{tally, pairsWith, tallyOf, settleOf}
 use Rattle.pairs.proofs.Tallies.{tally-ext, table-over}
 use Rattle.rounds.specs.Workspace.{lastRow}
 

@@ -1,6 +1,6 @@
 -- WHAT ROUNDS LEAVE in lent memory (document 01, 'Opening a depot', fourth paragraph), by the state of the network's rounds.
 -- Assumes nothing.
-use mathlib.Core.Bool.{Bool, cond}
+use mathlib.Core.Bool.{cond}
 use mathlib.Core.List.{List, [], _∷_}
 use Prim.Native.Nat.{ℕ}
 use lib.ListN.{length}

@@ -1,9 +1,8 @@
 -- A LINE'S ANSWER: what the reader's answer says of the line, and what the line is then answered. Assumes nothing.
 use mathlib.Core.Path.{_≡_, refl, sym, ap, _∙_, subst}
 use mathlib.Core.List.{List}
-use Prim.Native.Nat.{ℕ, _+_, _-_, _≤_, _<_}
+use Prim.Native.Nat.{ℕ, _-_, _≤_}
 use native.Mathlib.Omega.{arith}
-use lib.Dec.{ltb}
 use lib.ListN.{length, getD, take, drop, length-drop, List·getD-append}
 use lib.Seq.{drop-append-le, take-at}
 use borrow.Author.Tests.{le-ltb, ltb-true}
@@ -22,7 +21,7 @@ use Rattle.notice.proofs.Theorems.{read-frame}
 use Rattle.opening.specs.OpenCall.{OpenLeft, openLeft, openCall}
 use Rattle.opening.specs.Steps.{noticeOf, refusedWith}
 use Rattle.opening.specs.declared.Opened.{Opened}
-use Rattle.stream.specs.Stream.{noticeIn}
+use Rattle.transcript.specs.Transcript.{noticeIn}
 use Rattle.stream.specs.Feeding.{answerTo}
 
 -- the reader on a frame buffer that is long enough

@@ -19,12 +19,12 @@ use Rattle.notice.specs.Lines.{lineLimit, lineEnd, isByte, Line, garbled, frame
 use Rattle.notice.proofs.Tests.{frame-parts}
 use Rattle.notice.proofs.Ends.{all-at}
 use Rattle.notice.proofs.Theorems.{read-frame}
-use Rattle.opening.specs.OpenCall.{OpenLeft}
 use Rattle.opening.specs.Steps.{mapRefusal}
 use Rattle.opening.proofs.Theorems.{base-shape}
 use Rattle.opening.proofs.Keeps.{map-kept}
-use Rattle.stream.specs.Stream.{noticeIn}
-use Rattle.stream.specs.Feeding.{IsReady, Holding, holding, holdByte, PartLeft, partFrom, answerTo, Feeding, feeding, progressOf, fedOf, stopped, tookLine, heldByte, takeByte, feedBytes, feedCall}
+use Rattle.transcript.specs.Transcript.{noticeIn}
+use Rattle.lines.specs.Lines.{Holding, holding, holdByte, PartLeft, partFrom}
+use Rattle.stream.specs.Feeding.{IsReady, answerTo, Feeding, feeding, progressOf, fedOf, stopped, tookLine, heldByte, takeByte, feedBytes, feedCall}
 use Rattle.stream.specs.declared.Progress.{Progress}
 
 -- ---- a part of the piece

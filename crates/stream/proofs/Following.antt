@@ -5,24 +5,21 @@ use mathlib.Core.Bool.{Bool, true, false, not}
 use mathlib.Core.List.{List, _∷_}
 use Prim.Native.Nat.{ℕ, zero, suc, _<_}
 use native.Mathlib.Omega.{arith}
-use lib.Dec.{T}
-use lib.ListN.{length, getD}
+use lib.ListN.{getD}
 use borrow.Author.Tests.{ltb-true}
 use Rattle.lists.specs.Lists.{range, filterb, countb, sumOf, overwrite, firstOf}
 use Rattle.lists.proofs.Tests.{t→true, true→t, clash, not→false}
 use Rattle.lists.proofs.Counts.{count-filter, count-none, sum-filter, sum-ext}
-use Rattle.rows.specs.Rows.{tableBit}
 use Rattle.graph.specs.Network.{Network}
 use Rattle.graph.specs.Distance.{vertices}
-use Rattle.graph.specs.Chart.{chart, Pairs, diameter, farthest, countPairs}
-use Rattle.graph.specs.Opening.{Notice, emptyNetwork, addDepot, noticeFaults, opening}
+use Rattle.graph.specs.Chart.{diameter, farthest, countPairs}
+use Rattle.graph.specs.Opening.{Notice, emptyNetwork, addDepot, noticeFaults}
 use Rattle.graph.proofs.Theorems.{farthest-is}
 use Rattle.map.specs.Memory.{base, places, tableWords}
 use Rattle.map.specs.Empty.{zeros, emptyRecord}
 use Rattle.map.specs.declared.Record.{Record}
 use Rattle.rounds.specs.Leaves.{Lent}
-use Rattle.rounds.specs.Sizes.{Sizes, sizesOf, longEnough}
-use Rattle.outcome.specs.declared.Outcome.{Outcome}
+use Rattle.rounds.specs.Sizes.{sizesOf, longEnough}
 use Rattle.notice.specs.Lines.{isByte, Line, garbled, frame, readLine}
 use Rattle.notice.proofs.Tests.{frame-parts}
 use Rattle.notice.proofs.Ends.{all-at}
@@ -31,7 +28,6 @@ use Rattle.opening.specs.OpenCall.{openRefusal, networkAfter, openedBy, OpenLef
 use Rattle.opening.specs.Steps.{mapRefusal}
 use Rattle.opening.specs.PlainList.{moved, plainAnswer, plainNext}
 use Rattle.opening.specs.History.{Memory, emptyMemory}
-use Rattle.opening.specs.Demand2.{mapAfter}
 use Rattle.opening.proofs.Memories.{IsHeld, Says, writeMap, written-says, memoryFor, memory-written}
 use Rattle.opening.proofs.Grants.{after-is, held-after, figures-are-sound, links-pass, figures-pass, connected-pass, refused-alike}
 use Rattle.opening.proofs.Openings.{given-searches, opened-moved, opened-writes, says-true}
@@ -39,8 +35,9 @@ use Rattle.opening.proofs.Refuses.{refused-never}
 use Rattle.opening.proofs.Theorems.{base-shape}
 use Rattle.opening.proofs.Keeps.{sizes-kept}
 use Rattle.opening.proofs.Empties.{empty-held, empty-memory}
-use Rattle.stream.specs.Stream.{noticeIn, Followed, searchesBy, followBy, followLine, reportOn}
-use Rattle.stream.specs.Feeding.{answerTo, reportOf}
+use Rattle.transcript.specs.Transcript.{noticeIn, Followed, searchesBy, followBy, followLine, reportOn}
+use Rattle.lines.specs.Lines.{reportOf}
+use Rattle.stream.specs.Feeding.{answerTo}
 
 -- ---- the number of farthest pairs is that of pairs of open depots
 

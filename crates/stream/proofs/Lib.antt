@@ -1,13 +1,7 @@
 -- The beginning.
 pub mod Begins
--- The line buffer: a byte held, and the bytes of a piece up to the end of a line.
-pub mod Holding
 -- What the reader's answer says of the line, and the answer to it.
 pub mod Answers
--- Where the step stops.
-pub mod Stops
--- The report behind what is written.
-pub mod Reports
 -- A line taken, and the end of the stream.
 pub mod Turns
 -- The bytes of a piece, part by part; what holds at each turn of the loop.

@@ -13,8 +13,8 @@ use borrow.Author.Tests.{lt-ltb, le-ltb, not-true}
 use Rattle.lists.specs.Lists.{allb}
 use Rattle.lists.proofs.Tests.{and-true, and-intro, lt-or-ge}
 use Rattle.notice.specs.Lines.{lineLimit, lineEnd, readHead, readLine}
-use Rattle.stream.specs.Stream.{onto, linesOf}
-use Rattle.stream.specs.Feeding.{Holding, holding, holdByte}
+use Rattle.transcript.specs.Transcript.{onto, linesOf}
+use Rattle.lines.specs.Lines.{Holding, holdByte}
 
 -- no byte ends the line
 unfoldable pub isOpenLine : List ℕ → Bool

@@ -14,14 +14,14 @@ use Rattle.lists.proofs.Tests.{look}
 use Rattle.graph.specs.Network.{Network}
 use Rattle.map.specs.Memory.{base}
 use Rattle.rounds.specs.Sizes.{sizesOf, longEnough}
-use Rattle.notice.specs.Lines.{lineLimit, lineEnd, readLine}
+use Rattle.notice.specs.Lines.{lineEnd, readLine}
 use Rattle.report.specs.Line.{bufferLimit, reportLine}
-use Rattle.report.specs.declared.Report.{Report}
 use Rattle.opening.proofs.Memories.{IsHeld, Says}
-use Rattle.stream.specs.Stream.{linesLimit, linesOf, Followed, followLine, reportOn, reportsFrom}
-use Rattle.stream.specs.Feeding.{Holding, holding, holdByte, answerTo, reportOf, pasted, Feeding, stopped, tookLine, heldByte, takeByte, feedBytes}
-use Rattle.stream.proofs.Stops.{going}
-use Rattle.stream.proofs.Lines.{isOpenLine, lines-ended, lines-open, open-none, open-more, read-first, Holds, holds-byte}
+use Rattle.transcript.specs.Transcript.{linesLimit, linesOf, followLine, reportOn, reportsFrom}
+use Rattle.lines.specs.Lines.{holding, pasted}
+use Rattle.stream.specs.Feeding.{Feeding, stopped, tookLine, heldByte, takeByte, feedBytes}
+use Rattle.lines.proofs.Stops.{going}
+use Rattle.stream.proofs.Lines.{isOpenLine, lines-ended, open-none, open-more, read-first, Holds, holds-byte}
 use Rattle.stream.proofs.Following.{IsLine, line-is}
 
 pub append-append : (xs ys zs : List ℕ) → xs ++ ys ++ zs ≡ xs ++ (ys ++ zs)

@@ -1,7 +1,7 @@
 -- THE THEOREMS OF THE STREAM, about the very definitions that the contracts cite. Assumes nothing.
 use mathlib.Core.Path.{_≡_, refl, sym, ap, _∙_, subst}
 use mathlib.Core.Logic.{_⊎_}
-use mathlib.Core.Bool.{true, false}
+use mathlib.Core.Bool.{true}
 use mathlib.Core.List.{List, [], _∷_, _++_}
 use Prim.Native.Nat.{ℕ, _≤_, _<_, zero-le}
 use native.Mathlib.Nat.{zero-add}
@@ -17,14 +17,14 @@ use Rattle.report.specs.Line.{bufferLimit}
 use Rattle.opening.proofs.Memories.{Says}
 use Rattle.opening.proofs.Theorems.{base-shape}
 use Rattle.opening.proofs.Empties.{empty-held}
-use Rattle.stream.specs.Stream.{linesLimit, reportsFrom, streamOutput}
+use Rattle.transcript.specs.Transcript.{linesLimit, transcript}
 use Rattle.stream.specs.Feeding.{Begun, begun, beginCall, IsReady, Feeding, stopped, feedBytes}
 use Rattle.stream.specs.Pieces.{Standing, Turn, turnLeft, standsAfter, usedBy, writtenBy, lastWritten, HasBegun}
 use Rattle.stream.specs.declared.Progress.{Progress}
-use Rattle.stream.proofs.Stops.{stopped-lines}
+use Rattle.lines.proofs.Stops.{stopped-lines}
 use Rattle.stream.proofs.Lines.{open-none}
 use Rattle.stream.proofs.Following.{begun-says, says-free}
-use Rattle.stream.proofs.Runs.{append-none, Place, restFrom, bytes-past, bytes-all, bytes-first}
+use Rattle.stream.proofs.Runs.{append-none, Place, restFrom, bytes-all, bytes-first}
 use Rattle.stream.proofs.Turning.{entering, StandsOn, turn-is, Turned, turns-go, rest-over, finish-goes}
 
 -- ---- the beginning
@@ -32,8 +32,8 @@ use Rattle.stream.proofs.Turning.{entering, StandsOn, turn-is, Turned, 
 atStart : Place
 atStart = record { lines = 0; network = emptyNetwork (places base); begun = [] }
 
-whole-rest : (input : List ℕ) → restFrom atStart input ≡ streamOutput input
-unfolding atStart restFrom streamOutput
+whole-rest : (input : List ℕ) → restFrom atStart input ≡ transcript input
+unfolding atStart restFrom transcript
 whole-rest input = refl
 
 begun-on : (s : Standing) → HasBegun s → StandsOn atStart s
@@ -60,7 +60,7 @@ turned s is ts = turns-go ts atStart s (begun-on s is) open-none
 -- ---- HOWEVER THE INPUT IS CUT INTO PIECES, and whatever buffers are lent for the reports: what the turns and the end write is the whole output
 -- of the bytes used
 pub pieces-alike : (s : Standing) → HasBegun s → (ts : List Turn) (out : List ℕ) → bufferLimit ≤ length out
-    → writtenBy s ts ++ lastWritten (standsAfter s ts) out ≡ streamOutput (usedBy s ts)
+    → writtenBy s ts ++ lastWritten (standsAfter s ts) out ≡ transcript (usedBy s ts)
 pieces-alike s is ts out room =
     let t = turned s is ts in
     ap (λ (x : List ℕ). writtenBy s ts ++ x) (finish-goes (standsAfter s ts) out room (t .place .lines) (t .place .network) (t .place .begun) (t .stands) (t .isOpen))
@@ -70,7 +70,7 @@ pieces-alike s is ts out room =
 
 -- after the last line of a stream nothing is read: whatever follows, the output is what was written
 pub rest-unread : (s : Standing) → HasBegun s → (ts : List Turn) (rest : List ℕ) → linesLimit ≤ standsAfter s ts .progress .lines
-    → writtenBy s ts ≡ streamOutput (usedBy s ts ++ rest)
+    → writtenBy s ts ≡ transcript (usedBy s ts ++ rest)
 rest-unread s is ts rest l =
     let t = turned s is ts in
     sym (append-none (writtenBy s ts))

@@ -1,7 +1,7 @@
 -- THE TURNS, and the end of the input. Assumes nothing.
-use mathlib.Core.Path.{_≡_, refl, sym, ap, ap₂, _∙_, subst}
+use mathlib.Core.Path.{_≡_, refl, sym, ap, _∙_, subst}
 use mathlib.Core.Logic.{_⊎_, inl, inr}
-use mathlib.Core.Bool.{Bool, true, false, cond, _||_}
+use mathlib.Core.Bool.{Bool, true, false, _||_}
 use mathlib.Core.List.{List, [], _∷_, _++_}
 use Prim.Native.Nat.{ℕ, _+_, _-_, _≤_, _<_, zero-le}
 use native.Mathlib.Nat.{lt-irrefl}
@@ -14,10 +14,10 @@ use Rattle.lists.proofs.Tests.{look, or-left}
 use Rattle.graph.specs.Network.{Network}
 use Rattle.notice.specs.Lines.{readLine}
 use Rattle.report.specs.Line.{bufferLimit}
-use Rattle.stream.specs.Stream.{linesLimit, linesOf, followLine, reportsFrom}
+use Rattle.transcript.specs.Transcript.{linesLimit, linesOf, followLine, reportsFrom}
 use Rattle.stream.specs.Feeding.{Feeding, feeding, fedOf, stopped, tookLine, feedBytes, feedCall, finishCall}
 use Rattle.stream.specs.Pieces.{Standing, Turn, turnLeft, standingAfter, standsAfter, usedBy, writtenBy, lastWritten}
-use Rattle.stream.proofs.Stops.{going, stopped-lines}
+use Rattle.lines.proofs.Stops.{going, stopped-lines}
 use Rattle.stream.proofs.Lines.{isOpenLine, lines-open}
 use Rattle.stream.proofs.Runs.{append-append, append-none, Place, restFrom, StandsAt, Goes, lineReport, took-written, rest-line, bytes-go}
 

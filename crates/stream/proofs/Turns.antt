@@ -1,6 +1,6 @@
 -- A LINE TAKEN, and the end of the stream. Assumes nothing.
 use mathlib.Core.Path.{_≡_, sym}
-use mathlib.Core.Bool.{true, false, _||_}
+use mathlib.Core.Bool.{true, false}
 use mathlib.Core.List.{List}
 use Prim.Native.Nat.{ℕ, _+_}
 use lib.Dec.{eqb}
@@ -12,7 +12,8 @@ use Rattle.notice.specs.Lines.{readLine}
 use Rattle.report.specs.Line.{reportLine}
 use Rattle.opening.specs.OpenCall.{openLeft}
 use Rattle.opening.specs.declared.Opened.{Opened}
-use Rattle.stream.specs.Feeding.{answerTo, reportOf, pasted, Feeding, feeding, progressOf, fedOf, stopped, tookLine, finishCall}
+use Rattle.lines.specs.Lines.{reportOf, pasted}
+use Rattle.stream.specs.Feeding.{answerTo, Feeding, feeding, progressOf, fedOf, stopped, tookLine, finishCall}
 use Rattle.stream.specs.declared.Progress.{Progress}
 
 -- the answer to the held bytes, and its report behind what was written

@@ -1,11 +1,11 @@
 -- THE STEP OF THE STREAM on lent memory: the answer and every byte, for a piece of the input. The code's contracts are equations with `feedCall`
 -- and `finishCall`. Assumes nothing.
 use mathlib.Core.Path.{_≡_}
-use mathlib.Core.Bool.{Bool, true, false, cond, _||_}
-use mathlib.Core.List.{List, [], _∷_, _++_}
+use mathlib.Core.Bool.{Bool, cond, _||_}
+use mathlib.Core.List.{List, [], _∷_}
 use Prim.Native.Nat.{ℕ, _+_, _≤_}
-use lib.Dec.{eqb, ltb, leb}
-use lib.ListN.{length, take, drop, set}
+use lib.Dec.{eqb}
+use lib.ListN.{length, take}
 use Rattle.lists.specs.Lists.{overwrite}
 use Rattle.map.specs.Memory.{base, tableWords}
 use Rattle.map.specs.Empty.{zeros, emptyRecord}
@@ -16,13 +16,11 @@ use Rattle.outcome.specs.Numbers.{garbledLine}
 use Rattle.opening.specs.OpenCall.{OpenLeft, leftOf, openCall}
 use Rattle.opening.specs.Steps.{mapRefusal, refusedWith}
 use Rattle.notice.specs.Lines.{lineLimit, lineEnd, Line, garbled, frame, readLine}
-use Rattle.report.specs.Line.{bufferLimit, reportLine}
-use Rattle.report.specs.declared.Report.{Report}
-use Rattle.opening.specs.declared.Opened.{Opened}
-use Rattle.stream.specs.Stream.{linesLimit, noticeIn}
+use Rattle.report.specs.Line.{reportLine}
+use Rattle.transcript.specs.Transcript.{noticeIn}
+use Rattle.lines.specs.Lines.{holding, holdByte, reportOf, pasted, isStopped}
 use Rattle.stream.specs.declared.Progress.{Progress}
 use Rattle.stream.specs.declared.Fed.{Fed}
-use Rattle.stream.specs.declared.Part.{Part}
 
 -- ---- the begin
 
@@ -48,54 +46,12 @@ pub record IsReady (p : Progress) (links : List ℕ) (B : Lent) (line : List ℕ
   pub room : lineLimit ≤ length line
   pub held : p .held ≤ lineLimit
 
--- ---- the line buffer
-
--- the buffer, and how many bytes of the next line it holds
-pub record Holding : Type 0 where
-  pub line : List ℕ
-  pub held : ℕ
-
-abbrev pub holding : List ℕ → ℕ → Holding
-holding line held = record { line = line; held = held }
-
--- a byte behind those that are held; past 517 nothing is kept
-unfoldable pub holdByte : ℕ → Holding → Holding
-holdByte b h = cond (ltb (h .held) lineLimit) (holding (set (h .line) (h .held) b) (h .held + 1)) h
-
--- what the buffer takes of the bytes behind the place `at`: up to the end of a line, or all
-pub record PartLeft : Type 0 where
-  pub at : ℕ
-  pub ended : Bool
-  pub buffer : Holding
-
-abbrev pub partLeft : Part → List ℕ → PartLeft
-partLeft p line = record { at = p .at; ended = p .ended; buffer = holding line (p .held) }
-
-unfoldable pub partFrom : ℕ → Holding → List ℕ → PartLeft
-partFrom at h [] = record { at = at; ended = false; buffer = h }
-partFrom at h (b ∷ bs) = cond (eqb b lineEnd) (record { at = at + 1; ended = true; buffer = holdByte b h }) (partFrom (at + 1) (holdByte b h) bs)
-
 -- ---- a line's answer
 
 -- the reader's refusal, or the opening call of the frame
 unfoldable pub answerTo : Line → Record → List ℕ → Lent → OpenLeft
 answerTo garbled rec links B = let x = refusedWith garbledLine rec in leftOf (x .report) (x .after) links B
 answerTo (frame f used) rec links B = openCall base rec links B (noticeIn f)
-
--- the report of line n
-abbrev pub reportOf : ℕ → Opened → Report
-reportOf n x = record {
-  number = n;
-  outcome = x .report .outcome;
-  depots = x .after .number;
-  chain = x .after .chain;
-  pairs = x .after .count;
-  searches = x .report .searches;
-}
-
--- a text over the bytes from the place `at` on; those before and behind it stay
-unfoldable pub pasted : List ℕ → ℕ → List ℕ → List ℕ
-pasted text at old = take at old ++ overwrite text (drop at old)
 
 -- ---- the step
 
@@ -112,10 +68,6 @@ feeding fed links B line out = record { fed = fed; links = links; lent = B; line
 
 abbrev pub fedOf : Progress → ℕ → ℕ → Fed
 fedOf p used written = record { progress = p; used = used; written = written }
-
--- no further line may be begun: its report may not fit, or the stream has had its lines
-unfoldable pub isStopped : ℕ → ℕ → ℕ → Bool
-isStopped lines written room = ltb room (written + bufferLimit) || leb linesLimit lines
 
 abbrev pub stopped : Feeding → Bool
 stopped F = isStopped (F .fed .progress .lines) (F .fed .written) (length (F .out))

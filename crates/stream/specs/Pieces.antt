@@ -1,5 +1,5 @@
--- WHAT IS PROVED OF THE STREAM: however the input is cut into pieces, and whatever buffers are lent for the reports, the output is that of
--- Stream.antt. The theorems are `pieces-alike`, `rest-unread` and `step-goes-on` (proofs/Theorems). Assumes nothing.
+-- WHAT IS PROVED OF THE STREAM: however the input is cut into pieces, and whatever buffers are lent for the reports, the output is the
+-- transcript. The theorems are `pieces-alike`, `rest-unread`, `turn-uses` and `turn-all` (proofs/Theorems). Assumes nothing.
 use mathlib.Core.Path.{_≡_}
 use mathlib.Core.Bool.{true}
 use mathlib.Core.List.{List, [], _∷_, _++_}

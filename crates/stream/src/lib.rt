@@ -1,23 +1,22 @@
 // The stream: notice lines in, report lines out, the input in pieces of any size.
 ghost use mathlib.Core.Path.{_≡_};
 ghost use Prim.Native.Nat.{_+_, _≤_, _<_};
-ghost use lib.ListN.{length, drop};
+ghost use lib.ListN.{length};
 ghost use Rattle.layers.specs.Layers.{tables};
 ghost use Rattle.map.specs.Memory.{base, tableWords};
 ghost use Rattle.rounds.specs.Leaves.{lent};
 ghost use Rattle.rounds.specs.Sizes.{sizes};
-ghost use Rattle.notice.specs.Lines.{lineLimit, readLine};
-ghost use Rattle.report.specs.Line.{bufferLimit, reportLine};
+ghost use Rattle.notice.specs.Lines.{readLine};
+ghost use Rattle.report.specs.Line.{bufferLimit};
 ghost use Rattle.opening.specs.OpenCall.{openLeft};
 ghost use Rattle.opening.specs.Steps.{mapRefusal, refusedWith};
-ghost use Rattle.stream.specs.Stream.{linesLimit};
-ghost use Rattle.stream.specs.Feeding.{begun, beginCall, holding, holdByte, partLeft, partFrom, answerTo, reportOf, pasted, IsReady, isStopped, feeding, fedOf, tookLine, feedCall, finishCall};
+ghost use Rattle.transcript.specs.Transcript.{linesLimit};
+ghost use Rattle.stream.specs.Feeding.{begun, beginCall, answerTo, IsReady, feeding, tookLine, feedCall, finishCall};
 use map::Record;
 use notice::Reading;
 use opening::Opened;
 use opening::Report;
 use outcome::Outcome;
-use report::Written;
 
 // How far a stream has come: the map's record, the lines answered, and the bytes that the line buffer holds of the next one.
 pub struct Progress {
@@ -31,13 +30,6 @@ pub struct Fed {
     pub progress: Progress,
     pub used: usize,
     pub written: usize,
-}
-
-// What the line buffer took of a piece: the place behind it, the bytes held then, and whether the line ended.
-pub struct Part {
-    pub at: usize,
-    pub held: usize,
-    pub ended: bool,
 }
 
 // Begins a stream: the map is emptied, and no line is read.
@@ -57,46 +49,6 @@ pub fn begin(links: &mut [u64], pairs: &mut [u64]) -> Progress
         rec: rec,
         lines: 0,
         held: 0,
-    }
-}
-
-// ---- the line buffer
-
-// Puts a byte behind those that are held. A line's first 517 bytes decide how it reads, so that no more are kept.
-fn hold(line: &mut [u8], held: usize, b: u8) -> usize
-    requires { ⌜ lineLimit ≤ length (now line) ⌝ }
-    ensures { λ r. ⌜ holding (now (line .exit)) r ≡ holdByte b (holding (now (line .entry)) held) ⌝ }
-{
-    if held < 517 {
-        line[held] = b;
-        return held + 1;
-    }
-    held
-}
-
-// Takes the bytes of a piece up to the end of a line, or all that are left of it.
-fn hold_part(line: &mut [u8], piece: &[u8], from: usize, held: usize) -> Part
-    requires { ⌜ lineLimit ≤ length (now line) ⌝ }
-    ensures { λ r. ⌜ partLeft r (now (line .exit)) ≡ partFrom from (holding (now (line .entry)) held) (drop from (now (piece .entry))) ⌝ }
-{
-    let mut at = from;
-    let mut count = held;
-    while at < piece.len() {
-        let b = piece[at];
-        count = hold(line, count, b);
-        at += 1;
-        if b == 10 {
-            return Part {
-                at: at,
-                held: count,
-                ended: true,
-            };
-        }
-    }
-    Part {
-        at: at,
-        held: count,
-        ended: false,
     }
 }
 
@@ -150,29 +102,6 @@ fn answer_line(
     }
 }
 
-// Writes the report of line `number` behind what is written, and answers the place behind it.
-fn put_report(out: &mut [u8], at: usize, number: u32, got: Opened) -> usize
-    requires { ⌜ at + bufferLimit ≤ length (now out) ⌝ }
-    ensures { λ r. ⌜ (now (out .exit) ≡ pasted (reportLine (reportOf number got)) at (now (out .entry))) × (r ≡ at + length (reportLine (reportOf number got))) × (r ≤ length (now (out .exit))) ⌝ }
-{
-    let rec = got.after;
-    let call = got.report;
-    let outcome = call.outcome;
-    let line = report::Report {
-        number: number,
-        outcome: outcome,
-        depots: rec.number,
-        chain: rec.chain,
-        pairs: rec.count,
-        searches: call.searches,
-    };
-    let answer = report::write_report(&mut out[at..], line);
-    match answer {
-        Written::Line(k) => at + k,
-        Written::Refused(_) => at,
-    }
-}
-
 // Answers the line that is held, and reports it.
 fn take_line(
     fed: Fed,
@@ -204,7 +133,7 @@ fn take_line(
         &line[..held],
     );
     let number = before.lines + 1;
-    let end = put_report(out, fed.written, number, got);
+    let end = lines::put_report(out, fed.written, number, got);
     let now = got.after;
     let progress = Progress {
         rec: now,
@@ -219,19 +148,6 @@ fn take_line(
 }
 
 // ---- the step
-
-// Whether no further line may be begun: the report may not fit, or the stream has had its lines.
-fn is_stopped(lines: u32, written: usize, room: usize) -> bool
-    ensures { λ r. ⌜ r ≡ isStopped lines written room ⌝ }
-{
-    if room < 48 {
-        return true;
-    }
-    if room - 48 < written {
-        return true;
-    }
-    1000000 <= lines
-}
 
 // Feeds a piece of the input: answers each line that ends in it, holds what is left, and writes the reports from the start of `out`. It
 // stops before a line whose report might not fit and after the last line of a stream; what is not used is to be fed again.
@@ -258,10 +174,10 @@ pub fn feed(
     };
     while now.used < piece.len() {
         let before = now.progress;
-        if is_stopped(before.lines, now.written, out.len()) {
+        if lines::is_stopped(before.lines, now.written, out.len()) {
             return now;
         }
-        let part = hold_part(line, piece, now.used, before.held);
+        let part = lines::hold_part(line, piece, now.used, before.held);
         let rec = before.rec;
         let after = Progress {
             rec: rec,
@@ -316,7 +232,7 @@ pub fn finish(
     if progress.held == 0 {
         return fed;
     }
-    if is_stopped(progress.lines, 0, out.len()) {
+    if lines::is_stopped(progress.lines, 0, out.len()) {
         return fed;
     }
     take_line(fed, links, pairs, hops, bounds, skips, even, odd, out, line)

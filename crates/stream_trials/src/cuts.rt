@@ -2,7 +2,7 @@
 use crate::bytes::part;
 use crate::plain;
 use crate::run::run;
-use crate::tally::Tally;
+use testbed::tally::Tally;
 
 // The sizes of the pieces: the whole input at once, a byte at a time, sizes that cut lines anywhere, and those about the longest line.
 const SIZES: [usize; 9] = [100000, 1, 2, 3, 7, 64, 516, 517, 518];

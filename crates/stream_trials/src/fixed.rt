@@ -1,7 +1,7 @@
 // Inputs that stand here in full, each with its whole output.
 use crate::cuts::given;
-use crate::tally::Tally;
-use crate::tally::start;
+use testbed::tally::Tally;
+use testbed::tally::start;
 
 // An empty input has no line; an ending alone is a blank one.
 pub fn nothing() -> Tally {

@@ -7,8 +7,8 @@ use crate::bytes::repeat;
 use crate::bytes::wide;
 use crate::cuts::given;
 use crate::cuts::made;
-use crate::tally::Tally;
-use crate::tally::start;
+use testbed::tally::Tally;
+use testbed::tally::start;
 
 // ---- lines
 
@@ -50,13 +50,13 @@ fn rise(bytes: &mut [u8]) {
     }
 }
 
-// The digits of the longest frame: 255 opens beside 0 to 254, 516 bytes.
+// The line of the longest frame: 255 opens beside 0 to 254, 517 bytes.
 pub fn longest(out: &mut [u8], at: usize) -> usize {
     let mut bytes = [1u8; 258];
     bytes[1] = 255;
     bytes[2] = 255;
     rise(&mut bytes);
-    frame(out, at, &bytes)
+    line(out, at, &bytes)
 }
 
 // ---- long lines

@@ -9,32 +9,28 @@ mod long;
 mod network;
 mod plain;
 mod run;
-mod tally;
 
-use tally::print;
+use testbed::tally::print;
 
 // Inputs that stand in the program in full.
 fn fixed_inputs() {
-    print(b"no input, and blank lines alone: ", fixed::nothing());
+    print(b"no input, and blank lines alone", fixed::nothing());
     print(
-        b"the seven lines of document 01, with and without the last ending: ",
+        b"the seven lines of document 01, with and without the last ending",
         fixed::seven_lines(),
     );
+    print(b"a last stretch without an ending", fixed::last_stretches());
+    print(b"blank lines between", fixed::blank_lines());
     print(
-        b"a last stretch without an ending: ",
-        fixed::last_stretches(),
-    );
-    print(b"blank lines between: ", fixed::blank_lines());
-    print(
-        b"NUL bytes, 0D before 0A, bytes above 127: ",
+        b"NUL bytes, 0D before 0A, bytes above 127",
         fixed::other_bytes(),
     );
     print(
-        b"lower-case digits, and characters next to the digits: ",
+        b"lower-case digits, and characters next to the digits",
         fixed::digits(),
     );
     print(
-        b"refusals 5, 6, 7, 8 and 9, with the figures after each: ",
+        b"refusals 5, 6, 7, 8 and 9, with the figures after each",
         fixed::refusals(),
     );
 }
@@ -42,12 +38,12 @@ fn fixed_inputs() {
 // Inputs that the program makes.
 fn made_inputs() {
     print(
-        b"overlong lines of 600 to 5,000 bytes, and what follows them: ",
+        b"overlong lines of 600 to 5,000 bytes, and what follows them",
         long::overlong_lines(),
     );
-    print(b"lines of 516, 517, 518 and 519 bytes: ", long::limits());
-    print(b"rings of 20 to 40 depots that close: ", long::rings());
-    print(b"256 depots, the last beside 255: ", full::full_map());
+    print(b"lines of 516, 517, 518 and 519 bytes", long::limits());
+    print(b"rings of 20 to 40 depots that close", long::rings());
+    print(b"256 depots, the last beside 255", full::full_map());
 }
 
 // Each group in turn: a failed case shows in its line, which the stored output does not have.

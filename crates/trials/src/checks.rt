@@ -1,17 +1,18 @@
 // The checks of a map's memory and its emptying, on good and broken memory.
-use crate::compare::all;
-use crate::faults::first_words;
-use crate::flags;
-use crate::flags::place;
-use crate::networks::Plan;
-use crate::searches::lend;
-use crate::tally;
-use crate::tally::Tally;
-use crate::tally::both;
-use crate::tally::print;
-use crate::tally::seen;
 use map::Emptying;
 use map::Record;
+use testbed::flags::flip;
+use testbed::flags::pack;
+use testbed::flags::place;
+use testbed::lent::first_words;
+use testbed::lent::words_are;
+use testbed::networks::Kind;
+use testbed::networks::Plan;
+use testbed::record::lend;
+use testbed::tally;
+use testbed::tally::Tally;
+use testbed::tally::both;
+use testbed::tally::print;
 
 // Whether two answers are the same.
 fn equal(a: bool, b: bool) -> bool {
@@ -21,10 +22,7 @@ fn equal(a: bool, b: bool) -> bool {
 // ---- links
 
 fn links_are(t: Tally, links: &[u64; 1024], codes: &[u64; 4], number: u16, want: bool) -> Tally {
-    seen(
-        t,
-        equal(map::links_are_sound(links, codes, 4, number), want),
-    )
+    t.seen(equal(map::links_are_sound(links, codes, 4, number), want))
 }
 
 // A random network of 200 depots: sound, wrongly numbered, and with a bit turned over.
@@ -34,7 +32,7 @@ fn links() -> Tally {
     let mut links = [0u64; 1024];
     let mut codes = [0u64; 4];
     let random = Plan {
-        kind: 6,
+        kind: Kind::Random(2),
         size: 200,
         spread: 1,
         shift: 5,
@@ -42,7 +40,7 @@ fn links() -> Tally {
     lend(&mut links, &mut codes, &mut depots, &mut near, random);
     let t = links_are(tally::start(), &links, &codes, 200, true);
     let t = links_are(t, &links, &codes, 201, false);
-    flags::flip(&mut links, place(5, 42));
+    flip(&mut links, place(5, 42));
     links_are(t, &links, &codes, 200, false)
 }
 
@@ -56,10 +54,7 @@ fn figures_are(
     count: u32,
     want: bool,
 ) -> Tally {
-    seen(
-        t,
-        equal(map::figures_are_sound(pairs, codes, 4, chain, count), want),
-    )
+    t.seen(equal(map::figures_are_sound(pairs, codes, 4, chain, count), want))
 }
 
 // Whether a pair bit may stand, the codes 0 to 99 being open.
@@ -73,7 +68,7 @@ fn may_stand(u: usize, v: usize) -> bool {
 // A single pair bit, counted rightly and wrongly.
 fn one_pair(t: Tally, codes: &[u64; 4], u: usize, v: usize) -> Tally {
     let mut pairs = [0u64; 1024];
-    flags::flip(&mut pairs, place(u, v));
+    flip(&mut pairs, place(u, v));
     let t = figures_are(t, &pairs, codes, 3, 1, may_stand(u, v));
     let t = figures_are(t, &pairs, codes, 3, 0, false);
     figures_are(t, &pairs, codes, 3, 2, false)
@@ -83,7 +78,7 @@ fn one_pair(t: Tally, codes: &[u64; 4], u: usize, v: usize) -> Tally {
 fn pairs() -> Tally {
     let mut codes = [0u64; 4];
     let depots = [1u8; 100];
-    flags::pack(&mut codes, 4, &depots);
+    pack(&mut codes, &depots, 0, 256);
     let mut t = tally::start();
     let mut i = 0;
     while i < 512 {
@@ -112,17 +107,17 @@ fn chains() -> Tally {
 fn record_is(r: Record, word: u64, number: u16, chain: u16, count: u32) -> bool {
     let codes = r.codes;
     both(
-        both(all(&codes, 0, word), r.number == number),
+        both(words_are(&codes, 0, word), r.number == number),
         both(r.chain == chain, r.count == count),
     )
 }
 
 // Whether the first 1,024 words are zero and the rest as before.
 fn is_cleared(words: &mut [u64]) -> bool {
-    if !all(&*words, 1024, 7) {
+    if !words_are(&*words, 1024, 7) {
         return false;
     }
-    all(&*first_words(words, 1024), 0, 0)
+    words_are(&*first_words(words, 1024), 0, 0)
 }
 
 // Whether emptying tables with room, or without, left all zero or all as before.
@@ -139,7 +134,7 @@ fn left_right(
             both(room, both(cleared, record_is(after, 0, 0, 0, 0)))
         }
         Emptying::Refused(k) => {
-            let kept = both(all(&*links, 0, 7), all(&*pairs, 0, 7));
+            let kept = both(words_are(&*links, 0, 7), words_are(&*pairs, 0, 7));
             both(
                 equal(room, false),
                 both(k == 1, both(kept, record_is(after, 9, 5, 6, 8))),
@@ -162,7 +157,7 @@ fn empty(t: Tally, n: usize, m: usize) -> Tally {
     let answer = left.answer;
     let after = left.after;
     let room = both(1024 <= n, 1024 <= m);
-    seen(t, left_right(answer, after, &mut links, &mut pairs, room))
+    t.seen(left_right(answer, after, &mut links, &mut pairs, room))
 }
 
 // Short, exact and longer tables.

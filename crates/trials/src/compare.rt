@@ -1,42 +1,12 @@
 // What a search answers and leaves, held to the plain distances. Every lent place holds 7 before a call.
-use crate::flags::bit;
-use crate::tally::both;
-
-// Whether two tables of numbers are the same.
-pub fn same(a: &[u16], b: &[u16]) -> bool {
-    if a.len() != b.len() {
-        return false;
-    }
-    let mut i = 0;
-    while i < a.len() {
-        if a[i] != b[i] {
-            return false;
-        }
-        i += 1;
-    }
-    true
-}
-
-// Whether each word from `start` on is x.
-pub fn all(words: &[u64], start: usize, x: u64) -> bool {
-    let mut i = start;
-    while i < words.len() {
-        if words[i] != x {
-            return false;
-        }
-        i += 1;
-    }
-    true
-}
+use testbed::flags::bit;
+use testbed::lent::words_are;
+use testbed::plain::number;
+use testbed::tally::both;
 
 // 1 where v is at distance d.
 fn is_at(hops: &[u16], v: usize, d: u16) -> u8 {
-    if v < hops.len() {
-        if hops[v] == d {
-            return 1;
-        }
-    }
-    0
+    if number(hops, v) == d { 1 } else { 0 }
 }
 
 // Whether a row holds exactly the codes at distance d.
@@ -58,7 +28,7 @@ fn before(e: u16) -> u16 {
 
 // Whether both rows hold the last two layers by their parity, and their words behind are as before.
 fn rows_hold(even: &[u64], odd: &[u64], hops: &[u16], e: u16) -> bool {
-    if !both(all(even, 4, 7), all(odd, 4, 7)) {
+    if !both(words_are(even, 4, 7), words_are(odd, 4, 7)) {
         return false;
     }
     if e % 2 == 0 {
@@ -80,5 +50,5 @@ pub fn refused(last: &[u64], even: &[u64], odd: &[u64]) -> bool {
     if last.len() != 0 {
         return false;
     }
-    both(all(even, 0, 7), all(odd, 0, 7))
+    both(words_are(even, 0, 7), words_are(odd, 0, 7))
 }

@@ -1,44 +1,32 @@
 // Searches that are refused: each is held to its number, and to leaving every place as it was.
-use crate::compare::all;
-use crate::compare::same;
-use crate::flags;
-use crate::networks::Plan;
-use crate::searches::lend;
-use crate::searches::record;
-use crate::tally;
-use crate::tally::Tally;
-use crate::tally::both;
-use crate::tally::print;
-use crate::tally::seen;
 use map::Record;
 use search::Found;
-
-// The first n places of a buffer that is lent on, or the whole of a shorter one.
-fn first_hops(s: &mut [u16], n: usize) -> &mut [u16] {
-    if s.len() < n {
-        return s;
-    }
-    &mut s[..n]
-}
-
-// The same of words.
-pub fn first_words(s: &mut [u64], n: usize) -> &mut [u64] {
-    if s.len() < n {
-        return s;
-    }
-    &mut s[..n]
-}
+use testbed::flags::flip;
+use testbed::flags::place;
+use testbed::lent::first_numbers;
+use testbed::lent::first_words;
+use testbed::lent::numbers_are;
+use testbed::lent::words_are;
+use testbed::networks::Kind;
+use testbed::networks::Plan;
+use testbed::record::lend;
+use testbed::record::record;
+use testbed::tally;
+use testbed::tally::Tally;
+use testbed::tally::both;
+use testbed::tally::print;
 
 // The refusal of an answer, 0 for none; 99 where a refused call changed a place all the same.
 fn number_of(answer: Found, hops: &[u16], even: &[u64], odd: &[u64]) -> u8 {
     let Found::Refused(k) = answer else {
         return 0;
     };
-    let clean = [7u16; 260];
-    if both(same(hops, &clean), both(all(even, 0, 7), all(odd, 0, 7))) {
-        return k;
+    let rows = both(words_are(even, 0, 7), words_are(odd, 0, 7));
+    if both(numbers_are(hops, 0, 7), rows) {
+        k
+    } else {
+        99
     }
-    99
 }
 
 // The refusal that a search answers whose hop table and rows have these sizes.
@@ -47,7 +35,7 @@ fn answer_of(links: &[u64], rec: Record, h: usize, e: usize, o: usize, s: u8) ->
     let mut even = [7u64; 6];
     let mut odd = [7u64; 6];
     let answer = search::search_from(
-        first_hops(&mut hops, h),
+        first_numbers(&mut hops, h),
         first_words(&mut even, e),
         first_words(&mut odd, o),
         rec,
@@ -59,16 +47,16 @@ fn answer_of(links: &[u64], rec: Record, h: usize, e: usize, o: usize, s: u8) ->
 
 // A search from s with the named sizes, whose refusal is k.
 fn gives(t: Tally, links: &[u64], rec: Record, s: u8, k: u8) -> Tally {
-    seen(t, answer_of(links, rec, 256, 4, 4, s) == k)
+    t.seen(answer_of(links, rec, 256, 4, 4, s) == k)
 }
 
 // ---- the links
 
 // One bit alone, never the same both ways round.
 fn flip_one(t: Tally, links: &mut [u64], rec: Record, i: usize) -> Tally {
-    flags::flip(links, i);
+    flip(links, i);
     let r = gives(t, &*links, rec, 0, 2);
-    flags::flip(links, i);
+    flip(links, i);
     r
 }
 
@@ -83,11 +71,17 @@ fn single_bits(links: &mut [u64], rec: Record) -> Tally {
     t
 }
 
+// Turns the bits v of row u and u of row v over.
+fn flip_both(links: &mut [u64], u: usize, v: usize) {
+    flip(links, place(u, v));
+    flip(links, place(v, u));
+}
+
 // A bit both ways round.
 fn flip_two(t: Tally, links: &mut [u64], rec: Record, u: usize, v: usize) -> Tally {
-    flags::flip_both(links, u, v);
+    flip_both(links, u, v);
     let r = gives(t, &*links, rec, 0, 2);
-    flags::flip_both(links, u, v);
+    flip_both(links, u, v);
     r
 }
 
@@ -120,7 +114,7 @@ fn numbers(links: &[u64], codes: [u64; 4]) -> Tally {
 // A code of the open set turned over: an open one then has links though closed (2), a closed one is open without any (3).
 fn turn(t: Tally, links: &[u64], codes: [u64; 4], v: usize) -> Tally {
     let mut other = codes;
-    flags::flip(&mut other, v);
+    flip(&mut other, v);
     if v < 100 {
         return gives(t, links, record(other, 99), 0, 2);
     }
@@ -162,7 +156,7 @@ fn try_sizes(t: Tally, links: &mut [u64], rec: Record, i: usize) -> Tally {
     let d = i / 27 % 3;
     let table = first_words(links, 1023 + a);
     let k = answer_of(&*table, rec, 255 + b, 3 + c, 3 + d, 0);
-    seen(t, k == any_short(a, b, c, d))
+    t.seen(k == any_short(a, b, c, d))
 }
 
 // All 81.
@@ -180,10 +174,10 @@ fn buffers(links: &mut [u64], rec: Record) -> Tally {
 fn order(links: &[u64], codes: [u64; 4]) -> Tally {
     let t = gives(tally::start(), links, record(codes, 100), 200, 4);
     let mut more = codes;
-    flags::flip(&mut more, 150);
+    flip(&mut more, 150);
     let t = gives(t, links, record(more, 101), 200, 3);
     let t = gives(t, links, record(more, 100), 200, 2);
-    seen(t, answer_of(links, record(more, 100), 256, 4, 3, 200) == 1)
+    t.seen(answer_of(links, record(more, 100), 256, 4, 3, 200) == 1)
 }
 
 // The empty map is not apart: every code is absent.
@@ -223,7 +217,7 @@ pub fn all_groups() {
     let mut links = [255u64; 1030];
     let mut codes = [0u64; 4];
     let grid = Plan {
-        kind: 4,
+        kind: Kind::Grid,
         size: 100,
         spread: 0,
         shift: 0,

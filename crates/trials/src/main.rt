@@ -2,12 +2,9 @@
 // how many were tried, and whether all came out as expected. A difference would show in the output.
 mod checks;
 mod compare;
+mod expected;
 mod faults;
-mod flags;
-mod networks;
-mod plain;
 mod searches;
-mod tally;
 
 fn main() {
     searches::regular();

@@ -1,34 +1,26 @@
 // Searches on many networks, by both public calls, beside the plain one.
 use crate::compare;
-use crate::compare::same;
-use crate::flags;
-use crate::networks;
-use crate::networks::Plan;
-use crate::plain;
-use crate::tally;
-use crate::tally::Tally;
-use crate::tally::both;
-use crate::tally::print;
-use crate::tally::seen;
+use crate::expected;
 use map::Record;
 use search::Found;
-
-// A record of these codes. Its figures are false: a search does not ask for them.
-pub fn record(codes: [u64; 4], number: usize) -> Record {
-    Record {
-        codes,
-        number: (number % 65536) as u16,
-        chain: 999,
-        count: 5,
-    }
-}
+use testbed::lent::same_numbers;
+use testbed::networks::Kind;
+use testbed::networks::Plan;
+use testbed::networks::code;
+use testbed::plain::eccentricity;
+use testbed::record::lend;
+use testbed::record::record;
+use testbed::tally;
+use testbed::tally::Tally;
+use testbed::tally::both;
+use testbed::tally::print;
 
 // What the call that hands back the rows left, the refusal being k or none: every place lent.
 fn rows_are(last: &[u64], even: &[u64], odd: &[u64], want: &[u16], ecc: u16, k: u8) -> bool {
     if k != 0 {
         return both(ecc == 9999, compare::refused(last, even, odd));
     }
-    let e = plain::greatest(want);
+    let e = eccentricity(want, 0);
     both(ecc == e, compare::accepted(last, even, odd, want, e))
 }
 
@@ -53,7 +45,7 @@ fn by_rows(links: &[u64], rec: Record, s: u8, want: &[u16], k: u8) -> bool {
     let first = parts[1];
     let second = parts[2];
     let left = rows_are(last, first, second, want, ecc, k);
-    both(left, both(refusal == k, same(&hops, want)))
+    both(left, both(refusal == k, same_numbers(&hops, want, 260)))
 }
 
 // What the call that answers an enum left, and the last layer after it.
@@ -70,29 +62,25 @@ fn by_enum(links: &[u64], rec: Record, s: u8, want: &[u16], k: u8) -> bool {
     let mut even = [7u64; 6];
     let mut odd = [7u64; 6];
     let answer = search::search_from(&mut hops, &mut even, &mut odd, rec, links, s);
-    both(found_is(answer, &even, &odd, want, k), same(&hops, want))
+    both(
+        found_is(answer, &even, &odd, want, k),
+        same_numbers(&hops, want, 260),
+    )
 }
 
 // A search from s by both calls.
 fn try_search(t: Tally, links: &[u64], rec: Record, depots: &[u8], near: &[u8], s: u8) -> Tally {
-    let k = plain::refusal(depots, near, s as usize);
+    let k = expected::refusal(depots, near, s as usize);
     let mut want = [7u16; 260];
-    plain::expect(&mut want, near, s as usize, k);
-    let t = seen(t, by_rows(links, rec, s, &want, k));
-    seen(t, by_enum(links, rec, s, &want, k))
+    expected::distances_left(&mut want, near, s as usize, k);
+    let t = t.seen(by_rows(links, rec, s, &want, k));
+    t.seen(by_enum(links, rec, s, &want, k))
 }
 
 // Searches from the first and the last depot, and from codes all over, closed ones among them.
 fn starts(t: Tally, links: &[u64], rec: Record, depots: &[u8], near: &[u8], p: Plan) -> Tally {
-    let mut u = try_search(
-        t,
-        links,
-        rec,
-        depots,
-        near,
-        (networks::code(p, 0) % 256) as u8,
-    );
-    let last = networks::code(p, p.size % 257 + 255);
+    let mut u = try_search(t, links, rec, depots, near, (code(p, 0) % 256) as u8);
+    let last = code(p, p.size % 257 + 255);
     u = try_search(u, links, rec, depots, near, (last % 256) as u8);
     let mut k = 0;
     while k < 5 {
@@ -100,13 +88,6 @@ fn starts(t: Tally, links: &[u64], rec: Record, depots: &[u8], near: &[u8], p: P
         k += 1;
     }
     u
-}
-
-// The link table and the open set of a plan, as tables of bytes and as words.
-pub fn lend(links: &mut [u64], codes: &mut [u64], depots: &mut [u8], near: &mut [u8], p: Plan) {
-    networks::build(depots, near, p);
-    flags::pack(links, 1024, &*near);
-    flags::pack(codes, 4, &*depots);
 }
 
 // One network. The words behind the link table are not part of it.
@@ -136,7 +117,7 @@ fn size(k: u8) -> usize {
 }
 
 // All networks of a kind.
-fn try_kind(kind: u8) -> Tally {
+fn try_kind(kind: Kind) -> Tally {
     let mut t = tally::start();
     let mut k: u8 = 0;
     while k < 9 {
@@ -156,17 +137,17 @@ fn try_kind(kind: u8) -> Tally {
 
 // The networks of a simple shape.
 pub fn regular() {
-    print(b"paths", try_kind(0));
-    print(b"cycles", try_kind(1));
-    print(b"stars", try_kind(2));
-    print(b"complete networks", try_kind(3));
-    print(b"grids", try_kind(4));
+    print(b"paths", try_kind(Kind::Path));
+    print(b"cycles", try_kind(Kind::Ring));
+    print(b"stars", try_kind(Kind::Star));
+    print(b"complete networks", try_kind(Kind::Complete));
+    print(b"grids", try_kind(Kind::Grid));
 }
 
 // Trees, random networks, and depots that no walk joins.
 pub fn grown() {
-    print(b"trees", try_kind(5));
-    print(b"random networks", try_kind(6));
-    print(b"random links, often apart", try_kind(7));
-    print(b"depots without links", try_kind(8));
+    print(b"trees", try_kind(Kind::Tree));
+    print(b"random networks", try_kind(Kind::Random(2)));
+    print(b"random links, often apart", try_kind(Kind::Loose(3)));
+    print(b"depots without links", try_kind(Kind::Linkless));
 }

@@ -2,7 +2,7 @@
 use mathlib.Core.Path.{_≡_, refl, sym, _∙_}
 use Prim.Native.Nat.{_+_, _-_, _≤_, zero-le}
 use native.Mathlib.Omega.{arith}
-use lib.ListN.{length, take, drop, length-take, length-drop}
+use lib.ListN.{length, drop, length-take, length-drop}
 use lib.Seq.{length-take-le}
 use Rattle.layers.specs.Layers.{tables}
 use Rattle.rounds.specs.Leaves.{lent}
@@ -10,10 +10,6 @@ use Rattle.stream.specs.Feeding.{IsReady}
 use borrow.Author.Needs.{needs}
 use Rattle.follow.proofs.answer.Statement.{statement}
 use Rattle.follow.proofs.answer.Tie as tie
-use Rattle.follow.proofs.answer.Reads as reads
-use Rattle.follow.proofs.answer.Lts as lts
-use Rattle.io.proofs.write_all.Reads as write-all-reads
-use Rattle.stream.proofs.feed.Reads as feed-reads
 
 abbrev Inv-loop : tie.InvT-loop
 Inv-loop links₀ pairs₀ hops₀ bounds₀ skips₀ even₀ odd₀ line₀ out₀ piece now₀ at₀ links pairs hops bounds skips even odd line out now at =

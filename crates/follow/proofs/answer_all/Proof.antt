@@ -8,11 +8,6 @@ use Rattle.stream.specs.Feeding.{IsReady}
 use borrow.Author.Needs.{needs}
 use Rattle.follow.proofs.answer_all.Statement.{statement}
 use Rattle.follow.proofs.answer_all.Tie as tie
-use Rattle.follow.proofs.answer_all.Reads as reads
-use Rattle.follow.proofs.answer_all.Lts as lts
-use Rattle.follow.proofs.answer.Reads as answer-reads
-use Rattle.io.proofs.count.Reads as count-reads
-use Rattle.libc.proofs.read.Reads as read-reads
 
 abbrev Inv-loop : tie.InvT-loop
 Inv-loop links₀ pairs₀ hops₀ bounds₀ skips₀ even₀ odd₀ line₀ out₀ input₀ now₀ turns₀ links pairs hops bounds skips even odd line out input now turns =

@@ -4,10 +4,6 @@ use lib.Seq.{length-take-le}
 use borrow.Author.Needs.{needs}
 use Rattle.follow.proofs.end.Statement.{statement}
 use Rattle.follow.proofs.end.Tie as tie
-use Rattle.follow.proofs.end.Reads as reads
-use Rattle.follow.proofs.end.Lts as lts
-use Rattle.io.proofs.write_all.Reads as write-all-reads
-use Rattle.stream.proofs.finish.Reads as finish-reads
 
 -- src/main.rt:142:9
 finish-requires : tie.Need-finish-requires

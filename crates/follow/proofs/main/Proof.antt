@@ -4,10 +4,6 @@ use Rattle.stream.proofs.Theorems.{begun-ready}
 use borrow.Author.Needs.{needs}
 use Rattle.follow.proofs.main.Statement.{statement}
 use Rattle.follow.proofs.main.Tie as tie
-use Rattle.follow.proofs.main.Reads as reads
-use Rattle.follow.proofs.main.Lts as lts
-use Rattle.follow.proofs.follow.Reads as follow-reads
-use Rattle.stream.proofs.begin.Reads as begin-reads
 
 -- src/main.rt:215:34
 slice-aggregate-begin : tie.Need-slice-aggregate-begin

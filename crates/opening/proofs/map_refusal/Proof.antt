@@ -12,12 +12,6 @@ use Rattle.opening.proofs.Refuses.{refused-short, refused-links, refuse
 use borrow.Author.Needs.{needs}
 use Rattle.opening.proofs.map_refusal.Statement.{statement}
 use Rattle.opening.proofs.map_refusal.Tie as tie
-use Rattle.opening.proofs.map_refusal.Reads as reads
-use Rattle.opening.proofs.map_refusal.Lts as lts
-use Rattle.map.proofs.figures_are_sound.Reads as figures-are-sound-reads
-use Rattle.map.proofs.links_are_sound.Reads as links-are-sound-reads
-use Rattle.reckon.proofs.are_long.Reads as are-long-reads
-use Rattle.search.proofs.map_is_connected.Reads as map-is-connected-reads
 
 -- src/lib.rt:44:9
 are-long-requires : tie.Need-are-long-requires

@@ -5,11 +5,6 @@ use Rattle.opening.proofs.Placed.{long-is, number-small, figurable, ope
 use borrow.Author.Needs.{needs}
 use Rattle.opening.proofs.open_map.Statement.{statement}
 use Rattle.opening.proofs.open_map.Tie as tie
-use Rattle.opening.proofs.open_map.Reads as reads
-use Rattle.opening.proofs.open_map.Lts as lts
-use Rattle.admission.proofs.link_depot.Reads as link-depot-reads
-use Rattle.figures.proofs.refigure.Reads as refigure-reads
-use Rattle.opening.proofs.put_code.Reads as put-code-reads
 
 -- src/lib.rt:109:5
 link-depot-requires : tie.Need-link-depot-requires

@@ -9,11 +9,6 @@ use Rattle.opening.proofs.Refuses.{refused-by-notice, refused-call, acc
 use borrow.Author.Needs.{needs}
 use Rattle.opening.proofs.open_sound.Statement.{statement}
 use Rattle.opening.proofs.open_sound.Tie as tie
-use Rattle.opening.proofs.open_sound.Reads as reads
-use Rattle.opening.proofs.open_sound.Lts as lts
-use Rattle.admission.proofs.notice_refusal.Reads as notice-refusal-reads
-use Rattle.opening.proofs.open_map.Reads as open-map-reads
-use Rattle.opening.proofs.refused.Reads as refused-reads
 
 -- src/lib.rt:147:45
 slice-aggregate-notice-refusal : tie.Need-slice-aggregate-notice-refusal

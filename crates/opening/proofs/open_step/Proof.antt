@@ -1,15 +1,9 @@
 -- `opening::open_step` meets its contract: a refusal of the memory comes before one of the notice. Assumes nothing.
-use native.Mathlib.Omega.{arith}
 use Rattle.map.specs.Memory.{base}
 use Rattle.opening.proofs.Refuses.{refused-by-map, refused-call}
 use borrow.Author.Needs.{needs}
 use Rattle.opening.proofs.open_step.Statement.{statement}
 use Rattle.opening.proofs.open_step.Tie as tie
-use Rattle.opening.proofs.open_step.Reads as reads
-use Rattle.opening.proofs.open_step.Lts as lts
-use Rattle.opening.proofs.map_refusal.Reads as map-refusal-reads
-use Rattle.opening.proofs.open_sound.Reads as open-sound-reads
-use Rattle.opening.proofs.refused.Reads as refused-reads
 
 -- src/lib.rt:181:9
 map-refusal-requires : tie.Need-map-refusal-requires

@@ -5,9 +5,6 @@ use Rattle.opening.proofs.Placed.{code-put}
 use borrow.Author.Needs.{needs}
 use Rattle.opening.proofs.put_code.Statement.{statement}
 use Rattle.opening.proofs.put_code.Tie as tie
-use Rattle.opening.proofs.put_code.Reads as reads
-use Rattle.opening.proofs.put_code.Lts as lts
-use Rattle.rows.proofs.row_set.Reads as row-set-reads
 
 -- src/lib.rt:90:5
 row-set-requires : tie.Need-row-set-requires

@@ -1,134 +1,71 @@
--- `pairs::drop_row` meets its contract. The loop's invariant (StaleRow.antt): the row's pairs below `from` are dropped or counted, and their
--- greatest way is known. The measure is the codes left. Assumes nothing.
-use mathlib.Core.Path.{subst}
-use Prim.Native.Nat.{_-_, _*_}
+-- `pairs::drop_row` meets its contract: of a row without a pair nothing is dropped, and it has no way. Assumes nothing.
+use mathlib.Core.Path.{sym, _∙_}
 use native.Mathlib.Omega.{arith}
 use lib.ListN.{length-take, length-drop}
-use Rattle.rows.specs.Next.{IsNext, NextIs}
 use Rattle.rows.proofs.Places.{row-fits}
-use Rattle.pairs.proofs.StaleRow.{RowDropping, row-start, row-drop, row-keep, row-end, row-few, rowFrom}
+use Rattle.pairs.proofs.StaleRow.{row-start, row-end, row-bare}
 use borrow.Author.Needs.{needs}
 use Rattle.pairs.proofs.drop_row.Statement.{statement}
 use Rattle.pairs.proofs.drop_row.Tie as tie
 
-abbrev Inv-loop : tie.InvT-loop
-Inv-loop pairs₀ hops words u chain base count₀ way₀ from₀ pairs count way from = RowDropping words hops chain u pairs₀ pairs count way from
-
-abbrev μ-loop : tie.MeasureT-loop
-μ-loop pairs₀ hops words u chain base count₀ way₀ from₀ pairs count way from = 64 * words - from
-
--- the member found
-is-next : (c : tie.After-known-told Inv-loop μ-loop) → let a = c .before .before .before .before .before .before .before .before .before .args in let l = c .before .before .before .before .before .before .loop in
-    IsNext (a .words) (rowFrom (a .words) (a .u) (l .pairs)) (l .from) (c .before .found .given .0 .0)
-is-next c = subst (NextIs _ _ _) (c .before .found .given .1) (c .before .before .before .next-member .ensures)
-
-mul-base : tie.Need-mul-base Inv-loop μ-loop
+-- src/lib.rt:142:16
+mul-base : tie.Need-mul-base
 mul-base c = let pre = c .before .before .pre in omega (arith, row-fits _ _ _ (pre .1) (pre .0 .table))
 
-loop-holds : tie.Need-loop-holds Inv-loop μ-loop
-loop-holds c =
-    let pre = c .before .before .pre in
-    row-start _ _ _ _ _ (pre .1) (pre .0 .table) (λ i l. c .before .slice-known .given i .fits)
+-- src/lib.rt:143:23
+mul-is-empty : tie.Need-mul-is-empty
+mul-is-empty c = let pre = c .before .before .pre in omega (arith, row-fits _ _ _ (pre .1) (pre .0 .table))
 
-mul-next-member : tie.Need-mul-next-member Inv-loop μ-loop
-mul-next-member c = let i = c .loop .inv in omega (arith, i .room, i .size)
+-- src/lib.rt:143:23
+sub-is-empty : tie.Need-sub-is-empty
+sub-is-empty c = let pre = c .before .before .pre in omega (arith, row-fits _ _ _ (pre .1) (pre .0 .table))
 
-sub-next-member : tie.Need-sub-next-member Inv-loop μ-loop
-sub-next-member c = let i = c .loop .inv in omega (arith, i .room, i .size)
+-- src/lib.rt:143:23
+part-is-empty-start : tie.Need-part-is-empty-start
+part-is-empty-start c = let pre = c .before .before .before .pre in omega (arith, row-fits _ _ _ (pre .1) (pre .0 .table))
 
-part-next-member-start : tie.Need-part-next-member-start Inv-loop μ-loop
-part-next-member-start c = let i = c .before .loop .inv in omega (arith, i .room, i .size)
+-- src/lib.rt:143:23
+part-is-empty-end : tie.Need-part-is-empty-end
+part-is-empty-end c = search needs
 
-part-next-member-end : tie.Need-part-next-member-end Inv-loop μ-loop
-part-next-member-end c = let i = c .before .loop .inv in omega (arith, i .room, i .size)
+-- src/lib.rt:143:8
+is-empty-requires : tie.Need-is-empty-requires
+is-empty-requires c κs = let pre = c .before .before .before .before .pre in simp (length-take, length-drop) (omega (arith, row-fits _ _ _ (pre .1) (pre .0 .table)))
 
-next-member-requires : tie.Need-next-member-requires Inv-loop μ-loop
-next-member-requires c κs =
-    let i = c .before .before .loop .inv in
-    (simp (length-take, length-drop) (omega (arith, i .room, i .size)), omega (arith, c .before .before .before .before .before .pre .0 .most))
+-- src/lib.rt:144:9
+same-length : tie.Need-same-length
+same-length c = search needs
 
-enum-known-found : tie.Need-enum-known-found Inv-loop μ-loop
-enum-known-found c = search needs
-
-enum-told : tie.Need-enum-told Inv-loop μ-loop
-enum-told c = search needs
-
-same-length : tie.Need-same-length Inv-loop μ-loop
-same-length c = c .before .before .before .before .before .loop .inv .size
-
-returns : tie.Need-returns Inv-loop μ-loop
+-- src/lib.rt:144:9
+returns : tie.Need-returns
 returns c =
-    let none = subst (NextIs _ _ _) (c .enum-told .given .1) (c .before .before .next-member .ensures) in
-    row-end _ _ _ _ _ (c .before .before .before .before .before .loop .inv) (c .before .before .before .before .before .before .before .before .pre .1) none
+    let pre = c .before .before .before .before .before .before .pre in
+    row-end _ _ _ _ _ (row-start _ _ _ _ _ (pre .1) (pre .0 .table) (λ i l. c .before .before .before .before .before .slice-known .given i .fits)) (pre .1) (row-bare _ _ (sym (c .if1 .taken) ∙ c .before .is-empty .ensures))
 
-way-by-requires : tie.Need-way-by-requires Inv-loop μ-loop
-way-by-requires c κs =
-    let hopped = c .before .before .before .before .before .before .before .before .before .pre .0 .hopped in
-    (omega (arith, hopped), omega (arith, hopped, is-next c .inside))
+-- src/lib.rt:146:5
+drop-members-requires : tie.Need-drop-members-requires
+drop-members-requires c κs = search needs
 
-longer-requires : tie.Need-longer-requires Inv-loop μ-loop
-longer-requires c κs = search needs
+-- src/lib.rt:138:1
+same-length-2 : tie.Need-same-length-2
+same-length-2 c = search needs
 
-row-clear-requires : tie.Need-row-clear-requires Inv-loop μ-loop
-row-clear-requires c κs =
-    let told = c .before .before .before .before in
-    let i = told .before .before .before .before .before .before .loop .inv in
-    record { row = omega (arith, i .room, i .size); below = told .before .before .before .before .before .before .before .before .before .pre .1; column = is-next told .inside }
-
-add-from : tie.Need-add-from Inv-loop μ-loop
-add-from c = omega (arith, is-next (c .before .before .before .before .before .before .before) .inside)
-
-loop-less : tie.Need-loop-less Inv-loop μ-loop
-loop-less c = let n = is-next (c .before .before .before .before .before .before .before) in omega (arith, n .inside, n .after)
-
-loop-again : tie.Need-loop-again Inv-loop μ-loop
-loop-again c =
-    let told = c .before .before .before .before .before .before .before in
-    let cleared = c .before .before .row-clear in
-    row-drop _ _ _ _ _ (told .before .before .before .before .before .before .loop .inv) (told .before .before .before .before .before .before .before .before .before .pre .1) (is-next told)
-    (cleared .ensures) (c .before .before .before .before .before .before .way-by .ensures) (c .before .before .before .before .before .longer .ensures) (c .before .before .before .before .if1 .taken) (cleared .kept .0)
-
-add-count : tie.Need-add-count Inv-loop μ-loop
-add-count c =
-    let i = c .before .before .before .before .before .before .before .before .before .loop .inv in
-    omega (arith, row-few i, i .within, c .before .before .before .before .before .before .before .before .before .before .before .before .pre .0 .most)
-
-add-from-2 : tie.Need-add-from-2 Inv-loop μ-loop
-add-from-2 c = omega (arith, is-next (c .before .before .before) .inside)
-
-loop-less-2 : tie.Need-loop-less-2 Inv-loop μ-loop
-loop-less-2 c = let n = is-next (c .before .before .before) in omega (arith, n .inside, n .after)
-
-loop-again-2 : tie.Need-loop-again-2 Inv-loop μ-loop
-loop-again-2 c =
-    let told = c .before .before .before in
-    row-keep _ _ _ _ _ (told .before .before .before .before .before .before .loop .inv) (told .before .before .before .before .before .before .before .before .before .pre .1) (is-next told)
-    (c .before .before .way-by .ensures) (c .before .longer .ensures) (omega arith)
+-- src/lib.rt:138:1
+returns-2 : tie.Need-returns-2
+returns-2 c = search needs
 
 pub drop-row-spec : {M : Type 1} → statement M
 drop-row-spec =
     tie.close
     (tie.spec
-    Inv-loop
-    μ-loop
     mul-base
-    loop-holds
-    mul-next-member
-    sub-next-member
-    part-next-member-start
-    part-next-member-end
-    next-member-requires
-    enum-known-found
-    enum-told
+    mul-is-empty
+    sub-is-empty
+    part-is-empty-start
+    part-is-empty-end
+    is-empty-requires
     same-length
     returns
-    way-by-requires
-    longer-requires
-    row-clear-requires
-    add-from
-    loop-less
-    loop-again
-    add-count
-    add-from-2
-    loop-less-2
-    loop-again-2)
+    drop-members-requires
+    same-length-2
+    returns-2)

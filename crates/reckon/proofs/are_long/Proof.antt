@@ -2,11 +2,8 @@
 -- Assumes nothing.
 use Rattle.map.specs.Memory.{base}
 use Rattle.reckon.proofs.Longs.{short-links, short-pairs, short-hops, short-bounds, short-skips, short-even, long-odd}
-use borrow.Author.Needs.{needs}
 use Rattle.reckon.proofs.are_long.Statement.{statement}
 use Rattle.reckon.proofs.are_long.Tie as tie
-use Rattle.reckon.proofs.are_long.Reads as reads
-use Rattle.reckon.proofs.are_long.Lts as lts
 
 -- src/lib.rt:40:9
 returns : tie.Need-returns

@@ -7,10 +7,6 @@ use Rattle.reckon.proofs.Reckons.{base-shape, granted-long, granted-net
 use borrow.Author.Needs.{needs}
 use Rattle.reckon.proofs.reckon_all.Statement.{statement}
 use Rattle.reckon.proofs.reckon_all.Tie as tie
-use Rattle.reckon.proofs.reckon_all.Reads as reads
-use Rattle.reckon.proofs.reckon_all.Lts as lts
-use Rattle.reckon.proofs.reckon_map.Reads as reckon-map-reads
-use Rattle.reckon.proofs.reckon_refusal.Reads as reckon-refusal-reads
 
 -- src/lib.rt:139:9
 reckon-refusal-requires : tie.Need-reckon-refusal-requires

@@ -6,10 +6,6 @@ use Rattle.reckon.proofs.Reckons.{base-shape, begun-counted, reckoned-i
 use borrow.Author.Needs.{needs}
 use Rattle.reckon.proofs.reckon_map.Statement.{statement}
 use Rattle.reckon.proofs.reckon_map.Tie as tie
-use Rattle.reckon.proofs.reckon_map.Reads as reads
-use Rattle.reckon.proofs.reckon_map.Lts as lts
-use Rattle.rounds.proofs.begin.Reads as begin-reads
-use Rattle.rounds.proofs.run_rounds.Reads as run-rounds-reads
 
 -- src/lib.rt:103:41
 slice-aggregate-begin : tie.Need-slice-aggregate-begin

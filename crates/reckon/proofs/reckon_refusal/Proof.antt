@@ -9,11 +9,6 @@ use Rattle.reckon.proofs.Reckons.{refused-short, refused-spoilt, refuse
 use borrow.Author.Needs.{needs}
 use Rattle.reckon.proofs.reckon_refusal.Statement.{statement}
 use Rattle.reckon.proofs.reckon_refusal.Tie as tie
-use Rattle.reckon.proofs.reckon_refusal.Reads as reads
-use Rattle.reckon.proofs.reckon_refusal.Lts as lts
-use Rattle.map.proofs.links_are_sound.Reads as links-are-sound-reads
-use Rattle.reckon.proofs.are_long.Reads as are-long-reads
-use Rattle.search.proofs.map_is_connected.Reads as map-is-connected-reads
 
 -- src/lib.rt:73:9
 are-long-requires : tie.Need-are-long-requires

@@ -4,12 +4,6 @@ use Rattle.rounds.proofs.Turns.{absorb-is}
 use borrow.Author.Needs.{needs}
 use Rattle.rounds.proofs.absorb.Statement.{statement}
 use Rattle.rounds.proofs.absorb.Tie as tie
-use Rattle.rounds.proofs.absorb.Reads as reads
-use Rattle.rounds.proofs.absorb.Lts as lts
-use Rattle.bounds.proofs.leave.Reads as leave-reads
-use Rattle.bounds.proofs.relax.Reads as relax-reads
-use Rattle.rounds.proofs.raise.Reads as raise-reads
-use Rattle.rounds.proofs.settle_by.Reads as settle-by-reads
 
 -- src/lib.rt:72:9
 settle-by-requires : tie.Need-settle-by-requires

@@ -4,11 +4,6 @@ use Rattle.rounds.proofs.Turns.{begin-is}
 use borrow.Author.Needs.{needs}
 use Rattle.rounds.proofs.begin.Statement.{statement}
 use Rattle.rounds.proofs.begin.Tie as tie
-use Rattle.rounds.proofs.begin.Reads as reads
-use Rattle.rounds.proofs.begin.Lts as lts
-use Rattle.layers.proofs.fill.Reads as fill-reads
-use Rattle.rows.proofs.clear.Reads as clear-reads
-use Rattle.rows.proofs.copy.Reads as copy-reads
 
 -- src/lib.rt:186:33
 mul-clear : tie.Need-mul-clear

@@ -1,11 +1,8 @@
 -- `rounds::raise` meets its contract: by the one test.
 -- Assumes nothing.
 use Rattle.rounds.proofs.Turns.{raise-higher, raise-same}
-use borrow.Author.Needs.{needs}
 use Rattle.rounds.proofs.raise.Statement.{statement}
 use Rattle.rounds.proofs.raise.Tie as tie
-use Rattle.rounds.proofs.raise.Reads as reads
-use Rattle.rounds.proofs.raise.Lts as lts
 
 -- src/lib.rt:21:9
 returns : tie.Need-returns

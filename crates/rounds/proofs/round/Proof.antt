@@ -6,10 +6,6 @@ use Rattle.rounds.proofs.Turns.{round-is-absorbed}
 use borrow.Author.Needs.{needs}
 use Rattle.rounds.proofs.round.Statement.{statement}
 use Rattle.rounds.proofs.round.Tie as tie
-use Rattle.rounds.proofs.round.Reads as reads
-use Rattle.rounds.proofs.round.Lts as lts
-use Rattle.layers.proofs.search_table.Reads as search-table-reads
-use Rattle.rounds.proofs.absorb.Reads as absorb-reads
 
 -- src/lib.rt:103:9
 search-table-requires : tie.Need-search-table-requires

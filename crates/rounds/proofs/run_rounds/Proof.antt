@@ -2,7 +2,7 @@
 -- The measure is the number of remaining depots. Assumes nothing.
 use mathlib.Core.Path.{_≡_, refl, sym, ap, _∙_}
 use mathlib.Core.Option.{some}
-use Prim.Native.Nat.{ℕ, _*_}
+use Prim.Native.Nat.{_*_}
 use native.Mathlib.Omega.{arith}
 use lib.ListN.{length}
 use Rattle.lists.specs.Lists.{range, countb}
@@ -15,10 +15,6 @@ use Rattle.rounds.proofs.Turns.{AtRound, at-start, at-next, going-end, 
 use borrow.Author.Needs.{needs}
 use Rattle.rounds.proofs.run_rounds.Statement.{statement}
 use Rattle.rounds.proofs.run_rounds.Tie as tie
-use Rattle.rounds.proofs.run_rounds.Reads as reads
-use Rattle.rounds.proofs.run_rounds.Lts as lts
-use Rattle.bounds.proofs.pick_next.Reads as pick-next-reads
-use Rattle.rounds.proofs.round.Reads as round-reads
 
 abbrev Inv-loop : tie.InvT-loop
 Inv-loop hops₀ even₀ odd₀ seen₀ next₀ pairs₀ bounds₀ skips₀ waiting₀ links words mark now₀ hops even odd seen next pairs bounds skips waiting now =

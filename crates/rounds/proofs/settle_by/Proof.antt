@@ -4,9 +4,6 @@ use Rattle.rounds.proofs.Turns.{settle-even, settle-odd}
 use borrow.Author.Needs.{needs}
 use Rattle.rounds.proofs.settle_by.Statement.{statement}
 use Rattle.rounds.proofs.settle_by.Tie as tie
-use Rattle.rounds.proofs.settle_by.Reads as reads
-use Rattle.rounds.proofs.settle_by.Lts as lts
-use Rattle.pairs.proofs.settle.Reads as settle-reads
 
 -- src/lib.rt:41:9
 settle-requires : tie.Need-settle-requires

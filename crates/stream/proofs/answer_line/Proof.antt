@@ -8,11 +8,6 @@ use Rattle.stream.proofs.Answers.{Stands, frame-read, garbled-read, ans
 use borrow.Author.Needs.{needs}
 use Rattle.stream.proofs.answer_line.Statement.{statement}
 use Rattle.stream.proofs.answer_line.Tie as tie
-use Rattle.stream.proofs.answer_line.Reads as reads
-use Rattle.stream.proofs.answer_line.Lts as lts
-use Rattle.notice.proofs.read_notice.Reads as read-notice-reads
-use Rattle.opening.proofs.open_sound.Reads as open-sound-reads
-use Rattle.stream.proofs.garbled.Reads as garbled-reads
 
 -- src/lib.rt:112:41
 slice-aggregate-read-notice : tie.Need-slice-aggregate-read-notice

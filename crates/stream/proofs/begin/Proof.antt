@@ -3,9 +3,6 @@ use Rattle.stream.proofs.Begins.{begins}
 use borrow.Author.Needs.{needs}
 use Rattle.stream.proofs.begin.Statement.{statement}
 use Rattle.stream.proofs.begin.Tie as tie
-use Rattle.stream.proofs.begin.Reads as reads
-use Rattle.stream.proofs.begin.Lts as lts
-use Rattle.map.proofs.empty_map.Reads as empty-map-reads
 
 -- src/lib.rt:54:9
 empty-map-requires : tie.Need-empty-map-requires

@@ -7,17 +7,12 @@ use native.Mathlib.Omega.{arith}
 use lib.ListN.{length}
 use Rattle.layers.specs.Layers.{tables}
 use Rattle.rounds.specs.Leaves.{lent}
-use Rattle.stream.specs.Feeding.{Feeding, feeding, fedOf, feedBytes, feedCall, partLeft, tookLine}
-use Rattle.stream.proofs.Stops.{going}
-use Rattle.stream.proofs.Feeds.{withPart, AtTurn, turn-end, turn-stopped, at-start, ready-turn, call-is, free-sizes, took-used, turn-held, part-free, part-held, part-beyond, part-inside, turn-next}
+use Rattle.stream.specs.Feeding.{Feeding, feeding}
+use Rattle.lines.proofs.Stops.{going}
+use Rattle.stream.proofs.Feeds.{AtTurn, turn-end, turn-stopped, at-start, ready-turn, call-is, free-sizes, took-used, turn-held, part-free, part-held, part-beyond, part-inside, turn-next}
 use borrow.Author.Needs.{needs}
 use Rattle.stream.proofs.feed.Statement.{statement}
 use Rattle.stream.proofs.feed.Tie as tie
-use Rattle.stream.proofs.feed.Reads as reads
-use Rattle.stream.proofs.feed.Lts as lts
-use Rattle.stream.proofs.hold_part.Reads as hold-part-reads
-use Rattle.stream.proofs.is_stopped.Reads as is-stopped-reads
-use Rattle.stream.proofs.take_line.Reads as take-line-reads
 
 abbrev Inv-loop : tie.InvT-loop
 Inv-loop links₀ pairs₀ hops₀ bounds₀ skips₀ even₀ odd₀ line₀ out₀ piece now₀ links pairs hops bounds skips even odd line out now =

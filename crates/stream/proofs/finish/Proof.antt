@@ -3,15 +3,11 @@ use mathlib.Core.Path.{sym, _∙_}
 use Prim.Native.Nat.{zero-le}
 use native.Mathlib.Omega.{arith}
 use Rattle.stream.proofs.Feeds.{free-sizes}
-use Rattle.stream.proofs.Stops.{going}
+use Rattle.lines.proofs.Stops.{going}
 use Rattle.stream.proofs.Turns.{finish-none, finish-stopped, finish-took}
 use borrow.Author.Needs.{needs}
 use Rattle.stream.proofs.finish.Statement.{statement}
 use Rattle.stream.proofs.finish.Tie as tie
-use Rattle.stream.proofs.finish.Reads as reads
-use Rattle.stream.proofs.finish.Lts as lts
-use Rattle.stream.proofs.is_stopped.Reads as is-stopped-reads
-use Rattle.stream.proofs.take_line.Reads as take-line-reads
 
 -- src/lib.rt:297:9
 returns : tie.Need-returns

@@ -7,10 +7,6 @@ use Rattle.stream.proofs.Turns.{took}
 use borrow.Author.Needs.{needs}
 use Rattle.stream.proofs.take_line.Statement.{statement}
 use Rattle.stream.proofs.take_line.Tie as tie
-use Rattle.stream.proofs.take_line.Reads as reads
-use Rattle.stream.proofs.take_line.Lts as lts
-use Rattle.stream.proofs.answer_line.Reads as answer-line-reads
-use Rattle.stream.proofs.put_report.Reads as put-report-reads
 
 -- src/lib.rt:184:9
 slice-aggregate-answer-line : tie.Need-slice-aggregate-answer-line

@@ -1,0 +1,2 @@
+-- The line buffer, the report behind what is written, the stop.
+pub mod Lines

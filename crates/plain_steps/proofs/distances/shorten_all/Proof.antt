@@ -1,0 +1,49 @@
+-- `plain_steps::distances::shorten_all` is safe and ends: at most 256 turns.
+-- Assumes nothing.
+use Prim.Native.Nat.{_≤_, _-_}
+use mathlib.Core.Path.{_≡_}
+use lib.ListN.{length}
+use borrow.Author.Needs.{needs}
+use Rattle.plain_steps.proofs.distances.shorten_all.Statement.{statement}
+use Rattle.plain_steps.proofs.distances.shorten_all.Tie as tie
+
+abbrev Inv-loop : tie.InvT-loop
+Inv-loop numbers₀ a u v₀ numbers v = (v ≤ 256) × (length numbers ≡ length numbers₀)
+
+abbrev μ-loop : tie.MeasureT-loop
+μ-loop numbers₀ a u v₀ numbers v = 256 - v
+
+loop-holds : tie.Need-loop-holds Inv-loop μ-loop
+loop-holds c = search needs
+
+shorten-requires : tie.Need-shorten-requires Inv-loop μ-loop
+shorten-requires c κs = search needs
+
+add-v : tie.Need-add-v Inv-loop μ-loop
+add-v c = search needs
+
+loop-less : tie.Need-loop-less Inv-loop μ-loop
+loop-less c = search needs
+
+loop-again : tie.Need-loop-again Inv-loop μ-loop
+loop-again c = search needs
+
+same-length : tie.Need-same-length Inv-loop μ-loop
+same-length c = search needs
+
+returns : tie.Need-returns Inv-loop μ-loop
+returns c = search needs
+
+pub shorten-all-spec : {M : Type 1} → statement M
+shorten-all-spec =
+    tie.close
+    (tie.spec
+    Inv-loop
+    μ-loop
+    loop-holds
+    shorten-requires
+    add-v
+    loop-less
+    loop-again
+    same-length
+    returns)

@@ -1,0 +1,57 @@
+-- `plain_steps::steps::leave_row` is safe and ends: at most 256 turns.
+-- Assumes nothing.
+use Prim.Native.Nat.{_≤_, _-_}
+use mathlib.Core.Path.{_≡_}
+use lib.ListN.{length}
+use borrow.Author.Needs.{needs}
+use Rattle.plain_steps.proofs.steps.leave_row.Statement.{statement}
+use Rattle.plain_steps.proofs.steps.leave_row.Tie as tie
+
+abbrev Inv-loop : tie.InvT-loop
+Inv-loop bits₀ start numbers s d v₀ bits v = (v ≤ 256) × (length bits ≡ length bits₀)
+
+abbrev μ-loop : tie.MeasureT-loop
+μ-loop bits₀ start numbers s d v₀ bits v = 256 - v
+
+loop-holds : tie.Need-loop-holds Inv-loop μ-loop
+loop-holds c = search needs
+
+add-put : tie.Need-add-put Inv-loop μ-loop
+add-put c = search needs
+
+is-at-requires : tie.Need-is-at-requires Inv-loop μ-loop
+is-at-requires c κs = search needs
+
+put-requires : tie.Need-put-requires Inv-loop μ-loop
+put-requires c κs = search needs
+
+add-v : tie.Need-add-v Inv-loop μ-loop
+add-v c = search needs
+
+loop-less : tie.Need-loop-less Inv-loop μ-loop
+loop-less c = search needs
+
+loop-again : tie.Need-loop-again Inv-loop μ-loop
+loop-again c = search needs
+
+same-length : tie.Need-same-length Inv-loop μ-loop
+same-length c = search needs
+
+returns : tie.Need-returns Inv-loop μ-loop
+returns c = search needs
+
+pub leave-row-spec : {M : Type 1} → statement M
+leave-row-spec =
+    tie.close
+    (tie.spec
+    Inv-loop
+    μ-loop
+    loop-holds
+    add-put
+    is-at-requires
+    put-requires
+    add-v
+    loop-less
+    loop-again
+    same-length
+    returns)

@@ -1,0 +1,39 @@
+-- WORKED INPUTS of the stream, by computation: what document 01 says in words of blank lines, stretches and refusals. The seven lines stand in the
+-- table of cases (crate cases). Assumes nothing.
+use mathlib.Core.Path.{_≡_, refl}
+use mathlib.Core.List.{List, [], _∷_, _++_}
+use Prim.Native.Nat.{ℕ, zero, suc}
+use Rattle.lists.specs.Lists.{allb}
+use Rattle.outcome.specs.Outcome.{letterOf, refusalOf}
+use Rattle.opening.specs.PlainList.{moved}
+use Rattle.notice.specs.Hex.{isDigit, digitValue}
+use Rattle.notice.specs.Lines.{endOf, spellsFrame, isFrame, bytesOf, readHead}
+use Rattle.report.specs.Decimal.{spell, decimal}
+use Rattle.report.specs.Line.{outcomeText, field, figuresText}
+use Rattle.transcript.specs.Transcript.{transcript}
+use Rattle.transcript.specs.Texts.{bytesIn}
+
+-- nothing in, nothing out
+pub nothing : transcript [] ≡ []
+unfolding transcript
+nothing = refl
+
+-- "A last stretch without 0A is one garbled line", a well-formed frame too; "as is a blank line"; lines are counted from 1
+pub stretches : transcript (bytesIn "\n010000\n01010100") ≡ bytesIn "1 R9 0 0 0 0\n2 K 1 0 0 1\n3 R9 1 0 0 0\n"
+unfolding bytesIn transcript moved allb readHead endOf spellsFrame isFrame bytesOf isDigit digitValue outcomeText letterOf refusalOf figuresText field decimal spell
+stretches = refl
+
+-- a refused line has the map's present figures and no search: taken, lonely, unsorted, unknown, garbled
+pub refusals : transcript (bytesIn "010000\n01010100\n010100\n010200\n0102020100\n01020103\n0102\n") ≡ bytesIn "1 K 1 0 0 1\n2 G 2 1 1 1\n3 R5 2 1 1 0\n4 R6 2 1 1 0\n5 R7 2 1 1 0\n6 R8 2 1 1 0\n7 R9 2 1 1 0\n"
+unfolding bytesIn transcript moved allb readHead endOf spellsFrame isFrame bytesOf isDigit digitValue outcomeText letterOf refusalOf figuresText field decimal spell
+refusals = refl
+
+-- n zeros, as digits
+unfoldable pub zerosText : ℕ → List ℕ
+zerosText zero = []
+zerosText (suc n) = 48 ∷ zerosText n
+
+-- "an overlong one up to its 0A" is one garbled line, and reading goes on after it
+pub overlong : transcript (zerosText 600 ++ bytesIn "\n010000\n") ≡ bytesIn "1 R9 0 0 0 0\n2 K 1 0 0 1\n"
+unfolding bytesIn transcript moved allb readHead endOf spellsFrame isFrame bytesOf isDigit digitValue outcomeText letterOf refusalOf figuresText field decimal spell zerosText
+overlong = refl

@@ -1,0 +1,2 @@
+-- Worked inputs, by computation.
+pub mod Examples

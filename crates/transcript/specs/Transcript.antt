@@ -1,0 +1,93 @@
+-- THE TRANSCRIPT: what a whole input of the stream gives as whole output (document 01, 'The stream program'), over bytes and networks. No word
+-- and no table is in it.
+-- Assumes nothing.
+use mathlib.Core.Bool.{cond}
+use mathlib.Core.List.{List, [], _∷_, _++_}
+use Prim.Native.Nat.{ℕ, zero, suc, _+_}
+use lib.Dec.{eqb}
+use lib.ListN.{length, getD, take, drop}
+use Rattle.lists.specs.Lists.{firstOf}
+use Rattle.graph.specs.Network.{Network}
+use Rattle.graph.specs.Distance.{vertices}
+use Rattle.graph.specs.Chart.{chart, diameter, farthest, countPairs}
+use Rattle.graph.specs.Opening.{Notice, emptyNetwork, noticeFaults, opening}
+use Rattle.outcome.specs.Numbers.{garbledLine}
+use Rattle.outcome.specs.declared.Outcome.{Outcome}
+use Rattle.outcome.specs.declared.Outcome.the-variants.{Refused}
+use Rattle.opening.specs.PlainList.{plainAnswer, plainNext}
+use Rattle.notice.specs.Lines.{lineEnd, Line, garbled, frame, readLine}
+use Rattle.report.specs.Line.{reportLine}
+use Rattle.report.specs.declared.Report.{Report}
+
+-- "it reads at most 1,000,000 lines"
+abbrev pub linesLimit : ℕ
+linesLimit = 1000000
+
+-- ---- the lines of an input, each with its ending
+
+-- a byte before the first of some lines; a line of its own where there is none
+unfoldable pub onto : ℕ → List (List ℕ) → List (List ℕ)
+onto b [] = (b ∷ []) ∷ []
+onto b (l ∷ ls) = (b ∷ l) ∷ ls
+
+-- 0A ends a line; a last stretch without 0A is a line too, unless nothing is in it
+unfoldable pub linesOf : List ℕ → List (List ℕ)
+unfolding onto
+linesOf [] = []
+linesOf (b ∷ bs) = let ls = linesOf bs in cond (eqb b lineEnd) ((b ∷ []) ∷ ls) (onto b ls)
+
+-- ---- a line's answer
+
+-- the notice in a frame: kind, code, count, neighbours
+unfoldable pub noticeIn : List ℕ → Notice
+noticeIn f = record { code = getD f 1 0; neighbours = drop 3 f }
+
+-- what a line gives: its outcome, the network after it, and the searches of its call
+pub record Followed : Type 0 where
+  pub outcome : Outcome
+  pub network : Network
+  pub searches : ℕ
+
+-- the searches of an opening that is not refused are those of document 01's steps, on the true figures of the network before it
+unfoldable pub searchesBy : ℕ → Network → Network → Notice → ℕ
+unfolding chart diameter farthest opening
+searchesBy zero G H o = length (opening (chart H) (o .code) (diameter G) (farthest G) .final .references)
+searchesBy (suc k) G H o = 0
+
+-- an opening whose refusal is k, 0 for none: the plain list's answer
+unfoldable pub followBy : ℕ → Network → Notice → Followed
+unfolding plainNext plainAnswer searchesBy
+followBy k G o = let H = plainNext k G o in record { outcome = plainAnswer k G H; network = H; searches = searchesBy k G H o }
+
+-- a line as the reader takes it: "A last stretch without 0A is one garbled line, as is a blank line, or an overlong one up to its 0A."
+unfoldable pub followLine : Network → Line → Followed
+unfolding noticeIn followBy firstOf noticeFaults
+followLine G garbled = record { outcome = Refused garbledLine; network = G; searches = 0 }
+followLine G (frame f used) = let o = noticeIn f in followBy (firstOf (noticeFaults G o)) G o
+
+-- ---- the output
+
+-- "line number; G, K, S or R and the refusal; depots open; chain; pair count; searches of this call"
+unfoldable pub reportOn : ℕ → Followed → Report
+unfolding vertices diameter farthest countPairs
+reportOn n x =
+    let H = x .network in
+    record {
+      number = n;
+      outcome = x .outcome;
+      depots = length (vertices H);
+      chain = diameter H;
+      pairs = countPairs (vertices H) (farthest H);
+      searches = x .searches;
+    }
+
+-- the reports of the lines behind the first n, on the map of the network G
+unfoldable pub reportsFrom : ℕ → Network → List (List ℕ) → List ℕ
+unfolding followLine readLine reportLine reportOn
+reportsFrom n G [] = []
+reportsFrom n G (l ∷ ls) = let x = followLine G (readLine l) in reportLine (reportOn (n + 1) x) ++ reportsFrom (n + 1) (x .network) ls
+
+-- "Starting from an empty map": the whole output of an input
+unfoldable pub transcript : List ℕ → List ℕ
+unfolding reportsFrom emptyNetwork linesOf
+transcript input = reportsFrom 0 (emptyNetwork 256) (take linesLimit (linesOf input))

@@ -1,0 +1,1 @@
+// What a whole input of the stream gives as whole output; no code. Start at specs/Lib.antt.
