@@ -1,5 +1,4 @@
 // Small functions on bytes that all of the program uses. Each is safe for any place and any size, so that the functions above have nothing to show.
-ghost use Prim.Native.Nat.{_≤_, _<_};
 
 // Byte i, 0 past the end.
 pub fn get(s: &[u8], i: usize) -> u8 {
@@ -48,12 +47,21 @@ pub fn part(s: &[u8], from: usize, to: usize) -> &[u8] {
     &s[from..to]
 }
 
-// The first n bytes of a buffer that is lent on, or all where there are fewer.
-pub fn part_mut(s: &mut [u8], n: usize) -> &mut [u8] {
-    if s.len() < n {
+// This many bytes of a buffer that is lent on, from a place on, or those that are there.
+pub fn window(s: &mut [u8], from: usize, size: usize) -> &mut [u8] {
+    if s.len() < from {
         return s;
     }
-    &mut s[..n]
+    if s.len() - from < size {
+        return &mut s[from..];
+    }
+    let to = from + size;
+    &mut s[from..to]
+}
+
+// A sum of numbers below a million.
+pub fn plus(a: usize, b: usize) -> usize {
+    a % 1000000 + b % 1000000
 }
 
 // A byte as a number.

@@ -12,7 +12,7 @@ const ROOMS: [usize; 6] = [48, 49, 95, 96, 1000, 4096];
 
 // One cut.
 fn try_cut(t: Tally, input: &[u8], want: &[u8], size: usize, room: usize) -> Tally {
-    let mut got = [0u8; 8192];
+    let mut got = [0u8; 16384];
     let n = run(&mut got, input, size, room);
     t.seen(check::same(part(&got, 0, n), want))
 }

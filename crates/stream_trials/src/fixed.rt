@@ -36,14 +36,8 @@ pub fn last_stretches() -> Tally {
         b"1 K 1 0 0 1\n2 R9 1 0 0 0\n",
         0,
     );
-    let half = given(
-        second,
-        b"010000\n0101010",
-        b"1 K 1 0 0 1\n2 R9 1 0 0 0\n",
-        0,
-    );
     given(
-        half,
+        second,
         b"010000\n01010100\n\n0",
         b"1 K 1 0 0 1\n2 G 2 1 1 1\n3 R9 2 1 1 0\n4 R9 2 1 1 0\n",
         0,

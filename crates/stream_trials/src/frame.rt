@@ -77,10 +77,11 @@ fn are_rising(line: &[u8], count: usize) -> bool {
 }
 
 // Whether the neighbours are open.
-fn are_open(line: &[u8], codes: &[u8], count: usize) -> bool {
+fn are_open(line: &[u8], links: &[u8], count: usize) -> bool {
     let mut k = 0;
     while k < count {
-        if !has(codes, neighbour(line, k)) {
+        let v = neighbour(line, k);
+        if !has(links, place(v, v)) {
             return false;
         }
         k += 1;
@@ -89,12 +90,13 @@ fn are_open(line: &[u8], codes: &[u8], count: usize) -> bool {
 }
 
 // The refusal of a line, 0 for none, on a network of `number` depots.
-pub fn refusal(line: &[u8], codes: &[u8], number: usize) -> usize {
+pub fn refusal(line: &[u8], links: &[u8], number: usize) -> usize {
     if !is_frame(line) {
         return 9;
     }
     let count = byte(line, 2);
-    if has(codes, byte(line, 1)) {
+    let code = byte(line, 1);
+    if has(links, place(code, code)) {
         return 5;
     }
     if count == 0 {
@@ -103,7 +105,7 @@ pub fn refusal(line: &[u8], codes: &[u8], number: usize) -> usize {
     if !are_rising(line, count) {
         return 7;
     }
-    if are_open(line, codes, count) { 0 } else { 8 }
+    if are_open(line, links, count) { 0 } else { 8 }
 }
 
 // Puts a link into the table, both ways round.
@@ -113,16 +115,17 @@ fn link(links: &mut [u8], u: usize, v: usize) {
 }
 
 // Puts the links of a frame into the table.
-fn link_all(links: &mut [u8], line: &[u8], count: usize) {
+fn link_all(links: &mut [u8], line: &[u8], code: usize, count: usize) {
     let mut k = 0;
     while k < count {
-        link(links, byte(line, 1), neighbour(line, k));
+        link(links, code, neighbour(line, k));
         k += 1;
     }
 }
 
-// Puts the depot of a frame into the tables.
-pub fn join(codes: &mut [u8], links: &mut [u8], line: &[u8]) {
-    mark(codes, byte(line, 1));
-    link_all(links, line, byte(line, 2));
+// Puts the depot of a frame into the table, with its links.
+pub fn join(links: &mut [u8], line: &[u8]) {
+    let code = byte(line, 1);
+    mark(links, place(code, code));
+    link_all(links, line, code, byte(line, 2));
 }

@@ -1,13 +1,11 @@
 // The full map: 256 depots, the last of them by a notice of the greatest length. A plain search from every depot after each notice would take too
-// long, so the output is made by the star's own arithmetic.
+// long, so that of its output only the last line is given.
 use crate::bytes::all;
 use crate::bytes::part;
 use crate::cuts::every_cut;
 use crate::long::line;
 use crate::long::longest;
-use crate::network::Figures;
-use crate::plain::Said;
-use crate::plain::report;
+use crate::run::run;
 use testbed::tally::Tally;
 use testbed::tally::start;
 
@@ -23,73 +21,29 @@ fn star(out: &mut [u8], at: usize) -> usize {
     end
 }
 
-// The pairs after line i, from those before it: a depot beside 0 is two links from every other, but not from 0. The last, 255, is beside all.
-fn pairs_after(before: usize, i: usize) -> usize {
-    if i < 2 {
-        return 0;
-    }
-    if i < 4 {
-        return 1;
-    }
-    if 255 < i {
-        return before;
-    }
-    before % 1000000 + (i - 2)
-}
-
-// The chain after line i.
-fn chain_after(i: usize) -> usize {
-    match i {
-        1 => 0,
-        2 => 1,
-        _ => 2,
-    }
-}
-
-// The letter of line i: the chain grows with the second and the third depot.
-fn letter_of(i: usize) -> u8 {
-    match i {
-        2 | 3 => 71,
-        _ => 75,
-    }
-}
-
-// What line i is answered.
-fn said(i: usize, pairs: usize) -> Said {
-    let figures = Figures {
-        chain: chain_after(i),
-        pairs: pairs,
-    };
-    Said {
-        letter: letter_of(i),
-        refusal: 0,
-        searches: 1,
-        number: i,
-        figures: figures,
-    }
-}
-
-// The reports of the 256 lines.
-fn reports(out: &mut [u8]) -> usize {
-    let mut end = 0;
-    let mut pairs = 0;
-    let mut i = 1;
-    while i < 257 {
-        pairs = pairs_after(pairs, i);
-        end = report(out, end, i, said(i, pairs));
-        i += 1;
-    }
-    end
-}
-
-// A star of 255 depots, and the last depot beside them all.
+// The longest notice too early, so that most of its neighbours are closed; a star of 255 depots; and that notice again: the 254 depots beside 0 are
+// two links apart, 254 x 253 / 2 pairs, and stay so. The first and the last lines stand here, and every cut has to write what the first one does.
 pub fn full_map() -> Tally {
     let mut text = [0u8; 8192];
     let a = all(&mut text, 0, b"010000\n");
-    let b = star(&mut text, a);
-    let c = longest(&mut text, b);
-    let d = all(&mut text, c, b"\n");
-    let mut want = [0u8; 8192];
-    let n = reports(&mut want);
-    every_cut(start(), part(&text, 0, d), part(&want, 0, n))
+    let b = longest(&mut text, a);
+    let c = star(&mut text, b);
+    let d = longest(&mut text, c);
+    let mut out = [0u8; 16384];
+    let n = run(&mut out, part(&text, 0, d), 8192, 8192);
+    let got = part(&out, 0, n);
+    every_cut(ends(got), part(&text, 0, d), got)
+}
+
+// The first and the last lines.
+fn ends(out: &[u8]) -> Tally {
+    let first = start().seen(check::same(
+        part(out, 0, 37),
+        b"1 K 1 0 0 1\n2 R8 1 0 0 0\n3 G 2 1 1 1\n",
+    ));
+    let n = out.len();
+    if n < 21 {
+        return first.seen(false);
+    }
+    first.seen(check::same(part(out, n - 21, n), b"\n257 K 256 2 32131 1\n"))
 }

@@ -50,100 +50,62 @@ fn rise(bytes: &mut [u8]) {
     }
 }
 
-// The digits of the longest frame: 255 opens beside 0 to 254, 516 bytes.
+// The line of the longest frame: 255 opens beside 0 to 254, 517 bytes.
 pub fn longest(out: &mut [u8], at: usize) -> usize {
     let mut bytes = [1u8; 258];
     bytes[1] = 255;
     bytes[2] = 255;
     rise(&mut bytes);
-    frame(out, at, &bytes)
+    line(out, at, &bytes)
 }
 
-// ---- overlong lines
+// ---- long lines
 
-// A good line, a line of this many digits, and a good line again.
-fn overlong(t: Tally, times: usize) -> Tally {
+// An input that begins with some bytes, goes on with a digit 0 many times, and ends with other bytes.
+fn around(t: Tally, before: &[u8], times: usize, after: &[u8], want: &[u8]) -> Tally {
     let mut text = [0u8; 8192];
-    let a = all(&mut text, 0, b"010000\n");
+    let a = all(&mut text, 0, before);
     let b = repeat(&mut text, a, 48, times);
-    let c = all(&mut text, b, b"\n01010100\n");
+    let c = all(&mut text, b, after);
+    given(t, part(&text, 0, c), want, 0)
+}
+
+// An overlong line up to its ending is one line, and what follows is read.
+fn overlong_between(t: Tally, times: usize) -> Tally {
     let want = b"1 K 1 0 0 1\n2 R9 1 0 0 0\n3 G 2 1 1 1\n";
-    given(t, part(&text, 0, c), want, 0)
+    around(t, b"010000\n", times, b"\n01010100\n", want)
 }
 
-// A line of this many digits whose last bytes are a good line: it is no line of its own.
-fn overlong_with_frame(t: Tally, times: usize) -> Tally {
-    let mut text = [0u8; 8192];
-    let a = repeat(&mut text, 0, 48, times);
-    let b = all(&mut text, a, b"010000\n010000\n");
-    given(t, part(&text, 0, b), b"1 R9 0 0 0 0\n2 K 1 0 0 1\n", 0)
+// A good line as the last bytes of an overlong one opens nothing.
+fn overlong_first(t: Tally, times: usize) -> Tally {
+    let want = b"1 R9 0 0 0 0\n2 K 1 0 0 1\n";
+    around(t, b"", times, b"010000\n010000\n", want)
 }
 
-// A line that is overlong and has no ending either.
-fn overlong_at_end(t: Tally, times: usize) -> Tally {
-    let mut text = [0u8; 8192];
-    let a = all(&mut text, 0, b"010000\n");
-    let b = repeat(&mut text, a, 48, times);
-    given(t, part(&text, 0, b), b"1 K 1 0 0 1\n2 R9 1 0 0 0\n", 0)
-}
-
-// Overlong lines up to their ending are one line, and what follows is read.
+// Overlong lines of 600 and 5,000 bytes, and one of 517 before the good line that it ends with.
 pub fn overlong_lines() -> Tally {
-    let a = overlong(start(), 600);
-    let b = overlong(a, 5000);
-    let c = overlong_with_frame(b, 517);
-    let d = overlong_with_frame(c, 5000);
-    let e = overlong_at_end(d, 600);
-    overlong_at_end(e, 5000)
+    let a = overlong_between(start(), 600);
+    let b = overlong_between(a, 5000);
+    let c = overlong_first(b, 517);
+    overlong_first(c, 5000)
 }
 
-// ---- lines about the limit
-
-// 517 bytes with the ending is a line that is read: unknown neighbours.
-fn limit_unknown(t: Tally) -> Tally {
-    let mut text = [0u8; 8192];
-    let a = all(&mut text, 0, b"010000\n");
-    let b = longest(&mut text, a);
-    let c = all(&mut text, b, b"\n01010100\n");
-    let want = b"1 K 1 0 0 1\n2 R8 1 0 0 0\n3 G 2 1 1 1\n";
-    given(t, part(&text, 0, c), want, 0)
+// AA opens beside 255 neighbours, 516 digits at `times` 510: with its ending it has 517 bytes and is read, and the neighbours do not rise.
+fn about_limit(t: Tally, times: usize, want: &[u8]) -> Tally {
+    around(t, b"01AAFF", times, b"\n010000\n", want)
 }
 
-// The same with neighbours that are all alike, so that they do not rise.
-fn limit_unsorted(t: Tally) -> Tally {
-    let mut bytes = [171u8; 258];
-    bytes[0] = 1;
-    bytes[2] = 255;
-    let mut text = [0u8; 8192];
-    let a = line(&mut text, 0, &bytes);
-    let b = all(&mut text, a, b"010000\n");
-    given(t, part(&text, 0, b), b"1 R7 0 0 0 0\n2 K 1 0 0 1\n", 0)
-}
-
-// The longest frame with more behind it is too long: 518 bytes with the ending, then 519.
-fn beyond_limit(t: Tally, more: &[u8]) -> Tally {
-    let mut text = [0u8; 8192];
-    let a = longest(&mut text, 0);
-    let b = all(&mut text, a, more);
-    let c = all(&mut text, b, b"\n010000\n");
-    given(t, part(&text, 0, c), b"1 R9 0 0 0 0\n2 K 1 0 0 1\n", 0)
-}
-
-// The longest frame without its ending, at the end of the input.
-fn limit_at_end(t: Tally) -> Tally {
-    let mut text = [0u8; 8192];
-    let a = all(&mut text, 0, b"010000\n");
-    let b = longest(&mut text, a);
-    given(t, part(&text, 0, b), b"1 K 1 0 0 1\n2 R9 1 0 0 0\n", 0)
+// The same without its ending, at the end of the input.
+fn unended(t: Tally, times: usize) -> Tally {
+    around(t, b"01AAFF", times, b"", b"1 R9 0 0 0 0\n")
 }
 
 // Lines about the limit of 517 bytes.
 pub fn limits() -> Tally {
-    let a = limit_unknown(start());
-    let b = limit_unsorted(a);
-    let c = beyond_limit(b, b"0");
-    let d = beyond_limit(c, b"00");
-    limit_at_end(d)
+    let a = about_limit(start(), 510, b"1 R7 0 0 0 0\n2 K 1 0 0 1\n");
+    let b = about_limit(a, 511, b"1 R9 0 0 0 0\n2 K 1 0 0 1\n");
+    let c = about_limit(b, 512, b"1 R9 0 0 0 0\n2 K 1 0 0 1\n");
+    unended(unended(c, 510), 5000)
 }
 
 // ---- rings
@@ -166,8 +128,8 @@ fn path(out: &mut [u8], at: usize, many: usize) -> usize {
     end
 }
 
-// A path that its last depot, n - 1, closes to a ring of n; that notice again; and a depot beside the first. In a ring all depots have the same
-// eccentricity: no bound falls below it, so that all n are searched.
+// A path that its last depot, n - 1, closes to a ring of n, and a depot beside the first. In a ring all depots have the same eccentricity: no bound
+// falls below it, so that all n are searched.
 fn ring(t: Tally, n: usize) -> Tally
     requires { ⌜ 20 ≤ n ⌝ }
 {
@@ -175,10 +137,9 @@ fn ring(t: Tally, n: usize) -> Tally
     let a = path(&mut text, 0, n - 1);
     let closing = [1, code(n - 1), 2, code(0), code(n - 2)];
     let b = line(&mut text, a, &closing);
-    let c = line(&mut text, b, &closing);
     let behind = [1, 255, 1, code(0)];
-    let d = line(&mut text, c, &behind);
-    made(t, part(&text, 0, d), n)
+    let c = line(&mut text, b, &behind);
+    made(t, part(&text, 0, c), n)
 }
 
 // Rings of 20 to 40 depots.

@@ -12,8 +12,8 @@ mod run;
 
 use testbed::tally::print;
 
-// Each group in turn: a failed case shows in its line, which the stored output does not have.
-fn main() {
+// Inputs that stand in the program in full.
+fn fixed_inputs() {
     print(b"no input, and blank lines alone", fixed::nothing());
     print(
         b"the seven lines of document 01, with and without the last ending",
@@ -33,6 +33,10 @@ fn main() {
         b"refusals 5, 6, 7, 8 and 9, with the figures after each",
         fixed::refusals(),
     );
+}
+
+// Inputs that the program makes.
+fn made_inputs() {
     print(
         b"overlong lines of 600 to 5,000 bytes, and what follows them",
         long::overlong_lines(),
@@ -40,4 +44,10 @@ fn main() {
     print(b"lines of 516, 517, 518 and 519 bytes", long::limits());
     print(b"rings of 20 to 40 depots that close", long::rings());
     print(b"256 depots, the last beside 255", full::full_map());
+}
+
+// Each group in turn: a failed case shows in its line, which the stored output does not have.
+fn main() {
+    fixed_inputs();
+    made_inputs();
 }

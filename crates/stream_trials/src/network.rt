@@ -1,4 +1,5 @@
-// The plain network: open codes and links as tables of bytes, 1 for what is there, and its figures by a search from every depot.
+// The plain network: a table of bytes, 1 for what is there. The place of u and v says whether they are linked, and that of u and u whether u is open.
+// Its figures come by a search from every depot.
 use crate::bytes::get;
 use crate::bytes::next;
 
@@ -33,19 +34,14 @@ fn distance(dist: &[usize], v: usize) -> usize {
     if v < dist.len() { dist[v] } else { NONE }
 }
 
-// Gives v the distance d, where it has none.
-fn give(dist: &mut [usize], v: usize, d: usize) {
-    if distance(&*dist, v) == NONE {
-        if v < dist.len() {
-            dist[v] = d;
-        }
-    }
-}
-
-// Gives v the distance d, if u is linked to it.
+// Gives v the distance d, if u is linked to it and it has none.
 fn step(dist: &mut [usize], links: &[u8], u: usize, v: usize, d: usize) {
     if has(links, place(u, v)) {
-        give(dist, v, d);
+        if v < dist.len() {
+            if dist[v] == NONE {
+                dist[v] = d;
+            }
+        }
     }
 }
 
@@ -111,23 +107,30 @@ fn pairs_above(f: Figures, dist: &[usize], s: usize) -> Figures {
     now
 }
 
+// A search begins at s.
+fn begin(dist: &mut [usize], s: usize) {
+    if s < dist.len() {
+        dist[s] = 0;
+    }
+}
+
 // The pairs of s, if it is open.
-fn pairs_of(f: Figures, codes: &[u8], links: &[u8], number: usize, s: usize) -> Figures {
-    if !has(codes, s) {
+fn pairs_of(f: Figures, links: &[u8], number: usize, s: usize) -> Figures {
+    if !has(links, place(s, s)) {
         return f;
     }
     let mut dist = [NONE; 256];
-    give(&mut dist, s, 0);
+    begin(&mut dist, s);
     spread(&mut dist, links, number);
     pairs_above(f, &dist, s)
 }
 
 // Chain and pairs of the network.
-pub fn measure(codes: &[u8], links: &[u8], number: usize) -> Figures {
+pub fn measure(links: &[u8], number: usize) -> Figures {
     let mut f = Figures { chain: 0, pairs: 0 };
     let mut s = 0;
     while s < 256 {
-        f = pairs_of(f, codes, links, number, s);
+        f = pairs_of(f, links, number, s);
         s += 1;
     }
     f

@@ -13,12 +13,12 @@ use crate::network::Figures;
 use crate::network::measure;
 
 // What a line is answered: the letter, the refusal, 0 for none, and the searches; then the number of depots and the figures.
-pub struct Said {
-    pub letter: u8,
-    pub refusal: usize,
-    pub searches: usize,
-    pub number: usize,
-    pub figures: Figures,
+struct Said {
+    letter: u8,
+    refusal: usize,
+    searches: usize,
+    number: usize,
+    figures: Figures,
 }
 
 // The letter of an opening: its chain beside the one before.
@@ -55,13 +55,13 @@ fn refused(before: Said, number: usize) -> Said {
 }
 
 // What a line is answered after the one before, and its depot in the tables.
-fn answer(before: Said, codes: &mut [u8], links: &mut [u8], line: &[u8], shrinks: usize) -> Said {
-    let k = refusal(line, &*codes, before.number);
+fn answer(before: Said, links: &mut [u8], line: &[u8], shrinks: usize) -> Said {
+    let k = refusal(line, &*links, before.number);
     if k != 0 {
         return refused(before, k);
     }
-    join(codes, links, line);
-    let after = measure(&*codes, &*links, next(before.number));
+    join(links, line);
+    let after = measure(&*links, next(before.number));
     accepted(before, after, shrinks)
 }
 
@@ -117,7 +117,7 @@ fn shown(out: &mut [u8], at: usize, said: Said) -> usize {
 }
 
 // The report of a line behind the first bytes of out.
-pub fn report(out: &mut [u8], at: usize, line: usize, said: Said) -> usize {
+fn report(out: &mut [u8], at: usize, line: usize, said: Said) -> usize {
     let a = number(out, at, line);
     let b = outcome(out, a, said);
     let c = field(out, b, said.number);
@@ -155,20 +155,14 @@ fn nothing() -> Said {
 }
 
 // The reports of the lines of an input.
-fn reports(
-    out: &mut [u8],
-    codes: &mut [u8],
-    links: &mut [u8],
-    input: &[u8],
-    shrinks: usize,
-) -> usize {
+fn reports(out: &mut [u8], links: &mut [u8], input: &[u8], shrinks: usize) -> usize {
     let mut said = nothing();
     let mut line = 0;
     let mut at = 0;
     let mut end = 0;
     while at < input.len() {
         let to = line_end(input, at);
-        said = answer(said, codes, links, part(input, at, to), shrinks);
+        said = answer(said, links, part(input, at, to), shrinks);
         line = next(line);
         end = report(out, end, line, said);
         at = to;
@@ -178,7 +172,6 @@ fn reports(
 
 // The output of an input: how many bytes stand in `out`. Its S lines have `shrinks` searches.
 pub fn stream(out: &mut [u8], input: &[u8], shrinks: usize) -> usize {
-    let mut codes = [0u8; 256];
     let mut links = [0u8; 65536];
-    reports(out, &mut codes, &mut links, input, shrinks)
+    reports(out, &mut links, input, shrinks)
 }

@@ -3,9 +3,9 @@ ghost use Prim.Native.Nat.{_≤_, _<_};
 ghost use Rattle.layers.specs.Layers.{tables};
 ghost use Rattle.rounds.specs.Leaves.{lent};
 ghost use Rattle.stream.specs.Feeding.{IsReady};
-use crate::bytes::all;
 use crate::bytes::part;
-use crate::bytes::part_mut;
+use crate::bytes::plus;
+use crate::bytes::window;
 use stream::Progress;
 
 // Where a run stands: the stream's progress, and how many bytes of output are gathered.
@@ -35,7 +35,8 @@ fn forward(at: usize, used: usize, end: usize) -> usize
     at + used
 }
 
-// Feeds the whole input, piece after piece: a piece begins where the bytes used so far end, so that what a step left is fed again.
+// Feeds the whole input, piece after piece. A piece begins where the bytes used so far end, so that what a step left is fed again; the reports go
+// behind those before, into `room` bytes.
 fn answer(
     progress: Progress,
     links: &mut [u64],
@@ -46,10 +47,10 @@ fn answer(
     even: &mut [u64],
     odd: &mut [u64],
     line: &mut [u8],
-    out: &mut [u8],
     got: &mut [u8],
     input: &[u8],
     size: usize,
+    room: usize,
 ) -> Gathered
     requires { ⌜ IsReady progress (now links) (lent (now pairs) (tables (now hops) (now even) (now odd)) (now bounds) (now skips)) (now line) ⌝ }
     ensures { λ r. ⌜ IsReady (r .progress) (now (links .exit)) (lent (now (pairs .exit)) (tables (now (hops .exit)) (now (even .exit)) (now (odd .exit))) (now (bounds .exit)) (now (skips .exit))) (now (line .exit)) ⌝ }
@@ -69,11 +70,11 @@ fn answer(
             even,
             odd,
             line,
-            out,
+            window(got, n, room),
             part(input, at, to),
         );
         now = fed.progress;
-        n = all(got, n, part(&*out, 0, fed.written));
+        n = plus(n, fed.written);
         at = forward(at, fed.used, input.len());
     }
     Gathered {
@@ -82,89 +83,7 @@ fn answer(
     }
 }
 
-// Adds what the end of the input adds.
-fn end(
-    progress: Progress,
-    links: &mut [u64],
-    pairs: &mut [u64],
-    hops: &mut [u16],
-    bounds: &mut [u16],
-    skips: &mut [u16],
-    even: &mut [u64],
-    odd: &mut [u64],
-    out: &mut [u8],
-    got: &mut [u8],
-    line: &[u8],
-    n: usize,
-) -> usize
-    requires { ⌜ IsReady progress (now links) (lent (now pairs) (tables (now hops) (now even) (now odd)) (now bounds) (now skips)) (now line) ⌝ }
-{
-    let fed = stream::finish(
-        progress,
-        links,
-        pairs,
-        hops,
-        bounds,
-        skips,
-        even,
-        odd,
-        line,
-        out,
-    );
-    all(got, n, part(&*out, 0, fed.written))
-}
-
-// Follows a whole input on a stream that has begun.
-fn follow(
-    progress: Progress,
-    links: &mut [u64],
-    pairs: &mut [u64],
-    hops: &mut [u16],
-    bounds: &mut [u16],
-    skips: &mut [u16],
-    even: &mut [u64],
-    odd: &mut [u64],
-    line: &mut [u8],
-    out: &mut [u8],
-    got: &mut [u8],
-    input: &[u8],
-    size: usize,
-) -> usize
-    requires { ⌜ IsReady progress (now links) (lent (now pairs) (tables (now hops) (now even) (now odd)) (now bounds) (now skips)) (now line) ⌝ }
-{
-    let done = answer(
-        progress,
-        links,
-        pairs,
-        hops,
-        bounds,
-        skips,
-        even,
-        odd,
-        line,
-        out,
-        got,
-        input,
-        size,
-    );
-    let last = done.progress;
-    end(
-        last,
-        links,
-        pairs,
-        hops,
-        bounds,
-        skips,
-        even,
-        odd,
-        out,
-        got,
-        &*line,
-        done.n,
-    )
-}
-
-// The output of an input that is fed in pieces of `size` bytes, with `room` bytes for the reports, up to 4,096: how many bytes stand in `got`.
+// The output of an input that is fed in pieces of `size` bytes, with `room` bytes for the reports: how many bytes stand in `got`.
 pub fn run(got: &mut [u8], input: &[u8], size: usize, room: usize) -> usize {
     let mut links = [0u64; 1024];
     let mut pairs = [0u64; 1024];
@@ -174,9 +93,8 @@ pub fn run(got: &mut [u8], input: &[u8], size: usize, room: usize) -> usize {
     let mut even = [0u64; 4];
     let mut odd = [0u64; 4];
     let mut line = [0u8; 517];
-    let mut out = [0u8; 4096];
     let progress = stream::begin(&mut links, &mut pairs);
-    follow(
+    let done = answer(
         progress,
         &mut links,
         &mut pairs,
@@ -186,9 +104,23 @@ pub fn run(got: &mut [u8], input: &[u8], size: usize, room: usize) -> usize {
         &mut even,
         &mut odd,
         &mut line,
-        part_mut(&mut out, room),
         got,
         input,
         size,
-    )
+        room,
+    );
+    let now = done.progress;
+    let last = stream::finish(
+        now,
+        &mut links,
+        &mut pairs,
+        &mut hops,
+        &mut bounds,
+        &mut skips,
+        &mut even,
+        &mut odd,
+        &line,
+        window(got, done.n, room),
+    );
+    plus(done.n, last.written)
 }

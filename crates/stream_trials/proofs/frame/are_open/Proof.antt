@@ -5,16 +5,19 @@ use Rattle.stream_trials.proofs.frame.are_open.Statement.{statement}
 use Rattle.stream_trials.proofs.frame.are_open.Tie as tie
 
 abbrev Inv-loop : tie.InvT-loop
-Inv-loop line «open» count k₀ k = k ≤ count
+Inv-loop line links count k₀ k = k ≤ count
 
 abbrev μ-loop : tie.MeasureT-loop
-μ-loop line «open» count k₀ k = count - k
+μ-loop line links count k₀ k = count - k
 
 loop-holds : tie.Need-loop-holds Inv-loop μ-loop
 loop-holds c = search needs
 
 neighbour-requires : tie.Need-neighbour-requires Inv-loop μ-loop
 neighbour-requires c κs = search needs
+
+place-requires : tie.Need-place-requires Inv-loop μ-loop
+place-requires c κs = search needs
 
 has-requires : tie.Need-has-requires Inv-loop μ-loop
 has-requires c κs = search needs
@@ -42,6 +45,7 @@ are-open-spec =
     μ-loop
     loop-holds
     neighbour-requires
+    place-requires
     has-requires
     returns
     add-k

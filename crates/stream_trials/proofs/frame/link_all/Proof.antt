@@ -7,16 +7,13 @@ use Rattle.stream_trials.proofs.frame.link_all.Statement.{statement}
 use Rattle.stream_trials.proofs.frame.link_all.Tie as tie
 
 abbrev Inv-loop : tie.InvT-loop
-Inv-loop links₀ line count k₀ links k = (k ≤ count) × (length links ≡ length links₀)
+Inv-loop links₀ line code count k₀ links k = (k ≤ count) × (length links ≡ length links₀)
 
 abbrev μ-loop : tie.MeasureT-loop
-μ-loop links₀ line count k₀ links k = count - k
+μ-loop links₀ line code count k₀ links k = count - k
 
 loop-holds : tie.Need-loop-holds Inv-loop μ-loop
 loop-holds c = search needs
-
-byte-requires : tie.Need-byte-requires Inv-loop μ-loop
-byte-requires c κs = search needs
 
 neighbour-requires : tie.Need-neighbour-requires Inv-loop μ-loop
 neighbour-requires c κs = search needs
@@ -46,7 +43,6 @@ link-all-spec =
     Inv-loop
     μ-loop
     loop-holds
-    byte-requires
     neighbour-requires
     link-requires
     add-k

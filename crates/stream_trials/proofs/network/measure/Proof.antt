@@ -5,10 +5,10 @@ use Rattle.stream_trials.proofs.network.measure.Statement.{statement}
 use Rattle.stream_trials.proofs.network.measure.Tie as tie
 
 abbrev Inv-loop : tie.InvT-loop
-Inv-loop «open» links number f₀ s₀ f s = s ≤ 256
+Inv-loop links number f₀ s₀ f s = s ≤ 256
 
 abbrev μ-loop : tie.MeasureT-loop
-μ-loop «open» links number f₀ s₀ f s = 256 - s
+μ-loop links number f₀ s₀ f s = 256 - s
 
 loop-holds : tie.Need-loop-holds Inv-loop μ-loop
 loop-holds c = search needs

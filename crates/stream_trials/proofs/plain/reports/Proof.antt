@@ -7,10 +7,10 @@ use Rattle.stream_trials.proofs.plain.reports.Statement.{statement}
 use Rattle.stream_trials.proofs.plain.reports.Tie as tie
 
 abbrev Inv-loop : tie.InvT-loop
-Inv-loop out₀ codes₀ links₀ input shrinks said₀ line₀ at₀ end₀ out codes links said line at end = (at ≤ length input) × (length out ≡ length out₀) × (length codes ≡ length codes₀) × (length links ≡ length links₀)
+Inv-loop out₀ links₀ input shrinks said₀ line₀ at₀ end₀ out links said line at end = (at ≤ length input) × (length out ≡ length out₀) × (length links ≡ length links₀)
 
 abbrev μ-loop : tie.MeasureT-loop
-μ-loop out₀ codes₀ links₀ input shrinks said₀ line₀ at₀ end₀ out codes links said line at end = length input - at
+μ-loop out₀ links₀ input shrinks said₀ line₀ at₀ end₀ out links said line at end = length input - at
 
 nothing-requires : tie.Need-nothing-requires Inv-loop μ-loop
 nothing-requires c κs = search needs
@@ -45,9 +45,6 @@ same-length c = search needs
 same-length-2 : tie.Need-same-length-2 Inv-loop μ-loop
 same-length-2 c = search needs
 
-same-length-3 : tie.Need-same-length-3 Inv-loop μ-loop
-same-length-3 c = search needs
-
 returns : tie.Need-returns Inv-loop μ-loop
 returns c = search needs
 
@@ -68,5 +65,4 @@ reports-spec =
     loop-again
     same-length
     same-length-2
-    same-length-3
     returns)
