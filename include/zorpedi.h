@@ -1,0 +1,301 @@
+/* Zorpedi, the handover map, for C and C++.
+ *
+ * A map of depots and the links between them. It takes opening notices one by one and keeps the longest chain (the network's diameter) and
+ * the set of farthest pairs. Link with target/staticlib/libzorpedi.a (`rt staticlib zorpedi` makes it). examples/seven.c shows its use.
+ *
+ * WHAT IS PROMISED
+ * Each promise below holds for every value of every argument, and is proved. It settles the answer and every element lent: what is not named
+ * as written keeps its value. Each function returns, allocates nothing, keeps nothing between calls, and touches no memory but what is lent.
+ *
+ * WHAT IS ASSUMED OF THE CALLER
+ * - Every pointer is valid for its length, aligned for its type and not null, also where the length is 0.
+ * - No memory that a call may write overlaps any other memory lent to that call. `const` memory may overlap other `const` memory.
+ * - No other thread uses the lent memory during the call, except to read what is lent as `const`.
+ * - The program is a 64-bit one for x86-64.
+ *
+ * HOW MEMORY IS LENT
+ * A buffer is a pointer and its length in elements, in this order. Each buffer has a named size. A longer one is allowed: only its first part
+ * is used, and the rest keeps its value. A shorter one is refused with 1, even where the call would not have filled it.
+ *
+ * REFUSALS
+ * A refused call answers a number from 1 to 9: the first of its own that applies, in rising order. It changes nothing that was lent, scratch
+ * memory and single numbers included.
+ */
+#ifndef ZORPEDI_H
+#define ZORPEDI_H
+
+#include <stddef.h>
+#include <stdint.h>
+
+#ifdef __cplusplus
+extern "C" {
+#endif
+
+/* ---- sizes, in elements */
+
+#define ZORPEDI_RECORD_SIZE 7    /* uint64_t: the record */
+#define ZORPEDI_TABLE_SIZE 1024  /* uint64_t: the link table; the pair table */
+#define ZORPEDI_CODES_SIZE 256   /* uint16_t: the hop table; the bound table; the skip table */
+#define ZORPEDI_ROW_SIZE 4       /* uint64_t: a layer row, even or odd */
+#define ZORPEDI_FRAME_SIZE 258   /* uint8_t: the frame of a notice */
+#define ZORPEDI_LINE_SIZE 517    /* uint8_t: a notice line; the line buffer of a stream */
+#define ZORPEDI_REPORT_SIZE 48   /* uint8_t: a report line; the least room for the reports of a stream */
+#define ZORPEDI_LINES_LIMIT 1000000 /* the most lines of one stream */
+
+/* ---- the record: seven words */
+
+#define ZORPEDI_OPEN_SET 0   /* words 0 to 3: the open set, one row */
+#define ZORPEDI_NUMBER 4     /* the number of depots open, 0 to 256 */
+#define ZORPEDI_CHAIN 5      /* the longest chain, 0 to 255 */
+#define ZORPEDI_PAIR_COUNT 6 /* the number of farthest pairs, 0 to 32,640 */
+
+/* ---- marks in the tables */
+
+#define ZORPEDI_FAR 65535     /* hop table: a closed code. Bound table: a depot neither searched nor skipped */
+#define ZORPEDI_SEARCHED 256  /* skip table: a searched depot; its bound is its eccentricity */
+#define ZORPEDI_UNMARKED 257  /* skip table: neither searched nor skipped. 0 to 255: skipped, by this reference */
+
+/* ---- the numbers that a call answers */
+
+enum zorpedi_answer {
+    ZORPEDI_DONE = 0,     /* done, for every call but zorpedi_open */
+    ZORPEDI_SHORT = 1,    /* short: a lent buffer is below its named size */
+    ZORPEDI_SPOILT = 2,   /* spoilt: links are not sound; for an opening and the stream, links or figures */
+    ZORPEDI_APART = 3,    /* apart: links sound, but some open depot cannot be reached from the lowest open code */
+    ZORPEDI_ABSENT = 4,   /* absent: a search names a closed code */
+    ZORPEDI_TAKEN = 5,    /* taken: an opening names an open code */
+    ZORPEDI_LONELY = 6,   /* lonely: no neighbours, map not empty */
+    ZORPEDI_UNSORTED = 7, /* unsorted: neighbours not strictly rising */
+    ZORPEDI_UNKNOWN = 8,  /* unknown: a neighbour is closed, the new code itself included */
+    ZORPEDI_GARBLED = 9,  /* garbled: no 0A in the first 517 bytes, another character than 0-9 A-F, wrong digit count, or kind not 01; for
+                             the writer, a frame with a wrong kind or length */
+    ZORPEDI_GREW = 71,    /* 'G', zorpedi_open only: accepted, and the longest chain is greater than before */
+    ZORPEDI_KEPT = 75,    /* 'K', zorpedi_open only: accepted, and it is the same */
+    ZORPEDI_SHRANK = 83   /* 'S', zorpedi_open only: accepted, and it is smaller */
+};
+
+/* ---- what the memory means
+ *
+ * A depot's code is one byte. A row is four words: bit b of word w stands for code 64 w + b, bit 0 being the least. Row c of a table is words
+ * 4 c to 4 c + 3. Bit v of row u of the link table: u and v are linked. Bit v of row u of the pair table, only for u < v: (u, v) is a
+ * farthest pair.
+ *
+ * Links are sound if the number open equals the ones in the open set, no row has a bit for a closed code or its own, closed codes have empty
+ * rows, and bit v of row u equals bit u of row v. Figures are sound if every pair bit joins two open codes u < v, the pair count equals the
+ * ones in the pair table, and the longest chain is at most 255. A record word beyond these is spoilt (2) in every call that looks at it: all
+ * calls look at the open set and the number; an opening and the stream look at chain and pair count too.
+ *
+ * The map of a program is the record, the link table and the pair table. All zero is the empty map. A map that only these calls have written
+ * since it was emptied is never spoilt or apart.
+ */
+
+/* ---- the map */
+
+/* Empties a map.
+ * 0: the record's seven words and the first 1,024 words of both tables are 0.
+ * Refused: 1 (record below 7, links or pairs below 1,024). */
+uint8_t zorpedi_empty(uint64_t *record, size_t record_size, uint64_t *links, size_t links_size, uint64_t *pairs, size_t pairs_size);
+
+/* Searches from the depot `code`.
+ * 0: hops[c] is the distance from `code` to c, 65,535 for a closed c, for c from 0 to 255. *eccentricity is the greatest distance to an open
+ * depot. Of the two layer rows, `even` if the eccentricity is even, else `odd`, is the set of depots at that distance; the other is the set at
+ * the distance before it, or zeros if the eccentricity is 0.
+ * Refused: 1 (record below 7, links below 1,024, hops below 256, even or odd below 4), 2 (links only), 3, 4. */
+uint8_t zorpedi_search(uint16_t *hops, size_t hops_size, uint64_t *even, size_t even_size, uint64_t *odd, size_t odd_size,
+                       uint16_t *eccentricity, const uint64_t *record, size_t record_size, const uint64_t *links, size_t links_size,
+                       uint8_t code);
+
+/* Reckons longest chain and farthest pairs afresh from the links; chain, pair count and pair table may hold anything before.
+ * 0: record words 5 and 6 and the pair table are those of the links; *searches is the number of depots searched. For c from 0 to 255:
+ * skips[c] is the reference that skipped depot c (0 to 255), 256 if c was searched, else 257; bounds[c] is the bound at which c was skipped,
+ * the eccentricity if c was searched, else 65,535. hops, even and odd are as the last search leaves them (see zorpedi_search), and unchanged
+ * if no depot is open. References come in document 01's order: highest degree first, lowest code on a tie.
+ * Refused: 1 (record below 7, links or pairs below 1,024, hops, bounds or skips below 256, even or odd below 4), 2 (links only), 3. */
+uint8_t zorpedi_reckon(uint64_t *record, size_t record_size, uint64_t *pairs, size_t pairs_size, uint16_t *hops, size_t hops_size,
+                       uint16_t *bounds, size_t bounds_size, uint16_t *skips, size_t skips_size, uint64_t *even, size_t even_size,
+                       uint64_t *odd, size_t odd_size, uint16_t *searches, const uint64_t *links, size_t links_size);
+
+/* Opens the depot `code` beside `neighbours`.
+ * 71 'G', 75 'K' or 83 'S': the code joins the open set, the links to its neighbours join the link table, and chain, pair count and pair
+ * table are brought up to date; the answer compares the new chain with the old. *searches is the number of depots searched: 1 for 'G' and
+ * 'K', at most the number open for 'S'. skips and bounds mark the depots of this call as zorpedi_reckon says, all 256 places of both; hops,
+ * even and odd are as the last search leaves them. If the figures were those of the links, they are so again. If they were sound but false,
+ * the same steps are taken on them.
+ * Refused: 1 (sizes as for zorpedi_reckon; the neighbours have none), 2 (links or figures), 3, 5, 6, 7, 8. */
+uint8_t zorpedi_open(uint64_t *record, size_t record_size, uint64_t *links, size_t links_size, uint64_t *pairs, size_t pairs_size,
+                     uint16_t *hops, size_t hops_size, uint16_t *bounds, size_t bounds_size, uint16_t *skips, size_t skips_size,
+                     uint64_t *even, size_t even_size, uint64_t *odd, size_t odd_size, uint16_t *searches, uint8_t code,
+                     const uint8_t *neighbours, size_t neighbours_size);
+
+/* ---- lines
+ *
+ * A notice line is upper-case hexadecimal, ended by byte 0A. It spells a frame: kind 01, code, neighbour count, neighbours. Opening 5 beside
+ * 0, 2 and 4: 010503000204. The frame's code is byte 1, and its neighbours begin at byte 3.
+ */
+
+/* Reads the notice line at the start of `input`.
+ * 0: the first *length bytes of `frame` are the frame; *used is the number of bytes that the line has, 0A included.
+ * Refused: 1 (frame below 258), 9. It does not judge the neighbours' order; the opening does. */
+uint8_t zorpedi_read_notice(const uint8_t *input, size_t input_size, uint8_t *frame, size_t frame_size, size_t *length, size_t *used);
+
+/* Writes the notice line of a frame; the frame is the whole of `frame`, three bytes more than its count.
+ * 0: the first *length bytes of `line` are the line, 0A included.
+ * Refused: 1 (line below 517), 9. */
+uint8_t zorpedi_write_notice(const uint8_t *frame, size_t frame_size, uint8_t *line, size_t line_size, size_t *length);
+
+/* Writes a report line: number, answer, depots, chain, pairs, searches, in decimal, one space between, 0A at the end. The answer is the
+ * number that zorpedi_open or zorpedi_read_notice gave: 71, 75 and 83 are written G, K and S, any other n is written R and n.
+ * 0: the first *length bytes of `line` are the line, 45 at most.
+ * Refused: 1 (line below 48). */
+uint8_t zorpedi_report(uint8_t *line, size_t line_size, size_t *length, uint32_t number, uint8_t answer, uint16_t depots, uint16_t chain,
+                       uint32_t pairs, uint16_t searches);
+
+/* ---- the stream
+ *
+ * Notice lines in, a report line out for each, the input in pieces of any size. A stream begins with zorpedi_empty, *lines = 0 and
+ * *held = 0. *lines is the number of lines answered; the first *held bytes of `line` are what has come of the next one (a line's first 517
+ * bytes decide how it reads, so that no more are held).
+ */
+
+/* Feeds a piece of the input.
+ * 0: the first *used bytes of the piece are used: each line that ends in them is answered, as zorpedi_read_notice and zorpedi_open answer, and
+ * counted in *lines; its report stands in `out`; what follows the last of these lines is held in `line`. The first *written bytes of `out` are
+ * the reports. It stops before a byte where fewer than 48 bytes of `out` are free, and after the line 1,000,000: what is not used is to be
+ * fed again. Record, tables and rows are as the openings leave them, one after the other; bytes of `line` are overwritten from the
+ * start of each line, the others stay.
+ * Refused: 1 (sizes as for zorpedi_open; line below 517, out below 48, *held over 517), 2 (links or figures), 3.
+ * The map is checked once in each call, so feed large pieces. */
+uint8_t zorpedi_feed(uint64_t *record, size_t record_size, uint64_t *links, size_t links_size, uint64_t *pairs, size_t pairs_size,
+                     uint16_t *hops, size_t hops_size, uint16_t *bounds, size_t bounds_size, uint16_t *skips, size_t skips_size,
+                     uint64_t *even, size_t even_size, uint64_t *odd, size_t odd_size, uint8_t *line, size_t line_size, uint8_t *out,
+                     size_t out_size, uint32_t *lines, size_t *held, size_t *used, size_t *written, const uint8_t *piece,
+                     size_t piece_size);
+
+/* Ends the input: a stretch that is held without its 0A is one line, and garbled.
+ * 0: if bytes are held and fewer than 1,000,000 lines are answered, that line is counted in *lines, its report is the first *written bytes of
+ * `out`, and *held is 0. Else *written is 0 and nothing else changes.
+ * Refused: as zorpedi_feed. */
+uint8_t zorpedi_finish(uint64_t *record, size_t record_size, uint64_t *links, size_t links_size, uint64_t *pairs, size_t pairs_size,
+                       uint16_t *hops, size_t hops_size, uint16_t *bounds, size_t bounds_size, uint16_t *skips, size_t skips_size,
+                       uint64_t *even, size_t even_size, uint64_t *odd, size_t odd_size, uint8_t *line, size_t line_size, uint8_t *out,
+                       size_t out_size, uint32_t *lines, size_t *held, size_t *written);
+
+/* ---- all memory of one map, and the calls over it
+ *
+ * These helpers only pass the arrays with their sizes; the promises are those of the calls above. None of them answers 1 on the map's own
+ * arrays. Empty a map before its first use.
+ */
+
+typedef struct zorpedi_map {
+    uint64_t record[ZORPEDI_RECORD_SIZE];
+    uint64_t links[ZORPEDI_TABLE_SIZE];
+    uint64_t pairs[ZORPEDI_TABLE_SIZE];
+    uint64_t even[ZORPEDI_ROW_SIZE];
+    uint64_t odd[ZORPEDI_ROW_SIZE];
+    uint16_t hops[ZORPEDI_CODES_SIZE];
+    uint16_t bounds[ZORPEDI_CODES_SIZE];
+    uint16_t skips[ZORPEDI_CODES_SIZE];
+} zorpedi_map;
+
+static inline uint8_t zorpedi_map_empty(zorpedi_map *map)
+{
+    return zorpedi_empty(map->record, ZORPEDI_RECORD_SIZE, map->links, ZORPEDI_TABLE_SIZE, map->pairs, ZORPEDI_TABLE_SIZE);
+}
+
+/* `neighbours` may be null where `count` is 0. */
+static inline uint8_t zorpedi_map_open(zorpedi_map *map, uint8_t code, const uint8_t *neighbours, size_t count, uint16_t *searches)
+{
+    return zorpedi_open(map->record, ZORPEDI_RECORD_SIZE, map->links, ZORPEDI_TABLE_SIZE, map->pairs, ZORPEDI_TABLE_SIZE, map->hops,
+                        ZORPEDI_CODES_SIZE, map->bounds, ZORPEDI_CODES_SIZE, map->skips, ZORPEDI_CODES_SIZE, map->even, ZORPEDI_ROW_SIZE,
+                        map->odd, ZORPEDI_ROW_SIZE, searches, code, count == 0 ? &code : neighbours, count);
+}
+
+static inline uint8_t zorpedi_map_search(zorpedi_map *map, uint8_t code, uint16_t *eccentricity)
+{
+    return zorpedi_search(map->hops, ZORPEDI_CODES_SIZE, map->even, ZORPEDI_ROW_SIZE, map->odd, ZORPEDI_ROW_SIZE, eccentricity, map->record,
+                          ZORPEDI_RECORD_SIZE, map->links, ZORPEDI_TABLE_SIZE, code);
+}
+
+static inline uint8_t zorpedi_map_reckon(zorpedi_map *map, uint16_t *searches)
+{
+    return zorpedi_reckon(map->record, ZORPEDI_RECORD_SIZE, map->pairs, ZORPEDI_TABLE_SIZE, map->hops, ZORPEDI_CODES_SIZE, map->bounds,
+                          ZORPEDI_CODES_SIZE, map->skips, ZORPEDI_CODES_SIZE, map->even, ZORPEDI_ROW_SIZE, map->odd, ZORPEDI_ROW_SIZE,
+                          searches, map->links, ZORPEDI_TABLE_SIZE);
+}
+
+/* The report line of a call on this map: `answer` and `searches` as the call gave them, 0 searches if it was refused. */
+static inline uint8_t zorpedi_map_report(const zorpedi_map *map, uint8_t *line, size_t line_size, size_t *length, uint32_t number,
+                                         uint8_t answer, uint16_t searches)
+{
+    return zorpedi_report(line, line_size, length, number, answer, (uint16_t)map->record[ZORPEDI_NUMBER],
+                          (uint16_t)map->record[ZORPEDI_CHAIN], (uint32_t)map->record[ZORPEDI_PAIR_COUNT], searches);
+}
+
+/* Whether a row has a code: map->record has the open set in front, and map->even and map->odd are layer rows. */
+static inline int zorpedi_row_has(const uint64_t *row, uint8_t code)
+{
+    return (int)(row[code / 64] >> (code % 64) & 1);
+}
+
+static inline int zorpedi_map_is_open(const zorpedi_map *map, uint8_t code)
+{
+    return zorpedi_row_has(map->record, code);
+}
+
+static inline int zorpedi_map_are_linked(const zorpedi_map *map, uint8_t u, uint8_t v)
+{
+    return zorpedi_row_has(map->links + 4 * u, v);
+}
+
+/* Whether u and v are a farthest pair, in either order. */
+static inline int zorpedi_map_is_farthest(const zorpedi_map *map, uint8_t u, uint8_t v)
+{
+    return u < v ? zorpedi_row_has(map->pairs + 4 * u, v) : zorpedi_row_has(map->pairs + 4 * v, u);
+}
+
+/* The last layer of a search with this eccentricity: the depots farthest from where it began. */
+static inline const uint64_t *zorpedi_map_last_layer(const zorpedi_map *map, uint16_t eccentricity)
+{
+    return eccentricity % 2 == 0 ? map->even : map->odd;
+}
+
+/* ---- all memory of one stream, and its calls */
+
+typedef struct zorpedi_stream {
+    zorpedi_map map;
+    size_t held;
+    uint32_t lines;
+    uint8_t line[ZORPEDI_LINE_SIZE];
+} zorpedi_stream;
+
+static inline uint8_t zorpedi_stream_begin(zorpedi_stream *stream)
+{
+    stream->held = 0;
+    stream->lines = 0;
+    return zorpedi_map_empty(&stream->map);
+}
+
+static inline uint8_t zorpedi_stream_feed(zorpedi_stream *stream, const uint8_t *piece, size_t piece_size, uint8_t *out, size_t out_size,
+                                          size_t *used, size_t *written)
+{
+    zorpedi_map *map = &stream->map;
+    return zorpedi_feed(map->record, ZORPEDI_RECORD_SIZE, map->links, ZORPEDI_TABLE_SIZE, map->pairs, ZORPEDI_TABLE_SIZE, map->hops,
+                        ZORPEDI_CODES_SIZE, map->bounds, ZORPEDI_CODES_SIZE, map->skips, ZORPEDI_CODES_SIZE, map->even, ZORPEDI_ROW_SIZE,
+                        map->odd, ZORPEDI_ROW_SIZE, stream->line, ZORPEDI_LINE_SIZE, out, out_size, &stream->lines, &stream->held, used,
+                        written, piece, piece_size);
+}
+
+static inline uint8_t zorpedi_stream_finish(zorpedi_stream *stream, uint8_t *out, size_t out_size, size_t *written)
+{
+    zorpedi_map *map = &stream->map;
+    return zorpedi_finish(map->record, ZORPEDI_RECORD_SIZE, map->links, ZORPEDI_TABLE_SIZE, map->pairs, ZORPEDI_TABLE_SIZE, map->hops,
+                          ZORPEDI_CODES_SIZE, map->bounds, ZORPEDI_CODES_SIZE, map->skips, ZORPEDI_CODES_SIZE, map->even, ZORPEDI_ROW_SIZE,
+                          map->odd, ZORPEDI_ROW_SIZE, stream->line, ZORPEDI_LINE_SIZE, out, out_size, &stream->lines, &stream->held,
+                          written);
+}
+
+#ifdef __cplusplus
+}
+#endif
+
+#endif
