@@ -1,0 +1,220 @@
+//! The C functions of include/zorpedi.h, and the one place with `unsafe`: each call below lends whole references, so that its pointers are
+//! valid for their lengths and what is written overlaps nothing. That is all that the archive assumes of its caller.
+use crate::map::Memory;
+
+#[rustfmt::skip]
+mod c {
+    extern "C" {
+        pub fn zorpedi_empty(record: *mut u64, _: usize, links: *mut u64, _: usize, pairs: *mut u64, _: usize) -> u8;
+        pub fn zorpedi_search(
+            hops: *mut u16, _: usize, even: *mut u64, _: usize, odd: *mut u64, _: usize, eccentricity: *mut u16,
+            record: *const u64, _: usize, links: *const u64, _: usize, code: u8,
+        ) -> u8;
+        pub fn zorpedi_reckon(
+            record: *mut u64, _: usize, pairs: *mut u64, _: usize, hops: *mut u16, _: usize, bounds: *mut u16, _: usize,
+            skips: *mut u16, _: usize, even: *mut u64, _: usize, odd: *mut u64, _: usize, searches: *mut u16,
+            links: *const u64, _: usize,
+        ) -> u8;
+        pub fn zorpedi_open(
+            record: *mut u64, _: usize, links: *mut u64, _: usize, pairs: *mut u64, _: usize, hops: *mut u16, _: usize,
+            bounds: *mut u16, _: usize, skips: *mut u16, _: usize, even: *mut u64, _: usize, odd: *mut u64, _: usize,
+            searches: *mut u16, code: u8, neighbours: *const u8, _: usize,
+        ) -> u8;
+        pub fn zorpedi_read_notice(
+            input: *const u8, _: usize, frame: *mut u8, _: usize, length: *mut usize, used: *mut usize,
+        ) -> u8;
+        pub fn zorpedi_write_notice(frame: *const u8, _: usize, line: *mut u8, _: usize, length: *mut usize) -> u8;
+        pub fn zorpedi_report(
+            line: *mut u8, _: usize, length: *mut usize, number: u32, answer: u8, depots: u16, chain: u16, pairs: u32,
+            searches: u16,
+        ) -> u8;
+        pub fn zorpedi_feed(
+            record: *mut u64, _: usize, links: *mut u64, _: usize, pairs: *mut u64, _: usize, hops: *mut u16, _: usize,
+            bounds: *mut u16, _: usize, skips: *mut u16, _: usize, even: *mut u64, _: usize, odd: *mut u64, _: usize,
+            line: *mut u8, _: usize, out: *mut u8, _: usize, lines: *mut u32, held: *mut usize, used: *mut usize,
+            written: *mut usize, piece: *const u8, _: usize,
+        ) -> u8;
+        pub fn zorpedi_finish(
+            record: *mut u64, _: usize, links: *mut u64, _: usize, pairs: *mut u64, _: usize, hops: *mut u16, _: usize,
+            bounds: *mut u16, _: usize, skips: *mut u16, _: usize, even: *mut u64, _: usize, odd: *mut u64, _: usize,
+            out: *mut u8, _: usize, lines: *mut u32, held: *mut usize, written: *mut usize, line: *const u8, _: usize,
+        ) -> u8;
+    }
+}
+
+/// A stream's own numbers and line buffer, beside its map.
+pub struct Progress {
+    pub line: [u8; 517],
+    pub lines: u32,
+    pub held: usize,
+}
+
+pub fn empty(m: &mut Memory) -> u8 {
+    let (r, l, p) = (&mut m.record, &mut m.links, &mut m.pairs);
+    // SAFETY: whole arrays of one struct, each borrowed once.
+    unsafe { c::zorpedi_empty(r.as_mut_ptr(), r.len(), l.as_mut_ptr(), l.len(), p.as_mut_ptr(), p.len()) }
+}
+
+pub fn search(m: &mut Memory, eccentricity: &mut u16, code: u8) -> u8 {
+    let (h, e, o, r, l) = (&mut m.hops, &mut m.even, &mut m.odd, &m.record, &m.links);
+    // SAFETY: whole arrays of one struct, each borrowed once, and one number beside them.
+    unsafe {
+        c::zorpedi_search(
+            h.as_mut_ptr(),
+            h.len(),
+            e.as_mut_ptr(),
+            e.len(),
+            o.as_mut_ptr(),
+            o.len(),
+            eccentricity,
+            r.as_ptr(),
+            r.len(),
+            l.as_ptr(),
+            l.len(),
+            code,
+        )
+    }
+}
+
+pub fn reckon(m: &mut Memory, searches: &mut u16) -> u8 {
+    // SAFETY: whole arrays of one struct, each named once, and one number beside them.
+    unsafe {
+        c::zorpedi_reckon(
+            m.record.as_mut_ptr(),
+            m.record.len(),
+            m.pairs.as_mut_ptr(),
+            m.pairs.len(),
+            m.hops.as_mut_ptr(),
+            m.hops.len(),
+            m.bounds.as_mut_ptr(),
+            m.bounds.len(),
+            m.skips.as_mut_ptr(),
+            m.skips.len(),
+            m.even.as_mut_ptr(),
+            m.even.len(),
+            m.odd.as_mut_ptr(),
+            m.odd.len(),
+            searches,
+            m.links.as_ptr(),
+            m.links.len(),
+        )
+    }
+}
+
+pub fn open(m: &mut Memory, searches: &mut u16, code: u8, neighbours: &[u8]) -> u8 {
+    // SAFETY: whole arrays of one struct, each named once, and a number and a slice beside them.
+    unsafe {
+        c::zorpedi_open(
+            m.record.as_mut_ptr(),
+            m.record.len(),
+            m.links.as_mut_ptr(),
+            m.links.len(),
+            m.pairs.as_mut_ptr(),
+            m.pairs.len(),
+            m.hops.as_mut_ptr(),
+            m.hops.len(),
+            m.bounds.as_mut_ptr(),
+            m.bounds.len(),
+            m.skips.as_mut_ptr(),
+            m.skips.len(),
+            m.even.as_mut_ptr(),
+            m.even.len(),
+            m.odd.as_mut_ptr(),
+            m.odd.len(),
+            searches,
+            code,
+            neighbours.as_ptr(),
+            neighbours.len(),
+        )
+    }
+}
+
+pub fn read_notice(input: &[u8], frame: &mut [u8], length: &mut usize, used: &mut usize) -> u8 {
+    // SAFETY: two slices and two numbers, by their references.
+    unsafe { c::zorpedi_read_notice(input.as_ptr(), input.len(), frame.as_mut_ptr(), frame.len(), length, used) }
+}
+
+pub fn write_notice(frame: &[u8], line: &mut [u8], length: &mut usize) -> u8 {
+    // SAFETY: two slices and a number, by their references.
+    unsafe { c::zorpedi_write_notice(frame.as_ptr(), frame.len(), line.as_mut_ptr(), line.len(), length) }
+}
+
+/// What a report line says, in the numbers of the C function.
+pub struct Fields {
+    pub number: u32,
+    pub answer: u8,
+    pub depots: u16,
+    pub chain: u16,
+    pub pairs: u32,
+    pub searches: u16,
+}
+
+pub fn report(line: &mut [u8], length: &mut usize, f: &Fields) -> u8 {
+    // SAFETY: a slice and a number, by their references.
+    unsafe { c::zorpedi_report(line.as_mut_ptr(), line.len(), length, f.number, f.answer, f.depots, f.chain, f.pairs, f.searches) }
+}
+
+pub fn feed(m: &mut Memory, p: &mut Progress, out: &mut [u8], used: &mut usize, written: &mut usize, piece: &[u8]) -> u8 {
+    // SAFETY: whole arrays of two structs, each named once, and slices and numbers beside them.
+    unsafe {
+        c::zorpedi_feed(
+            m.record.as_mut_ptr(),
+            m.record.len(),
+            m.links.as_mut_ptr(),
+            m.links.len(),
+            m.pairs.as_mut_ptr(),
+            m.pairs.len(),
+            m.hops.as_mut_ptr(),
+            m.hops.len(),
+            m.bounds.as_mut_ptr(),
+            m.bounds.len(),
+            m.skips.as_mut_ptr(),
+            m.skips.len(),
+            m.even.as_mut_ptr(),
+            m.even.len(),
+            m.odd.as_mut_ptr(),
+            m.odd.len(),
+            p.line.as_mut_ptr(),
+            p.line.len(),
+            out.as_mut_ptr(),
+            out.len(),
+            &mut p.lines,
+            &mut p.held,
+            used,
+            written,
+            piece.as_ptr(),
+            piece.len(),
+        )
+    }
+}
+
+pub fn finish(m: &mut Memory, p: &mut Progress, out: &mut [u8], written: &mut usize) -> u8 {
+    // SAFETY: whole arrays of two structs, each named once, and a slice and a number beside them.
+    unsafe {
+        c::zorpedi_finish(
+            m.record.as_mut_ptr(),
+            m.record.len(),
+            m.links.as_mut_ptr(),
+            m.links.len(),
+            m.pairs.as_mut_ptr(),
+            m.pairs.len(),
+            m.hops.as_mut_ptr(),
+            m.hops.len(),
+            m.bounds.as_mut_ptr(),
+            m.bounds.len(),
+            m.skips.as_mut_ptr(),
+            m.skips.len(),
+            m.even.as_mut_ptr(),
+            m.even.len(),
+            m.odd.as_mut_ptr(),
+            m.odd.len(),
+            out.as_mut_ptr(),
+            out.len(),
+            &mut p.lines,
+            &mut p.held,
+            written,
+            p.line.as_ptr(),
+            p.line.len(),
+        )
+    }
+}

@@ -1,0 +1,457 @@
+use crate::ffi;
+use crate::refusal::Refusal;
+use crate::row::{codes, has, Codes};
+use std::fmt;
+
+/// How an accepted opening changed the longest chain.
+#[derive(Clone, Copy, Debug, PartialEq, Eq, Hash)]
+pub enum Change {
+    /// The longest chain is greater than before.
+    Grew,
+    /// It is the same.
+    Kept,
+    /// It is smaller.
+    Shrank,
+}
+
+impl Change {
+    /// The letter of a report line: G, K or S.
+    ///
+    /// ```
+    /// assert_eq!(zorpedi::Change::Shrank.letter(), 'S');
+    /// ```
+    pub const fn letter(self) -> char {
+        match self {
+            Change::Grew => 'G',
+            Change::Kept => 'K',
+            Change::Shrank => 'S',
+        }
+    }
+}
+
+/// An accepted opening.
+#[derive(Clone, Copy, Debug, PartialEq, Eq, Hash)]
+pub struct Opened {
+    /// How the longest chain changed.
+    pub change: Change,
+    /// How many depots were searched: 1 if the chain grew or was kept, and never more than are open.
+    pub searches: u16,
+}
+
+/// The record of a map: what it knows beside its two tables.
+#[derive(Clone, Copy, Debug, Default, PartialEq, Eq, Hash)]
+pub struct Record {
+    /// The open set: bit b of word w stands for code 64 w + b.
+    pub open: [u64; 4],
+    /// The number of depots open.
+    pub number: u16,
+    /// The longest chain.
+    pub chain: u16,
+    /// The number of farthest pairs.
+    pub pairs: u32,
+}
+
+/// What the last opening or reckoning did with a depot.
+#[derive(Clone, Copy, Debug, PartialEq, Eq, Hash)]
+pub enum Mark {
+    /// The depot was searched.
+    Searched {
+        /// Its eccentricity: the greatest distance to an open depot.
+        eccentricity: u16,
+    },
+    /// The depot was skipped: its eccentricity is at most the bound, and that is below the longest chain.
+    Skipped {
+        /// The earliest reference that gave the bound.
+        reference: u8,
+        /// The reference's eccentricity and its distance to the depot, added.
+        bound: u16,
+    },
+    /// Neither.
+    Unmarked,
+}
+
+/// All memory of one map, as the archive wants it lent.
+#[derive(Clone, PartialEq, Eq)]
+pub(crate) struct Memory {
+    pub record: [u64; 7],
+    pub links: [u64; 1024],
+    pub pairs: [u64; 1024],
+    pub hops: [u16; 256],
+    pub bounds: [u16; 256],
+    pub skips: [u16; 256],
+    pub even: [u64; 4],
+    pub odd: [u64; 4],
+}
+
+/// The hop of a closed code, and the bound of an unmarked depot.
+pub(crate) const FAR: u16 = 65_535;
+/// The mark of a searched depot in the skip table.
+const SEARCHED: u16 = 256;
+/// The mark of any other depot that was not skipped.
+const UNMARKED: u16 = 257;
+
+/// A map of depots and links, with its longest chain and its farthest pairs. It owns its memory.
+///
+/// ```
+/// use zorpedi::{Change, Map, Refusal};
+///
+/// let mut map = Map::new();
+/// map.open(0, &[])?;
+/// map.open(1, &[0])?;
+/// let opened = map.open(2, &[1])?;
+/// assert_eq!(opened.change, Change::Grew);
+/// assert_eq!((map.depots(), map.chain()), (3, 2));
+/// assert_eq!(map.farthest_pairs().collect::<Vec<_>>(), [(0, 2)]);
+///
+/// assert_eq!(map.open(3, &[2, 1]), Err(Refusal::Unsorted));
+/// assert_eq!(map.depots(), 3);
+/// # Ok::<(), Refusal>(())
+/// ```
+#[derive(Clone, PartialEq, Eq)]
+pub struct Map {
+    pub(crate) memory: Box<Memory>,
+}
+
+impl Map {
+    /// An empty map.
+    ///
+    /// ```
+    /// let map = zorpedi::Map::new();
+    /// assert_eq!((map.depots(), map.chain(), map.pair_count()), (0, 0, 0));
+    /// ```
+    pub fn new() -> Map {
+        Map::from_parts(Record::default(), &[0; 1024], &[0; 1024])
+    }
+
+    /// A map from a record and two tables, as `record`, `links` and `pairs` give them. Nothing is checked here: each call checks what it
+    /// is lent, and refuses with `Spoilt` or `Apart` what is no map.
+    ///
+    /// ```
+    /// use zorpedi::{Map, Record, Refusal};
+    ///
+    /// let mut map = Map::new();
+    /// map.open(9, &[])?;
+    /// let mut again = Map::from_parts(map.record(), map.links(), map.pairs());
+    /// assert_eq!(again.open(10, &[9])?.searches, 1);
+    ///
+    /// let wrong = Record { number: 2, ..map.record() };
+    /// let mut spoilt = Map::from_parts(wrong, map.links(), map.pairs());
+    /// assert_eq!(spoilt.open(10, &[9]), Err(Refusal::Spoilt));
+    /// # Ok::<(), Refusal>(())
+    /// ```
+    pub fn from_parts(record: Record, links: &[u64; 1024], pairs: &[u64; 1024]) -> Map {
+        let [a, b, c, d] = record.open;
+        let memory = Memory {
+            record: [a, b, c, d, record.number.into(), record.chain.into(), record.pairs.into()],
+            links: *links,
+            pairs: *pairs,
+            hops: [FAR; 256],
+            bounds: [FAR; 256],
+            skips: [UNMARKED; 256],
+            even: [0; 4],
+            odd: [0; 4],
+        };
+        Map { memory: Box::new(memory) }
+    }
+
+    /// Empties the map.
+    ///
+    /// ```
+    /// let mut map = zorpedi::Map::new();
+    /// map.open(9, &[])?;
+    /// map.empty();
+    /// assert_eq!(map.depots(), 0);
+    /// # Ok::<(), zorpedi::Refusal>(())
+    /// ```
+    pub fn empty(&mut self) {
+        // It can be refused only for its sizes, and they are right.
+        let number = ffi::empty(&mut self.memory);
+        debug_assert_eq!(number, 0);
+    }
+
+    /// Opens a depot beside its neighbours, which have to rise strictly. Chain and pairs are brought up to date.
+    ///
+    /// Refused with `Spoilt`, `Apart`, `Taken`, `Lonely`, `Unsorted` or `Unknown`; the first two only on a map made by `from_parts`.
+    ///
+    /// ```
+    /// use zorpedi::{Change, Map, Opened, Refusal};
+    ///
+    /// let mut map = Map::new();
+    /// for code in 0..5u8 {
+    ///     map.open(code, if code == 0 { vec![] } else { vec![code - 1] }.as_slice())?;
+    /// }
+    /// assert_eq!(map.chain(), 4);
+    /// assert_eq!(map.open(5, &[0, 2, 4])?, Opened { change: Change::Shrank, searches: 6 });
+    /// assert_eq!(map.farthest_pairs().collect::<Vec<_>>(), [(0, 3), (1, 4)]);
+    /// assert_eq!(map.open(5, &[0, 2, 4]), Err(Refusal::Taken));
+    /// # Ok::<(), Refusal>(())
+    /// ```
+    pub fn open(&mut self, code: u8, neighbours: &[u8]) -> Result<Opened, Refusal> {
+        let mut searches = 0;
+        let change = match ffi::open(&mut self.memory, &mut searches, code, neighbours) {
+            b'G' => Change::Grew,
+            b'K' => Change::Kept,
+            b'S' => Change::Shrank,
+            number => return Err(Refusal::of(number)),
+        };
+        Ok(Opened { change, searches })
+    }
+
+    /// Searches from an open depot: its distance to every depot.
+    ///
+    /// Refused with `Spoilt` (the links), `Apart` or `Absent`; the first two only on a map made by `from_parts`.
+    ///
+    /// ```
+    /// let mut map = zorpedi::Map::new();
+    /// map.open(10, &[])?;
+    /// map.open(20, &[10])?;
+    /// map.open(30, &[20])?;
+    /// let search = map.search(10)?;
+    /// assert_eq!(search.eccentricity(), 2);
+    /// assert_eq!(search.distance(20), Some(1));
+    /// assert_eq!(search.distance(40), None);
+    /// assert_eq!(search.last_layer().collect::<Vec<_>>(), [30]);
+    /// # Ok::<(), zorpedi::Refusal>(())
+    /// ```
+    pub fn search(&mut self, code: u8) -> Result<Search<'_>, Refusal> {
+        let mut eccentricity = 0;
+        Refusal::check(ffi::search(&mut self.memory, &mut eccentricity, code))?;
+        let (last, before) = if eccentricity % 2 == 0 {
+            (&self.memory.even, &self.memory.odd)
+        } else {
+            (&self.memory.odd, &self.memory.even)
+        };
+        Ok(Search { eccentricity, distances: &self.memory.hops, last, before })
+    }
+
+    /// Reckons chain and pairs afresh from the links, whatever they were, and answers how many depots were searched.
+    ///
+    /// Refused with `Spoilt` (the links) or `Apart`, only on a map made by `from_parts`.
+    ///
+    /// ```
+    /// use zorpedi::{Map, Mark};
+    ///
+    /// // The path 0-1-2-3-4-5-6.
+    /// let mut map = Map::new();
+    /// map.open(0, &[])?;
+    /// for code in 1..7 {
+    ///     map.open(code, &[code - 1])?;
+    /// }
+    /// assert_eq!(map.reckon()?, 6);
+    /// assert_eq!(map.mark(4), Mark::Skipped { reference: 3, bound: 4 });
+    /// assert_eq!(map.mark(3), Mark::Searched { eccentricity: 3 });
+    /// assert_eq!(map.farthest_pairs().collect::<Vec<_>>(), [(0, 6)]);
+    /// # Ok::<(), zorpedi::Refusal>(())
+    /// ```
+    pub fn reckon(&mut self) -> Result<u16, Refusal> {
+        let mut searches = 0;
+        Refusal::check(ffi::reckon(&mut self.memory, &mut searches))?;
+        Ok(searches)
+    }
+
+    /// The record.
+    ///
+    /// ```
+    /// let mut map = zorpedi::Map::new();
+    /// map.open(64, &[])?;
+    /// assert_eq!(map.record().open, [0, 1, 0, 0]);
+    /// # Ok::<(), zorpedi::Refusal>(())
+    /// ```
+    pub fn record(&self) -> Record {
+        let [a, b, c, d, number, chain, pairs] = self.memory.record;
+        // Each word came from these widths, in `from_parts` or from the archive.
+        Record { open: [a, b, c, d], number: number as u16, chain: chain as u16, pairs: pairs as u32 }
+    }
+
+    /// The link table: row c is words 4c to 4c + 3, and bit b of word 4c + w stands for code 64w + b.
+    ///
+    /// ```
+    /// let mut map = zorpedi::Map::new();
+    /// map.open(0, &[])?;
+    /// map.open(65, &[0])?;
+    /// assert_eq!(map.links()[1], 2);
+    /// # Ok::<(), zorpedi::Refusal>(())
+    /// ```
+    pub fn links(&self) -> &[u64; 1024] {
+        &self.memory.links
+    }
+
+    /// The pair table, of the same shape: bit v of row u, only for u < v.
+    ///
+    /// ```
+    /// assert_eq!(zorpedi::Map::new().pairs(), &[0; 1024]);
+    /// ```
+    pub fn pairs(&self) -> &[u64; 1024] {
+        &self.memory.pairs
+    }
+
+    /// The number of depots open.
+    ///
+    /// ```
+    /// assert_eq!(zorpedi::Map::new().depots(), 0);
+    /// ```
+    pub fn depots(&self) -> u16 {
+        self.record().number
+    }
+
+    /// The longest chain: the most handovers that any two depots need by the shortest way.
+    ///
+    /// ```
+    /// assert_eq!(zorpedi::Map::new().chain(), 0);
+    /// ```
+    pub fn chain(&self) -> u16 {
+        self.record().chain
+    }
+
+    /// The number of farthest pairs.
+    ///
+    /// ```
+    /// assert_eq!(zorpedi::Map::new().pair_count(), 0);
+    /// ```
+    pub fn pair_count(&self) -> u32 {
+        self.record().pairs
+    }
+
+    /// Whether a code's depot is open.
+    ///
+    /// ```
+    /// assert!(!zorpedi::Map::new().is_open(0));
+    /// ```
+    pub fn is_open(&self, code: u8) -> bool {
+        has(&self.memory.record[..4], code)
+    }
+
+    /// The codes of the open depots, rising.
+    ///
+    /// ```
+    /// let mut map = zorpedi::Map::new();
+    /// map.open(200, &[])?;
+    /// map.open(100, &[200])?;
+    /// assert_eq!(map.open_codes().collect::<Vec<_>>(), [100, 200]);
+    /// # Ok::<(), zorpedi::Refusal>(())
+    /// ```
+    pub fn open_codes(&self) -> Codes<'_> {
+        codes(&self.memory.record[..4])
+    }
+
+    /// Whether two depots are linked.
+    ///
+    /// ```
+    /// let mut map = zorpedi::Map::new();
+    /// map.open(200, &[])?;
+    /// map.open(100, &[200])?;
+    /// assert!(map.are_linked(100, 200) && map.are_linked(200, 100));
+    /// # Ok::<(), zorpedi::Refusal>(())
+    /// ```
+    pub fn are_linked(&self, u: u8, v: u8) -> bool {
+        has(row_of(&self.memory.links, u), v)
+    }
+
+    /// The neighbours of a depot, rising.
+    ///
+    /// ```
+    /// let mut map = zorpedi::Map::new();
+    /// map.open(1, &[])?;
+    /// map.open(2, &[1])?;
+    /// map.open(3, &[1, 2])?;
+    /// assert_eq!(map.neighbours(1).collect::<Vec<_>>(), [2, 3]);
+    /// # Ok::<(), zorpedi::Refusal>(())
+    /// ```
+    pub fn neighbours(&self, code: u8) -> Codes<'_> {
+        codes(row_of(&self.memory.links, code))
+    }
+
+    /// The farthest pairs (u, v) with u < v, rising.
+    ///
+    /// ```
+    /// let mut map = zorpedi::Map::new();
+    /// map.open(1, &[])?;
+    /// map.open(2, &[1])?;
+    /// map.open(3, &[1, 2])?;
+    /// assert_eq!(map.farthest_pairs().collect::<Vec<_>>(), [(1, 2), (1, 3), (2, 3)]);
+    /// # Ok::<(), zorpedi::Refusal>(())
+    /// ```
+    pub fn farthest_pairs(&self) -> impl Iterator<Item = (u8, u8)> + '_ {
+        (0..=255u8).flat_map(move |u| codes(row_of(&self.memory.pairs, u)).map(move |v| (u, v)))
+    }
+
+    /// What the last accepted opening or reckoning did with a depot: why it was not searched, or that it was.
+    ///
+    /// ```
+    /// use zorpedi::{Map, Mark};
+    ///
+    /// let mut map = Map::new();
+    /// assert_eq!(map.mark(1), Mark::Unmarked);
+    /// map.open(1, &[])?;
+    /// assert_eq!(map.mark(1), Mark::Searched { eccentricity: 0 });
+    /// # Ok::<(), zorpedi::Refusal>(())
+    /// ```
+    pub fn mark(&self, code: u8) -> Mark {
+        let bound = self.memory.bounds[usize::from(code)];
+        let skip = self.memory.skips[usize::from(code)];
+        match u8::try_from(skip) {
+            Ok(reference) => Mark::Skipped { reference, bound },
+            Err(_) if skip == SEARCHED => Mark::Searched { eccentricity: bound },
+            Err(_) => Mark::Unmarked,
+        }
+    }
+}
+
+/// Row `code` of a table.
+fn row_of(table: &[u64; 1024], code: u8) -> &[u64] {
+    let first = 4 * usize::from(code);
+    &table[first..first + 4]
+}
+
+impl Default for Map {
+    fn default() -> Map {
+        Map::new()
+    }
+}
+
+impl fmt::Debug for Map {
+    fn fmt(&self, f: &mut fmt::Formatter<'_>) -> fmt::Result {
+        f.debug_struct("Map")
+            .field("depots", &self.depots())
+            .field("chain", &self.chain())
+            .field("pairs", &self.pair_count())
+            .finish_non_exhaustive()
+    }
+}
+
+/// What a search found. It borrows the map's hop table and layer rows.
+#[derive(Clone, Copy, Debug, PartialEq, Eq)]
+pub struct Search<'a> {
+    eccentricity: u16,
+    distances: &'a [u16; 256],
+    last: &'a [u64; 4],
+    before: &'a [u64; 4],
+}
+
+impl<'a> Search<'a> {
+    /// The greatest distance to an open depot.
+    pub fn eccentricity(&self) -> u16 {
+        self.eccentricity
+    }
+
+    /// The distance to a depot, if it is open.
+    pub fn distance(&self, code: u8) -> Option<u16> {
+        let hop = self.distances[usize::from(code)];
+        (hop != FAR).then_some(hop)
+    }
+
+    /// The hop table: the distance to each code, 65,535 for a closed one.
+    pub fn distances(&self) -> &'a [u16; 256] {
+        self.distances
+    }
+
+    /// The depots at the greatest distance, rising.
+    pub fn last_layer(&self) -> Codes<'a> {
+        codes(self.last)
+    }
+
+    /// The depots one step nearer, rising; none if the eccentricity is 0.
+    pub fn layer_before(&self) -> Codes<'a> {
+        codes(self.before)
+    }
+}

@@ -1,0 +1,289 @@
+//! The calls on a map.
+use crate::dice::Dice;
+use crate::lent::{Buffer, Lent, SIZES};
+use crate::maps::{any_figures, any_memory, damage, network, some_size, store, true_map, Growth, DAMAGES, SHAPES};
+use crate::plain::Network;
+use crate::{beside, plain, raw, Tally};
+use std::collections::BTreeSet;
+
+fn empty(m: &mut Lent) -> u8 {
+    beside("empty", m, plain::empty, raw::empty)
+}
+
+fn search(m: &mut Lent, code: u8) -> u8 {
+    beside("search", m, |m| plain::search(m, code), |m| raw::search(m, code))
+}
+
+fn reckon(m: &mut Lent) -> u8 {
+    beside("reckon", m, plain::reckon, raw::reckon)
+}
+
+fn open(m: &mut Lent, code: u8, neighbours: &[u8]) -> u8 {
+    m.input = Buffer::new(neighbours.to_vec());
+    beside("open", m, |m| plain::open(m, code), |m| raw::open(m, code))
+}
+
+/// A notice for this set of open codes: most can be accepted, the others are refused in one way or in several.
+fn some_notice(dice: &mut Dice, open: &BTreeSet<usize>) -> (u8, Vec<u8>) {
+    let codes: Vec<u8> = open.iter().map(|&c| c as u8).collect();
+    let closed: Vec<u8> = (0..=255u8).filter(|&c| !open.contains(&c.into())).collect();
+    let mut code = if closed.is_empty() { dice.byte() } else { dice.pick(&closed) };
+    let mut some = BTreeSet::new();
+    if !codes.is_empty() {
+        let most = if dice.once_in(8) { codes.len() } else { 3 };
+        for _ in 0..1 + dice.below(most) {
+            some.insert(dice.pick(&codes));
+        }
+    }
+    let mut list: Vec<u8> = some.into_iter().collect();
+    match dice.below(16) {
+        0 if !codes.is_empty() => code = dice.pick(&codes),
+        1 => list.clear(),
+        2 => list.reverse(),
+        3 => {
+            if let Some(&last) = list.last() {
+                list.push(last);
+            }
+        }
+        4 => {
+            list.push(code);
+            list.sort();
+        }
+        5 => {
+            list.push(dice.byte());
+            list.sort();
+        }
+        6 => list = (0..=255).collect(),
+        7 => {
+            let n = dice.below(600);
+            list = dice.bytes(n);
+        }
+        8 => {
+            list.push(dice.byte());
+            dice.shuffle(&mut list);
+        }
+        9 => code = dice.byte(),
+        _ => {}
+    }
+    (code, list)
+}
+
+/// After an accepted call on true figures: the figures are those of a search from every depot, and each skipped depot is covered.
+fn assert_true(m: &Lent, before: u64, letter: u8) {
+    let now = Network::of(&m.record.data, &m.links.data);
+    let figures = now.figures();
+    assert_eq!(m.record.data[5], figures.chain as u64);
+    assert_eq!(plain::bits_of_table(&m.pairs.data), figures.pairs);
+    let expected = match m.record.data[5].cmp(&before) {
+        std::cmp::Ordering::Greater => b'G',
+        std::cmp::Ordering::Equal => b'K',
+        std::cmp::Ordering::Less => b'S',
+    };
+    assert_eq!(letter, expected);
+    for &v in &now.open {
+        if let Ok(r) = u8::try_from(m.skips.data[v]) {
+            let distances = now.distances(r.into());
+            let bound = distances.values().max().copied().unwrap_or(0) + distances[&v];
+            assert_eq!(m.skips.data[usize::from(r)], 256);
+            assert_eq!(usize::from(m.bounds.data[v]), bound);
+            assert!(bound < figures.chain);
+        }
+    }
+}
+
+/// One list of openings from the empty map, some of its calls refused, some buffers short now and then.
+fn run_list(seed: u64, size: usize, tally: &mut Tally) {
+    let mut dice = Dice::new(seed);
+    let shape = dice.pick(&SHAPES);
+    let growth = Growth::new(&mut dice, shape);
+    let mut m = any_memory(&mut dice);
+    assert_eq!(empty(&mut m), 0);
+    let mut opened = 0;
+    while opened < size {
+        let open_set = Network::of(&m.record.data, &m.links.data).open;
+        let (mut code, mut neighbours) = some_notice(&mut dice, &open_set);
+        if !dice.once_in(3) {
+            // the next depot of the growth, if nothing else has its code
+            code = growth.order[opened] as u8;
+            neighbours = growth.neighbours(&mut dice, opened, size);
+        }
+        if dice.once_in(20) {
+            let mut short = m.clone();
+            let which = dice.below(8);
+            let lent = dice.below(SIZES[which]);
+            short.set_lent(which, lent);
+            assert_eq!(open(&mut short, code, &neighbours), 1);
+            tally.count(1);
+        }
+        let chain = m.record.data[5];
+        let answer = open(&mut m, code, &neighbours);
+        tally.count(answer);
+        opened += 1;
+        if answer > 9 && (size <= 40 || dice.once_in(8)) {
+            assert_true(&m, chain, answer);
+        }
+    }
+    let chain = m.record.data[5];
+    assert_eq!(reckon(&mut m), 0);
+    if !Network::of(&m.record.data, &m.links.data).open.is_empty() {
+        assert_true(&m, chain, b'K');
+    }
+}
+
+#[test]
+fn lists_of_openings() {
+    let mut tally = Tally::new();
+    for seed in 0..400 {
+        let size = 4 + Dice::new(seed + 77_000).below(30);
+        run_list(seed, size, &mut tally);
+    }
+    tally.assert_all(&[1, 5, 6, 7, 8, b'G', b'K', b'S'], 50);
+}
+
+#[test]
+fn long_lists_of_openings() {
+    let mut tally = Tally::new();
+    for seed in 0..12 {
+        run_list(900_000 + seed, 256, &mut tally);
+    }
+    tally.assert_all(&[5, b'G', b'K', b'S'], 10);
+}
+
+#[test]
+fn searches_and_reckonings_of_true_maps() {
+    let mut tally = Tally::new();
+    for seed in 0..400 {
+        let mut dice = Dice::new(1_000_000 + seed);
+        let (mut m, _) = true_map(&mut dice);
+        for _ in 0..6 {
+            tally.count(search(&mut m, dice.byte()));
+        }
+        for code in Network::of(&m.record.data, &m.links.data).open {
+            if dice.once_in(6) {
+                tally.count(search(&mut m, code as u8));
+            }
+        }
+        // a reckoning does not look at chain, pair count and pair table
+        for word in [5, 6] {
+            m.record.data[word] = dice.word();
+        }
+        for word in 0..1024 {
+            m.pairs.data[word] = dice.word();
+        }
+        assert_eq!(reckon(&mut m), 0);
+        assert_true(&m, m.record.data[5], b'K');
+    }
+    tally.assert_all(&[0, 4], 100);
+}
+
+#[test]
+fn openings_on_false_but_sound_figures() {
+    let mut tally = Tally::new();
+    for seed in 0..1_500 {
+        let mut dice = Dice::new(2_000_000 + seed);
+        let shape = dice.pick(&SHAPES);
+        let size = some_size(&mut dice).min(if seed % 10 == 0 { 256 } else { 40 });
+        let network = network(&mut dice, shape, size);
+        let figures = any_figures(&mut dice, &network);
+        let mut m = any_memory(&mut dice);
+        store(&mut m, &network, &figures);
+        // what it leaves is sound again, so the next opening goes on from it
+        for _ in 0..3 {
+            let open_set = Network::of(&m.record.data, &m.links.data).open;
+            let (code, neighbours) = some_notice(&mut dice, &open_set);
+            tally.count(open(&mut m, code, &neighbours));
+        }
+    }
+    tally.assert_all(&[5, 6, 7, 8, b'G', b'K', b'S'], 50);
+}
+
+#[test]
+fn damaged_maps() {
+    let mut opened = Tally::new();
+    let mut searched = Tally::new();
+    let mut reckoned = Tally::new();
+    for seed in 0..200 {
+        for way in 0..=DAMAGES {
+            let mut dice = Dice::new(3_000_000 + 100 * seed + way as u64);
+            let (mut m, network) = true_map(&mut dice);
+            damage(&mut dice, &mut m, &network, way);
+            if dice.once_in(4) {
+                let other = dice.below(DAMAGES);
+                damage(&mut dice, &mut m, &network, other);
+            }
+            let (code, neighbours) = some_notice(&mut dice, &network.open);
+            opened.count(open(&mut m.clone(), code, &neighbours));
+            searched.count(search(&mut m.clone(), dice.byte()));
+            reckoned.count(reckon(&mut m.clone()));
+            assert_eq!(empty(&mut m), 0);
+        }
+    }
+    opened.assert_all(&[2, 3, 5, b'G', b'K'], 20);
+    searched.assert_all(&[0, 2, 3, 4], 20);
+    reckoned.assert_all(&[0, 2, 3], 20);
+}
+
+#[test]
+fn memory_of_no_map() {
+    for seed in 0..200 {
+        let mut dice = Dice::new(4_000_000 + seed);
+        let mut m = any_memory(&mut dice);
+        assert_eq!(open(&mut m, 1, &[2, 3]), 2);
+        assert_eq!(search(&mut m, 1), 2);
+        assert_eq!(reckon(&mut m), 2);
+        assert_eq!(empty(&mut m), 0);
+    }
+}
+
+/// Each buffer in turn at every critical size, on maps that are sound, spoilt or apart.
+#[test]
+fn short_and_long_buffers() {
+    let mut tally = Tally::new();
+    for seed in 0..24 {
+        for which in 0..8 {
+            let size = SIZES[which];
+            for lent in [0, 1, size / 2, size - 1, size, size + 1, size + 3] {
+                let mut dice = Dice::new(5_000_000 + 1000 * seed + 10 * which as u64);
+                let (mut m, network) = true_map(&mut dice);
+                if seed % 3 != 0 {
+                    let way = dice.below(DAMAGES);
+                    damage(&mut dice, &mut m, &network, way);
+                }
+                m.set_lent(which, lent);
+                let (code, neighbours) = some_notice(&mut dice, &network.open);
+                let opened = open(&mut m.clone(), code, &neighbours);
+                assert_eq!(opened == 1, lent < size);
+                let reckoned = reckon(&mut m.clone());
+                assert_eq!(reckoned == 1, lent < size);
+                let searched = search(&mut m.clone(), dice.byte());
+                assert_eq!(searched == 1, lent < size && ![2, 4, 5].contains(&which));
+                let emptied = empty(&mut m);
+                assert_eq!(emptied == 1, lent < size && which < 3);
+                for answer in [opened, reckoned, searched, emptied] {
+                    tally.count(answer);
+                }
+            }
+        }
+    }
+    tally.assert_all(&[0, 1, 2, 3], 20);
+}
+
+/// All buffers short, or all but one.
+#[test]
+fn several_short_buffers() {
+    for seed in 0..300 {
+        let mut dice = Dice::new(6_000_000 + seed);
+        let (mut m, network) = true_map(&mut dice);
+        for (which, size) in SIZES.into_iter().enumerate() {
+            if dice.once_in(2) {
+                let lent = dice.below(size);
+                m.set_lent(which, lent);
+            }
+        }
+        let (code, neighbours) = some_notice(&mut dice, &network.open);
+        open(&mut m.clone(), code, &neighbours);
+        search(&mut m.clone(), code);
+        reckon(&mut m.clone());
+        empty(&mut m);
+    }
+}

@@ -1,0 +1,291 @@
+//! Maps to try: networks of many shapes, memory to lend with them, and ways to damage it.
+use crate::dice::Dice;
+use crate::lent::{Buffer, Lent};
+use crate::plain::{table_of_bits, Figures, Network};
+use std::collections::BTreeSet;
+
+/// How the neighbours of the next depot are chosen.
+#[derive(Clone, Copy, Debug)]
+pub enum Shape {
+    Path,
+    Ring,
+    Tree,
+    Star,
+    Sparse,
+    Dense,
+    Whole,
+    Regional,
+    Alternate,
+    Shortcuts,
+}
+
+pub const SHAPES: [Shape; 10] = [
+    Shape::Path,
+    Shape::Ring,
+    Shape::Tree,
+    Shape::Star,
+    Shape::Sparse,
+    Shape::Dense,
+    Shape::Whole,
+    Shape::Regional,
+    Shape::Alternate,
+    Shape::Shortcuts,
+];
+
+/// Codes in the order in which they open, with their neighbours.
+pub struct Growth {
+    pub shape: Shape,
+    pub order: Vec<usize>,
+    places: Vec<(i64, i64)>,
+}
+
+impl Growth {
+    pub fn new(dice: &mut Dice, shape: Shape) -> Growth {
+        let mut order: Vec<usize> = (0..256).collect();
+        if !dice.once_in(4) {
+            dice.shuffle(&mut order);
+        }
+        let places = (0..256).map(|_| (dice.below(10_000) as i64, dice.below(10_000) as i64)).collect();
+        Growth { shape, order, places }
+    }
+
+    /// The neighbours of the depot that opens as number i, rising; `size` will open in all.
+    pub fn neighbours(&self, dice: &mut Dice, i: usize, size: usize) -> Vec<u8> {
+        if i == 0 {
+            return Vec::new();
+        }
+        let earlier = &self.order[..i];
+        let mut some = BTreeSet::new();
+        match self.shape {
+            Shape::Path => {
+                some.insert(earlier[i - 1]);
+            }
+            Shape::Ring => {
+                some.insert(earlier[i - 1]);
+                if i + 1 == size {
+                    some.insert(earlier[0]);
+                }
+            }
+            Shape::Tree => {
+                some.insert(dice.pick(earlier));
+            }
+            Shape::Star => {
+                some.insert(earlier[0]);
+            }
+            Shape::Sparse => {
+                for _ in 0..1 + dice.below(3) {
+                    some.insert(dice.pick(earlier));
+                }
+            }
+            Shape::Dense => {
+                some.extend(earlier.iter().copied().filter(|_| dice.once_in(2)));
+                some.insert(dice.pick(earlier));
+            }
+            Shape::Whole => some.extend(earlier),
+            Shape::Regional => {
+                let far = |v: &usize| {
+                    let (a, b) = (self.places[*v], self.places[self.order[i]]);
+                    (a.0 - b.0).pow(2) + (a.1 - b.1).pow(2)
+                };
+                let mut near = earlier.to_vec();
+                near.sort_by_key(far);
+                let count = 1 + usize::from(dice.once_in(3)) + usize::from(dice.once_in(7));
+                some.extend(near.into_iter().take(count));
+            }
+            Shape::Alternate => {
+                if i % 2 == 1 {
+                    some.extend(earlier);
+                } else {
+                    some.insert(earlier[if i >= 2 { i - 2 } else { 0 }]);
+                }
+            }
+            Shape::Shortcuts => {
+                some.insert(earlier[i - 1]);
+                if dice.once_in(6) {
+                    some.insert(dice.pick(earlier));
+                }
+            }
+        }
+        some.into_iter().map(|v| v as u8).collect()
+    }
+}
+
+/// A number of depots: mostly small, sometimes at a word's end or all.
+pub fn some_size(dice: &mut Dice) -> usize {
+    match dice.below(20) {
+        0 => dice.pick(&[0, 1, 2, 3]),
+        1 => dice.pick(&[63, 64, 65, 127, 128, 129, 191, 192, 193, 255, 256]),
+        2 | 3 => dice.below(257),
+        4..=8 => dice.below(48),
+        _ => dice.below(16),
+    }
+}
+
+/// A network of `size` depots.
+pub fn network(dice: &mut Dice, shape: Shape, size: usize) -> Network {
+    let growth = Growth::new(dice, shape);
+    let mut network = Network::empty();
+    for i in 0..size {
+        let code = growth.order[i];
+        for v in growth.neighbours(dice, i, size) {
+            network.link(code, v.into());
+        }
+        network.open.insert(code);
+    }
+    network
+}
+
+fn words(dice: &mut Dice, n: usize) -> Vec<u64> {
+    (0..n).map(|_| dice.word()).collect()
+}
+
+fn halves(dice: &mut Dice, n: usize) -> Vec<u16> {
+    (0..n).map(|_| dice.word() as u16).collect()
+}
+
+/// Every buffer with a few elements past its named size, lent or not, and something in each place.
+pub fn any_memory(dice: &mut Dice) -> Lent {
+    let mut lent = Lent {
+        record: Buffer::new(words(dice, 7 + 3)),
+        links: Buffer::new(words(dice, 1024 + 5)),
+        pairs: Buffer::new(words(dice, 1024 + 5)),
+        hops: Buffer::new(halves(dice, 256 + 5)),
+        bounds: Buffer::new(halves(dice, 256 + 5)),
+        skips: Buffer::new(halves(dice, 256 + 5)),
+        even: Buffer::new(words(dice, 4 + 3)),
+        odd: Buffer::new(words(dice, 4 + 3)),
+        frame: Buffer::new(dice.bytes(258 + 5)),
+        line: Buffer::new(dice.bytes(517 + 5)),
+        out: Buffer::new(dice.bytes(48 + 5)),
+        input: Buffer::new(Vec::new()),
+        eccentricity: dice.word() as u16,
+        searches: dice.word() as u16,
+        length: dice.word() as usize,
+        used: dice.word() as usize,
+        written: dice.word() as usize,
+        held: dice.below(518),
+        lines: dice.below(1_000_000) as u32,
+    };
+    for (which, size) in crate::lent::SIZES.into_iter().enumerate() {
+        let more = dice.below(4);
+        lent.set_lent(which, size + more);
+    }
+    lent
+}
+
+/// Puts a network and figures into memory.
+pub fn store(lent: &mut Lent, network: &Network, figures: &Figures) {
+    lent.record.data[..4].fill(0);
+    for &code in &network.open {
+        lent.record.data[code / 64] |= 1 << (code % 64);
+    }
+    lent.record.data[4] = network.open.len() as u64;
+    lent.record.data[5] = figures.chain as u64;
+    lent.record.data[6] = figures.pairs.len() as u64;
+    lent.links.data[..1024].copy_from_slice(&table_of_bits(&network.bits()));
+    lent.pairs.data[..1024].copy_from_slice(&table_of_bits(&figures.pairs));
+}
+
+/// A sound map with true figures.
+pub fn true_map(dice: &mut Dice) -> (Lent, Network) {
+    let shape = dice.pick(&SHAPES);
+    let size = some_size(dice);
+    let network = network(dice, shape, size);
+    let mut lent = any_memory(dice);
+    store(&mut lent, &network, &network.figures());
+    (lent, network)
+}
+
+/// Sound figures that need not be true.
+pub fn any_figures(dice: &mut Dice, network: &Network) -> Figures {
+    let open: Vec<usize> = network.open.iter().copied().collect();
+    let mut figures = if dice.once_in(2) { network.figures() } else { Figures::default() };
+    if dice.once_in(2) {
+        figures.chain = match dice.below(4) {
+            0 => 255,
+            1 => dice.below(256),
+            2 => figures.chain + dice.below(3),
+            _ => dice.below(12),
+        }
+        .min(255);
+    }
+    if open.len() >= 2 {
+        for _ in 0..dice.below(8) {
+            let (u, v) = (dice.pick(&open), dice.pick(&open));
+            if u < v {
+                figures.pairs.insert((u, v));
+            }
+        }
+        if dice.once_in(4) {
+            figures.pairs.retain(|_| dice.once_in(3));
+        }
+    }
+    figures
+}
+
+fn flip(table: &mut [u64], u: usize, v: usize) {
+    table[4 * u + v / 64] ^= 1 << (v % 64);
+}
+
+/// The ways to damage a map. Most spoil it; some part it; a few leave it as it is.
+pub const DAMAGES: usize = 17;
+
+pub fn damage(dice: &mut Dice, lent: &mut Lent, network: &Network, way: usize) {
+    let open: Vec<usize> = network.open.iter().copied().collect();
+    let closed: Vec<usize> = (0..256).filter(|c| !network.open.contains(c)).collect();
+    let any = dice.below(256);
+    let some_open = if open.is_empty() { any } else { dice.pick(&open) };
+    let some_closed = if closed.is_empty() { any } else { dice.pick(&closed) };
+    let huge = dice.pick(&[65_536, 65_792, 1 << 32, (1 << 32) + 1, 1 << 63, u64::MAX]);
+    let record = &mut lent.record.data;
+    let (links, pairs) = (&mut lent.links.data, &mut lent.pairs.data);
+    match way {
+        // a bit one way round only
+        0 => flip(links, dice.below(256), dice.below(256)),
+        // own bit
+        1 => flip(links, some_open, some_open),
+        // a closed row with a bit, and its counterpart
+        2 => {
+            flip(links, some_closed, some_open);
+            flip(links, some_open, some_closed);
+        }
+        3 => flip(links, some_closed, some_closed),
+        // number open
+        4 => record[4] = dice.pick(&[record[4].wrapping_add(1), record[4].wrapping_sub(1), 0, 256, 257]),
+        5 => record[4] = record[4].wrapping_add(huge),
+        // open set
+        6 => record[any / 64] ^= 1 << (any % 64),
+        // a further depot without links: apart
+        7 if !closed.is_empty() => {
+            record[some_closed / 64] |= 1 << (some_closed % 64);
+            record[4] += 1;
+        }
+        // a link taken away, both ways round: apart or not
+        8 | 9 => {
+            let beside = network.neighbours(some_open);
+            if !beside.is_empty() {
+                let v = dice.pick(&beside);
+                flip(links, some_open, v);
+                flip(links, v, some_open);
+            }
+        }
+        // pair bits: any, the lower half, a closed end
+        10 => flip(pairs, dice.below(256), dice.below(256)),
+        11 => {
+            flip(pairs, any, dice.below(any + 1));
+            record[6] += 1;
+        }
+        12 => {
+            let (u, v) = (some_open.min(some_closed), some_open.max(some_closed));
+            flip(pairs, u, v);
+            record[6] += 1;
+        }
+        // pair count
+        13 => record[6] = dice.pick(&[record[6].wrapping_add(1), record[6].wrapping_sub(1), 65_535]),
+        14 => record[6] = record[6].wrapping_add(huge),
+        // chain
+        15 => record[5] = dice.pick(&[256, 257, 65_535]),
+        16 => record[5] = record[5].wrapping_add(huge),
+        _ => {}
+    }
+}

@@ -1,0 +1,119 @@
+//! The worked cases of document 01, by their numbers; the plain implementation is held to them as well.
+use crate::dice::Dice;
+use crate::lent::{Buffer, Lent};
+use crate::maps::any_memory;
+use crate::plain::bits_of_table;
+use crate::{beside, plain, raw};
+
+fn emptied() -> Lent {
+    let mut m = any_memory(&mut Dice::new(1));
+    assert_eq!(beside("empty", &mut m, plain::empty, raw::empty), 0);
+    (m.lines, m.held) = (0, 0);
+    m
+}
+
+fn open(m: &mut Lent, code: u8, neighbours: &[u8]) -> u8 {
+    m.input = Buffer::new(neighbours.to_vec());
+    beside("open", m, |m| plain::open(m, code), |m| raw::open(m, code))
+}
+
+/// depots, chain, pair count
+fn figures(m: &Lent) -> (u64, u64, u64) {
+    (m.record.data[4], m.record.data[5], m.record.data[6])
+}
+
+fn pairs(m: &Lent) -> Vec<(usize, usize)> {
+    bits_of_table(&m.pairs.data).into_iter().collect()
+}
+
+#[test]
+fn the_seven_lines() {
+    let input = "010000\n01010100\n01020101\n01030102\n01040103\n010503000204\n010503000204\n";
+    let output = "1 K 1 0 0 1\n2 G 2 1 1 1\n3 G 3 2 1 1\n4 G 4 3 1 1\n5 G 5 4 1 1\n6 S 6 3 2 6\n7 R5 6 3 2 0\n";
+    let mut m = emptied();
+    m.out = Buffer::new(vec![b'.'; output.len() + 48]);
+    m.input = Buffer::new(input.as_bytes().to_vec());
+    assert_eq!(beside("feed", &mut m, plain::feed, raw::feed), 0);
+    assert_eq!((m.used, m.written, m.lines, m.held), (input.len(), output.len(), 7, 0));
+    assert_eq!(String::from_utf8_lossy(&m.out.data[..m.written]), output);
+    assert_eq!(pairs(&m), [(0, 3), (1, 4)]);
+    assert_eq!(beside("finish", &mut m, plain::finish, raw::finish), 0);
+    assert_eq!((m.written, m.lines), (0, 7));
+}
+
+#[test]
+fn the_path_of_seven() {
+    let mut m = emptied();
+    assert_eq!(open(&mut m, 0, &[]), b'K');
+    for code in 1..7 {
+        assert_eq!(open(&mut m, code, &[code - 1]), b'G');
+    }
+    assert_eq!(beside("reckon", &mut m, plain::reckon, raw::reckon), 0);
+    assert_eq!((figures(&m), pairs(&m), m.searches), ((7, 6, 1), vec![(0, 6)], 6));
+    assert_eq!(m.skips.data[..8], [256, 256, 256, 256, 3, 256, 256, 257]);
+    assert_eq!(m.bounds.data[..8], [6, 5, 4, 3, 4, 5, 6, 65_535]);
+    // the last reference is 6
+    assert_eq!(m.hops.data[..8], [6, 5, 4, 3, 2, 1, 0, 65_535]);
+    assert_eq!((m.even.data[0], m.odd.data[0]), (1, 2));
+}
+
+#[test]
+fn the_empty_and_the_single_map() {
+    let mut m = emptied();
+    let hops = m.hops.clone();
+    assert_eq!(beside("reckon", &mut m, plain::reckon, raw::reckon), 0);
+    assert_eq!((figures(&m), m.searches), ((0, 0, 0), 0));
+    assert_eq!(m.hops, hops);
+    assert!(m.skips.data[..256].iter().all(|&mark| mark == 257) && m.bounds.data[..256].iter().all(|&bound| bound == 65_535));
+    for code in 0..=255 {
+        assert_eq!(beside("search", &mut m, |m| plain::search(m, code), |m| raw::search(m, code)), 4);
+    }
+    assert_eq!(open(&mut m, 77, &[]), b'K');
+    assert_eq!((figures(&m), m.searches), ((1, 0, 0), 1));
+    assert_eq!(beside("search", &mut m, |m| plain::search(m, 77), |m| raw::search(m, 77)), 0);
+    assert_eq!((m.eccentricity, m.even.data[1], m.odd.data[1]), (0, 1 << 13, 0));
+    assert_eq!(beside("reckon", &mut m, plain::reckon, raw::reckon), 0);
+    assert_eq!((figures(&m), m.searches), ((1, 0, 0), 1));
+}
+
+#[test]
+fn the_greatest_values() {
+    let mut path = emptied();
+    for code in 0..=255u8 {
+        let beside = if code == 0 { vec![] } else { vec![code - 1] };
+        open(&mut path, code, &beside);
+    }
+    assert_eq!((figures(&path), pairs(&path)), ((256, 255, 1), vec![(0, 255)]));
+    assert_eq!(beside("reckon", &mut path, plain::reckon, raw::reckon), 0);
+    assert_eq!((figures(&path), pairs(&path)), ((256, 255, 1), vec![(0, 255)]));
+
+    let mut whole = emptied();
+    for code in 0..=255u8 {
+        let all: Vec<u8> = (0..code).collect();
+        open(&mut whole, code, &all);
+    }
+    assert_eq!(figures(&whole), (256, 1, 32_640));
+}
+
+/// The readings of false but sound figures that docs/DECISIONS.md names.
+#[test]
+fn false_figures() {
+    // an empty map with a chain: shrank, chain 0, 1 search
+    let mut m = emptied();
+    m.record.data[5] = 9;
+    assert_eq!(open(&mut m, 3, &[]), b'S');
+    assert_eq!((figures(&m), m.searches), ((1, 0, 0), 1));
+    // a chain that no search reaches stays, without pairs: depots 0 and 1, chain 9, pair (0,1); 2 opens beside both
+    let mut m = emptied();
+    open(&mut m, 0, &[]);
+    open(&mut m, 1, &[0]);
+    m.record.data[5] = 9;
+    assert_eq!(open(&mut m, 2, &[0, 1]), b'S');
+    assert_eq!((figures(&m), pairs(&m)), ((3, 2, 0), vec![]));
+    // chain 0 and a false pair, with a depot open: grew
+    m.record.data[5] = 0;
+    m.record.data[6] = 1;
+    m.pairs.data[0] = 4;
+    assert_eq!(open(&mut m, 9, &[2]), b'G');
+    assert_eq!(pairs(&m), [(0, 9), (1, 9)]);
+}
