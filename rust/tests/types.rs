@@ -1,0 +1,135 @@
+//! The safe types, by what a user sees of them.
+use zorpedi::{notice, report, Change, Map, Mark, Opened, Record, Refusal, Stream};
+
+const SEVEN: [&str; 7] = ["010000\n", "01010100\n", "01020101\n", "01030102\n", "01040103\n", "010503000204\n", "010503000204\n"];
+
+const REPORTS: &str = "1 K 1 0 0 1\n2 G 2 1 1 1\n3 G 3 2 1 1\n4 G 4 3 1 1\n5 G 5 4 1 1\n6 S 6 3 2 6\n7 R5 6 3 2 0\n";
+
+/// A map of a path.
+fn path(codes: std::ops::Range<u8>) -> Result<Map, Refusal> {
+    let mut map = Map::new();
+    for code in codes.clone() {
+        let beside: &[u8] = if code == codes.start { &[] } else { &[code - 1] };
+        map.open(code, beside)?;
+    }
+    Ok(map)
+}
+
+#[test]
+fn the_seven_lines_notice_by_notice() -> Result<(), Refusal> {
+    let mut map = Map::new();
+    let mut reports = String::new();
+    for (number, line) in (1..).zip(SEVEN) {
+        let answer = notice::read(line.as_bytes()).and_then(|(notice, used)| {
+            assert_eq!(used, line.len());
+            map.open(notice.code(), notice.neighbours())
+        });
+        reports += &report::line(number, answer, &map);
+    }
+    assert_eq!(reports, REPORTS);
+    assert_eq!(map.farthest_pairs().collect::<Vec<_>>(), [(0, 3), (1, 4)]);
+    Ok(())
+}
+
+#[test]
+fn the_seven_lines_as_a_stream() -> Result<(), Refusal> {
+    let input = SEVEN.concat();
+    for piece in 1..input.len() {
+        let mut stream = Stream::new();
+        let mut reports = Vec::new();
+        for part in input.as_bytes().chunks(piece) {
+            stream.push(part, &mut reports)?;
+        }
+        stream.end(&mut reports)?;
+        assert_eq!(reports, REPORTS.as_bytes());
+        assert_eq!((stream.lines(), stream.map().chain()), (7, 3));
+    }
+    Ok(())
+}
+
+#[test]
+fn more_lines_than_a_stream_answers() -> Result<(), Refusal> {
+    let mut stream = Stream::new();
+    let mut reports = Vec::new();
+    stream.push(&vec![b'\n'; 1_000_002], &mut reports)?;
+    stream.end(&mut reports)?;
+    assert_eq!(stream.lines(), Stream::LINES_LIMIT);
+    assert!(reports.ends_with(b"\n999999 R9 0 0 0 0\n1000000 R9 0 0 0 0\n"));
+    Ok(())
+}
+
+#[test]
+fn each_refusal() -> Result<(), Refusal> {
+    let mut map = path(10..13)?;
+    let before = map.clone();
+    assert_eq!(map.open(11, &[10]), Err(Refusal::Taken));
+    assert_eq!(map.open(13, &[]), Err(Refusal::Lonely));
+    assert_eq!(map.open(13, &[12, 10]), Err(Refusal::Unsorted));
+    assert_eq!(map.open(13, &[12, 13]), Err(Refusal::Unknown));
+    assert_eq!(map.search(13), Err(Refusal::Absent));
+    assert_eq!(notice::read(b"x\n"), Err(Refusal::Garbled));
+    assert_eq!(Stream::new().feed(b"", &mut []), Err(Refusal::Short));
+    assert!(map == before);
+
+    // a depot without links
+    let mut record = map.record();
+    record.open[3] |= 1;
+    record.number += 1;
+    let mut apart = Map::from_parts(record, map.links(), map.pairs());
+    assert_eq!(apart.open(13, &[12]), Err(Refusal::Apart));
+    assert_eq!(apart.search(10), Err(Refusal::Apart));
+    assert_eq!(apart.reckon(), Err(Refusal::Apart));
+
+    let mut links = *map.links();
+    links[4 * 10] = 0;
+    let mut spoilt = Map::from_parts(map.record(), &links, map.pairs());
+    assert_eq!(spoilt.open(13, &[12]), Err(Refusal::Spoilt));
+    assert_eq!(spoilt.search(10), Err(Refusal::Spoilt));
+    assert_eq!(spoilt.reckon(), Err(Refusal::Spoilt));
+    spoilt.empty();
+    assert_eq!(spoilt.open(13, &[]), Ok(Opened { change: Change::Kept, searches: 1 }));
+
+    for refusal in Refusal::ALL {
+        assert_eq!(Refusal::from_number(refusal.number()), Some(refusal));
+        assert!(refusal.to_string().starts_with(refusal.word()));
+    }
+    assert_eq!((0..=255).filter_map(Refusal::from_number).count(), 9);
+    Ok(())
+}
+
+#[test]
+fn figures_that_were_lost_are_reckoned() -> Result<(), Refusal> {
+    let map = path(100..200)?;
+    let lost = Record { chain: 999, pairs: 5, ..map.record() };
+    let mut again = Map::from_parts(lost, map.links(), &[u64::MAX; 1024]);
+    assert_eq!(again.open(200, &[199]), Err(Refusal::Spoilt));
+    let searches = again.reckon()?;
+    assert_eq!(again.record(), map.record());
+    assert_eq!(again.pairs(), map.pairs());
+    let marked = (0..=255).filter(|&code| matches!(again.mark(code), Mark::Searched { .. })).count();
+    assert_eq!(usize::from(searches), marked);
+    Ok(())
+}
+
+#[test]
+fn what_a_map_shows() -> Result<(), Refusal> {
+    let mut map = path(60..70)?;
+    assert_eq!(map.open_codes().collect::<Vec<_>>(), (60..70).collect::<Vec<_>>());
+    assert!(map.is_open(63) && map.is_open(64) && !map.is_open(70));
+    assert!(map.are_linked(63, 64) && map.are_linked(64, 63) && !map.are_linked(63, 65));
+    assert_eq!(map.neighbours(64).collect::<Vec<_>>(), [63, 65]);
+    assert_eq!((map.depots(), map.chain(), map.pair_count()), (10, 9, 1));
+    assert_eq!(format!("{map:?}"), "Map { depots: 10, chain: 9, pairs: 1, .. }");
+
+    let search = map.search(64)?;
+    assert_eq!(search.eccentricity(), 5);
+    assert_eq!(search.last_layer().collect::<Vec<_>>(), [69]);
+    assert_eq!(search.layer_before().collect::<Vec<_>>(), [60, 68]);
+    assert_eq!((search.distance(60), search.distance(71)), (Some(4), None));
+    assert_eq!(search.distances()[69], 5);
+    assert_eq!(search.distances()[0], 65_535);
+
+    let single = path(7..8)?.search(7)?.layer_before().count();
+    assert_eq!(single, 0);
+    Ok(())
+}
