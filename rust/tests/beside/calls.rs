@@ -202,7 +202,7 @@ fn damaged_maps() {
     let mut opened = Tally::new();
     let mut searched = Tally::new();
     let mut reckoned = Tally::new();
-    for seed in 0..200 {
+    for seed in 0..120 {
         for way in 0..=DAMAGES {
             let mut dice = Dice::new(3_000_000 + 100 * seed + way as u64);
             let (mut m, network) = true_map(&mut dice);

@@ -84,18 +84,23 @@ fn run(m: &mut Lent, dice: &mut Dice, input: &[u8], piece: usize, room: usize) -
 
 #[test]
 fn pieces_of_many_sizes() {
-    for seed in 0..250 {
+    for seed in 0..200 {
         let mut dice = Dice::new(11_000_000 + seed);
-        let size = 1 + dice.below(24);
+        let size = 1 + dice.below(if seed % 2 == 0 { 4 } else { 24 });
         let input = some_input(&mut dice, size);
         // the whole input in one piece, all reports in one buffer
         let mut m = begun(&mut dice);
-        let whole = run(&mut m, &mut dice, &input, 1, 48 * input.len() + 48);
+        m.out = Buffer::new(dice.bytes(48 * input.len() + 48));
+        assert_eq!((feed(&mut m, &input), m.used), (0, input.len()));
+        let mut whole = m.out.data[..m.written].to_vec();
+        assert_eq!(finish(&mut m), 0);
+        whole.extend_from_slice(&m.out.data[..m.written]);
         let lines = whole.iter().filter(|&&b| b == 0x0A).count();
         assert_eq!(lines as u32, m.lines);
         let (record, links, pairs) = (m.record.data[..7].to_vec(), m.links.data[..1024].to_vec(), m.pairs.data[..1024].to_vec());
         for (piece, room) in [(1, 48), (7, 95), (40, 96), (600, 200), (5_000, 1_000)] {
-            if piece < 40 && input.len() > 1_500 {
+            // a call compares all memory, so that few bytes a call are for short inputs
+            if input.len() > 60 * piece {
                 continue;
             }
             let mut m = begun(&mut dice);
@@ -125,7 +130,7 @@ fn growths_of_256_depots() {
 #[test]
 fn from_any_memory() {
     let mut tally = Tally::new();
-    for seed in 0..3_000 {
+    for seed in 0..2_000 {
         let mut dice = Dice::new(13_000_000 + seed);
         let (mut m, network) = true_map(&mut dice);
         if dice.once_in(2) {
