@@ -98,15 +98,16 @@ fn run_list(seed: u64, size: usize, tally: &mut Tally) {
     let growth = Growth::new(&mut dice, shape);
     let mut m = any_memory(&mut dice);
     assert_eq!(empty(&mut m), 0);
-    let mut opened = 0;
-    while opened < size {
-        let open_set = Network::of(&m.record.data, &m.links.data).open;
-        let (mut code, mut neighbours) = some_notice(&mut dice, &open_set);
-        if !dice.once_in(3) {
-            // the next depot of the growth, if nothing else has its code
-            code = growth.order[opened] as u8;
-            neighbours = growth.neighbours(&mut dice, opened, size);
-        }
+    let mut next = 0;
+    while next < size {
+        // the next depot of the growth, or something between
+        let (code, neighbours) = if dice.once_in(3) {
+            let open_set = Network::of(&m.record.data, &m.links.data).open;
+            some_notice(&mut dice, &open_set)
+        } else {
+            next += 1;
+            (growth.order[next - 1] as u8, growth.neighbours(&mut dice, next - 1, size))
+        };
         if dice.once_in(20) {
             let mut short = m.clone();
             let which = dice.below(8);
@@ -118,7 +119,6 @@ fn run_list(seed: u64, size: usize, tally: &mut Tally) {
         let chain = m.record.data[5];
         let answer = open(&mut m, code, &neighbours);
         tally.count(answer);
-        opened += 1;
         if answer > 9 && (size <= 40 || dice.once_in(8)) {
             assert_true(&m, chain, answer);
         }

@@ -9,17 +9,13 @@ pub const OTHER: u16 = 257;
 
 // ---- rows and tables of bits
 
-/// The codes of a row of four words: bit b of word w stands for code 64w + b.
+/// Whether a row of four words has a code: bit b of word w stands for code 64w + b.
+fn bit(row: &[u64], code: usize) -> bool {
+    row[code / 64] >> (code % 64) & 1 == 1
+}
+
 fn codes_of_row(row: &[u64]) -> BTreeSet<usize> {
-    let mut codes = BTreeSet::new();
-    for w in 0..4 {
-        for b in 0..64 {
-            if row[w] / 2u64.pow(b) % 2 == 1 {
-                codes.insert(64 * w + b as usize);
-            }
-        }
-    }
-    codes
+    (0..256).filter(|&code| bit(row, code)).collect()
 }
 
 /// The four words of a set of codes.
@@ -33,16 +29,14 @@ fn row_of_codes(codes: &BTreeSet<usize>) -> [u64; 4] {
 
 /// The bits of a table, as (row, code).
 pub fn bits_of_table(table: &[u64]) -> BTreeSet<(usize, usize)> {
-    let mut bits = BTreeSet::new();
+    let mut bits = Vec::new();
     for u in 0..256 {
-        if table[4 * u..4 * u + 4] == [0; 4] {
-            continue;
-        }
-        for v in codes_of_row(&table[4 * u..4 * u + 4]) {
-            bits.insert((u, v));
+        let row = &table[4 * u..4 * u + 4];
+        if row != [0; 4] {
+            bits.extend((0..256).filter(|&v| bit(row, v)).map(|v| (u, v)));
         }
     }
-    bits
+    bits.into_iter().collect()
 }
 
 /// The 1,024 words of a set of bits.
@@ -74,8 +68,10 @@ impl Network {
     pub fn of(record: &[u64], links: &[u64]) -> Network {
         let mut network = Network::empty();
         network.open = codes_of_row(&record[..4]);
-        for (u, v) in bits_of_table(links) {
-            network.linked[u][v] = true;
+        for u in 0..256 {
+            for v in 0..256 {
+                network.linked[u][v] = bit(&links[4 * u..4 * u + 4], v);
+            }
         }
         network
     }
