@@ -29,7 +29,7 @@ pub struct Opened {
 // ---- refusals
 
 // The first refusal of the lent memory, whatever the notice; 0 for none. It only reads.
-fn map_refusal(
+pub fn map_refusal(
     rec: Record,
     links: &[u64],
     pairs: &[u64],

@@ -1,8 +1,8 @@
--- `zorpedi::zorpedi_write_notice` meets its contract. Assumes nothing.
+-- `zorpedi::texts::zorpedi_write_notice` meets its contract. Assumes nothing.
 use Rattle.zorpedi.proofs.Lines.{write-line-out, write-refused-out}
 use borrow.Author.Needs.{needs}
-use Rattle.zorpedi.proofs.zorpedi_write_notice.Statement.{statement}
-use Rattle.zorpedi.proofs.zorpedi_write_notice.Tie as tie
+use Rattle.zorpedi.proofs.texts.zorpedi_write_notice.Statement.{statement}
+use Rattle.zorpedi.proofs.texts.zorpedi_write_notice.Tie as tie
 
 -- src/lib.rt:29:9
 write-notice-requires : tie.Need-write-notice-requires

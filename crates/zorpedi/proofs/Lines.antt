@@ -1,12 +1,13 @@
--- WHAT READER AND WRITER LEAVE IN LENT NUMBERS: the new values, or the old ones where they refuse. Assumes nothing.
+-- WHAT READER AND WRITERS LEAVE IN LENT NUMBERS: the new values, or the old ones where they refuse. Assumes nothing.
 use mathlib.Core.Path.{_≡_, refl, sym, ap, _∙_}
 use mathlib.Core.Bool.{Bool, true, false, cond}
 use mathlib.Core.List.{List}
-use Prim.Native.Nat.{ℕ, zero, suc}
+use Prim.Native.Nat.{ℕ, zero, suc, _<_}
 use native.Mathlib.Nat.{lt-irrefl}
 use native.Mathlib.Omega.{arith}
 use Rattle.lists.specs.Lists.{overwrite}
 use lib.Dec.{ltb}
+use borrow.Author.Tests.{eq-eqb, ne-eqb}
 use lib.ListN.{length}
 use Rattle.outcome.specs.Numbers.{shortBuffer, garbledLine}
 use Rattle.notice.specs.Lines.{lineLimit, isFrame, lineOf, Line, garbled, frame, readLine}
@@ -18,7 +19,15 @@ use Rattle.notice.specs.declared.Writing.the-variants.{Line as Written, Refused
 use Rattle.notice.proofs.Tests.{frame-parts}
 use Rattle.notice.proofs.Spelling.{length-line}
 use Rattle.notice.proofs.Theorems.{read-frame}
-use Rattle.zorpedi.specs.Lines.{orOld, lineOut, outOf, readOut, writeOut}
+use Rattle.outcome.specs.declared.Change.the-variants.{Grew, Kept, Shrank}
+use Rattle.outcome.specs.declared.Outcome.{Outcome}
+use Rattle.outcome.specs.declared.Outcome.the-variants.{Accepted, Refused}
+use Rattle.report.specs.Line.{reportLine, bufferLimit, reportDone, reportRefused, writtenOf, ReportLeft, reportLeft, reportCall}
+use Rattle.report.specs.declared.Report.{Report}
+use Rattle.report.specs.declared.Written.{Written as ReportWritten}
+use Rattle.report.specs.declared.Written.the-variants.{Line as ReportLine, Refused as NoReport}
+use Rattle.report.proofs.Theorems.{line-length}
+use Rattle.zorpedi.specs.Lines.{orOld, LineOut, lineOut, outOf, readOut, writeOut, outcomeOf, reportFields, reportFrom, reportOut}
 
 -- a refusal has a number above 0
 old-kept : (k new old : ℕ) → (k ≡ 0 → ⊥) → orOld k new old ≡ old
@@ -81,3 +90,61 @@ module _ (f buffer : List ℕ) (l : ℕ) (r : Writing) {after : List ℕ} (left 
   write-refused-out {k} e =
       let q : lineLeft (lineRefused k) after ≡ writeCall f buffer = sym (ap (λ (x : Writing). lineLeft (writingOf x) after) e) ∙ left in
       refused-out k after l 0 (writer-some f buffer k after q) ∙ ap (λ (x : LineLeft). outOf x l 0) q
+
+-- ---- report lines
+
+module _ (a : ℕ) where
+  pub outcome-grew : a ≡ 71 → Accepted Grew ≡ outcomeOf a
+  unfolding outcomeOf
+  outcome-grew e = rw (eq-eqb a 71 e)
+
+  pub outcome-kept : (a ≡ 71 → ⊥) → a ≡ 75 → Accepted Kept ≡ outcomeOf a
+  unfolding outcomeOf
+  outcome-kept m e = rw (ne-eqb a 71 m, eq-eqb a 75 e)
+
+  pub outcome-shrank : (a ≡ 71 → ⊥) → (a ≡ 75 → ⊥) → a ≡ 83 → Accepted Shrank ≡ outcomeOf a
+  unfolding outcomeOf
+  outcome-shrank m n e = rw (ne-eqb a 71 m, ne-eqb a 75 n, eq-eqb a 83 e)
+
+  pub outcome-refused : (a ≡ 71 → ⊥) → (a ≡ 75 → ⊥) → (a ≡ 83 → ⊥) → Refused a ≡ outcomeOf a
+  unfolding outcomeOf
+  outcome-refused m n o = rw (ne-eqb a 71 m, ne-eqb a 75 n, ne-eqb a 83 o)
+
+line-some : (f : Report) → 0 < length (reportLine f)
+line-some f = omega (arith, line-length f)
+
+report-some : (f : Report) (buffer : List ℕ) (k : ℕ) (b : List ℕ) → reportLeft (reportRefused k) b ≡ reportCall f buffer → k ≡ 0 → ⊥
+unfolding reportCall
+report-some f buffer k b e z = go (ltb (length buffer) bufferLimit) e
+  where
+    go : (s : Bool) → reportLeft (reportRefused k) b ≡ cond s (reportLeft (reportRefused shortBuffer) buffer) (reportLeft (reportDone (length (reportLine f))) (overwrite (reportLine f) buffer)) → ⊥
+    go true r = let x = ap (λ (y : ReportLeft). y .answer .refusal) r in lt-irrefl 0 (omega (arith, x))
+    go false r = let x = ap (λ (y : ReportLeft). y .answer .written) r in lt-irrefl 0 (omega (arith, x, line-some f))
+
+module _ (number answer depots chain pairs searches : ℕ) {o : Outcome} (given : o ≡ outcomeOf answer) where
+  abbrev asked : Report
+  asked = record { number = number; outcome = o; depots = depots; chain = chain; pairs = pairs; searches = searches }
+
+  fields-are : asked ≡ reportFields number answer depots chain pairs searches
+  unfolding reportFields
+  fields-are = rw given
+
+  module _ (buffer : List ℕ) (l : ℕ) (r : ReportWritten) {after : List ℕ} (left : reportLeft (writtenOf r) after ≡ reportCall asked buffer) where
+    abbrev said : LineOut
+    said = reportOut (reportFields number answer depots chain pairs searches) buffer l
+
+    called : reportFrom (reportLeft (writtenOf r) after) l ≡ said
+    unfolding reportOut
+    called = ap (λ (x : ReportLeft). reportFrom x l) (left ∙ ap (λ (f : Report). reportCall f buffer) fields-are)
+
+    pub report-line-out : {n : ℕ} → r ≡ ReportLine n → lineOut 0 n 0 after ≡ said
+    unfolding reportFrom writtenOf orOld
+    report-line-out {n} e = sym (ap (λ (x : ReportWritten). reportFrom (reportLeft (writtenOf x) after) l) e) ∙ called
+
+    pub report-refused-out : {k : ℕ} → r ≡ NoReport k → lineOut k l 0 after ≡ said
+    unfolding reportFrom writtenOf
+    report-refused-out {k} e =
+        let q : reportLeft (reportRefused k) after ≡ reportCall asked buffer = sym (ap (λ (x : ReportWritten). reportLeft (writtenOf x) after) e) ∙ left in
+        ap (λ (x : ℕ). lineOut k x 0 after) (sym (old-kept k 0 l (report-some asked buffer k after q)))
+        ∙ sym (ap (λ (x : ReportWritten). reportFrom (reportLeft (writtenOf x) after) l) e)
+        ∙ called

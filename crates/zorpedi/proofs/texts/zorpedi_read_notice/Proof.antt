@@ -1,8 +1,8 @@
--- `zorpedi::zorpedi_read_notice` meets its contract. Assumes nothing.
+-- `zorpedi::texts::zorpedi_read_notice` meets its contract. Assumes nothing.
 use Rattle.zorpedi.proofs.Lines.{read-frame-out, read-refused-out}
 use borrow.Author.Needs.{needs}
-use Rattle.zorpedi.proofs.zorpedi_read_notice.Statement.{statement}
-use Rattle.zorpedi.proofs.zorpedi_read_notice.Tie as tie
+use Rattle.zorpedi.proofs.texts.zorpedi_read_notice.Statement.{statement}
+use Rattle.zorpedi.proofs.texts.zorpedi_read_notice.Tie as tie
 
 -- src/lib.rt:13:9
 read-notice-requires : tie.Need-read-notice-requires

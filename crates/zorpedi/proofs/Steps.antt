@@ -1,0 +1,164 @@
+-- WHAT A STEP OF THE STREAM LEAVES, refused and done. Assumes nothing.
+use mathlib.Core.Path.{_≡_, refl, sym, ap, _∙_}
+use mathlib.Core.Bool.{Bool, true, false, cond, _||_}
+use mathlib.Core.List.{List}
+use Prim.Native.Nat.{ℕ, zero, suc, _≤_, _<_}
+use native.Mathlib.Nat.{lt-irrefl}
+use native.Mathlib.Omega.{arith}
+use lib.Dec.{eqb, ltb}
+use lib.ListN.{length}
+use borrow.Author.Tests.{ltb-false, lt-ltb, le-ltb}
+use Rattle.lists.specs.Lists.{overwrite}
+use Rattle.layers.specs.Layers.{tables}
+use Rattle.map.specs.Memory.{base}
+use Rattle.map.specs.declared.Record.{Record}
+use Rattle.rounds.specs.Leaves.{Lent, lent}
+use Rattle.rounds.specs.Sizes.{Sizes, sizes, sizesOf}
+use Rattle.notice.specs.Lines.{lineLimit}
+use Rattle.report.specs.Line.{bufferLimit}
+use Rattle.opening.specs.Steps.{mapRefusal}
+use Rattle.lines.specs.Lines.{isStopped}
+use Rattle.stream.specs.Feeding.{Feeding, feeding, progressOf, fedOf, IsReady, tookLine, feedCall, finishCall}
+use Rattle.stream.specs.declared.Progress.{Progress}
+use Rattle.stream.specs.declared.Fed.{Fed}
+use Rattle.zorpedi.specs.Words.{recordWords, recordOf, wordsOf, clampedOf}
+use Rattle.zorpedi.specs.Feeds.{stepRefusal, FedOut, fedOut, fedFrom, feedGiven, refusalIn, feedOut, finishGiven, finishOut}
+use Rattle.zorpedi.proofs.Clamps.{map-clamp, clamped-is}
+
+-- ---- the refusal, test by test
+
+module _ (l links pairs : List ℕ) (z : Sizes) (line out held : ℕ) where
+  abbrev said : ℕ
+  said = stepRefusal l links pairs z line out held
+
+  pub step-words : length l < recordWords → 1 ≡ said
+  unfolding stepRefusal
+  step-words a = rw (lt-ltb (length l) recordWords a)
+
+  module _ (a : recordWords ≤ length l) where
+    pub step-line : line < lineLimit → 1 ≡ said
+    unfolding stepRefusal
+    step-line b = rw (le-ltb (length l) recordWords a, lt-ltb line lineLimit b)
+
+    module _ (b : lineLimit ≤ line) where
+      pub step-out : out < bufferLimit → 1 ≡ said
+      unfolding stepRefusal
+      step-out c = rw (le-ltb (length l) recordWords a, le-ltb line lineLimit b, lt-ltb out bufferLimit c)
+
+      module _ (c : bufferLimit ≤ out) where
+        pub step-held : lineLimit < held → 1 ≡ said
+        unfolding stepRefusal
+        step-held d = rw (le-ltb (length l) recordWords a, le-ltb line lineLimit b, le-ltb out bufferLimit c, lt-ltb lineLimit held d)
+
+        pub step-map : held ≤ lineLimit → {rec : Record} → rec ≡ clampedOf l → {r : ℕ} → r ≡ mapRefusal base rec links pairs z → r ≡ said
+        unfolding stepRefusal
+        step-map d q {r} e =
+            e
+            ∙ ap (λ (x : Record). mapRefusal base x links pairs z) q
+            ∙ map-clamp l links pairs z
+            ∙ rw (le-ltb (length l) recordWords a, le-ltb line lineLimit b, le-ltb out bufferLimit c, le-ltb lineLimit held d) refl
+
+  -- nothing refuses it: every test passed
+  pub step-granted : said ≡ 0 → (recordWords ≤ length l) × (lineLimit ≤ line) × (held ≤ lineLimit) × (mapRefusal base (recordOf l) links pairs z ≡ 0)
+  unfolding stepRefusal
+  step-granted e = go (ltb (length l) recordWords) (ltb line lineLimit) (ltb out bufferLimit) (ltb lineLimit held) refl refl refl e
+    where
+      go : (s t u v : Bool) → ltb (length l) recordWords ≡ s → ltb line lineLimit ≡ t → ltb lineLimit held ≡ v → cond (s || t || u || v) 1 (mapRefusal base (recordOf l) links pairs z) ≡ 0
+          → (recordWords ≤ length l) × (lineLimit ≤ line) × (held ≤ lineLimit) × (mapRefusal base (recordOf l) links pairs z ≡ 0)
+      go false false false false p q r e = (ltb-false _ _ p, ltb-false _ _ q, ltb-false _ _ r, e)
+      go true t u v p q r e = absurd (lt-irrefl 0 (omega (arith, e)))
+      go false true u v p q r e = absurd (lt-irrefl 0 (omega (arith, e)))
+      go false false true v p q r e = absurd (lt-irrefl 0 (omega (arith, e)))
+      go false false false true p q r e = absurd (lt-irrefl 0 (omega (arith, e)))
+
+  pub step-room : {k : ℕ} → k ≡ said → k ≡ 0 → recordWords ≤ length l
+  step-room e z = step-granted (sym e ∙ z) .0
+
+-- such a step may be taken
+pub step-ready : (words links p h x y b s line : List ℕ) (out lines held : ℕ) {k : ℕ}
+    → k ≡ stepRefusal words links p (sizes (length links) (length p) (length h) (length b) (length s) (length x) (length y)) (length line) out held
+    → k ≡ 0
+    → {rec : Record} → rec ≡ clampedOf words
+    → IsReady (progressOf rec lines held) links (lent p (tables h x y) b s) line
+unfolding sizesOf
+step-ready words links p h x y b s line out lines held e z read =
+    let g = step-granted _ _ _ _ _ _ _ (sym e ∙ z) in
+    record {
+      free =
+          ap (λ (r : Record). mapRefusal base r links p (sizesOf links (lent p (tables h x y) b s))) (read ∙ clamped-is words links p _ (g .3))
+          ∙ g .3;
+      room = g .1;
+      held = g .2;
+    }
+
+-- the end of a stream uses no byte
+end-unused : (q : Progress) (links : List ℕ) (B : Lent) (line out : List ℕ) → finishCall q links B line out .fed .used ≡ 0
+unfolding finishCall tookLine
+end-unused q links B line out = go (eqb (q .held) 0 || isStopped (q .lines) 0 (length out))
+  where
+    F : Feeding
+    F = feeding (fedOf q 0 0) links B line out
+
+    go : (t : Bool) → cond t F (tookLine F) .fed .used ≡ 0
+    go true = refl
+    go false = refl
+
+-- ---- the calls
+
+module _ (words links p h x y b s line out : List ℕ) (lines held used written : ℕ) where
+  abbrev B : Lent
+  B = lent p (tables h x y) b s
+
+  abbrev m : FedOut
+  m = fedOut 0 words lines held used written links B line out
+
+  abbrev first : ℕ
+  first = stepRefusal words links p (sizes (length links) (length p) (length h) (length b) (length s) (length x) (length y)) (length line) (length out) held
+
+  first-is : first ≡ refusalIn m
+  unfolding refusalIn sizesOf
+  first-is = refl
+
+  pub feed-refused : (piece : List ℕ) {k : ℕ} → k ≡ first → (k ≡ 0 → ⊥) → fedOut k words lines held used written links B line out ≡ feedOut m piece
+  unfolding feedOut feedGiven
+  feed-refused piece {k} e n = go k n ∙ ap (λ (j : ℕ). feedGiven j m piece) (e ∙ first-is)
+    where
+      go : (k : ℕ) → (k ≡ 0 → ⊥) → fedOut k words lines held used written links B line out ≡ feedGiven k m piece
+      go zero n = absurd (n refl)
+      go (suc k) n = refl
+
+  pub finish-refused : {k : ℕ} → k ≡ first → (k ≡ 0 → ⊥) → fedOut k words lines held used written links B line out ≡ finishOut m
+  unfolding finishOut finishGiven
+  finish-refused {k} e n = go k n ∙ ap (λ (j : ℕ). finishGiven j m) (e ∙ first-is)
+    where
+      go : (k : ℕ) → (k ≡ 0 → ⊥) → fedOut k words lines held used written links B line out ≡ finishGiven k m
+      go zero n = absurd (n refl)
+      go (suc k) n = refl
+
+  module _ {k : ℕ} (e : k ≡ first) (z : k ≡ 0) where
+    module _ {rec : Record} (read : rec ≡ clampedOf words) where
+      read-is : rec ≡ recordOf words
+      read-is = read ∙ clamped-is words links p _ (step-granted _ _ _ _ _ _ _ (sym e ∙ z) .3)
+
+      module _ (fed : Fed) (links′ line′ out′ words′ : List ℕ) (B′ : Lent) (wrote : words′ ≡ overwrite (wordsOf (fed .progress .rec)) words) where
+        abbrev after : ℕ → FedOut
+        after u = fedOut 0 words′ (fed .progress .lines) (fed .progress .held) u (fed .written) links′ B′ line′ out′
+
+        from : fedFrom (feeding fed links′ B′ line′ out′) words ≡ after (fed .used)
+        unfolding fedFrom
+        from = ap (λ (w : List ℕ). fedOut 0 w (fed .progress .lines) (fed .progress .held) (fed .used) (fed .written) links′ B′ line′ out′) (sym wrote)
+
+        pub feed-done : (piece : List ℕ) → feeding fed links′ B′ line′ out′ ≡ feedCall (progressOf rec lines held) links B line out piece → after (fed .used) ≡ feedOut m piece
+        unfolding feedOut feedGiven
+        feed-done piece left =
+            sym from
+            ∙ ap (λ (F : Feeding). fedFrom F words) (left ∙ ap (λ (x : Record). feedCall (progressOf x lines held) links B line out piece) read-is)
+            ∙ ap (λ (j : ℕ). feedGiven j m piece) (sym z ∙ e ∙ first-is)
+
+        pub finish-done : feeding fed links′ B′ line′ out′ ≡ finishCall (progressOf rec lines held) links B line out → after 0 ≡ finishOut m
+        unfolding finishOut finishGiven
+        finish-done left =
+            ap after (sym (ap (λ (F : Feeding). F .fed .used) left ∙ end-unused (progressOf rec lines held) links B line out))
+            ∙ sym from
+            ∙ ap (λ (F : Feeding). fedFrom F words) (left ∙ ap (λ (x : Record). finishCall (progressOf x lines held) links B line out) read-is)
+            ∙ ap (λ (j : ℕ). finishGiven j m) (sym z ∙ e ∙ first-is)

@@ -1,0 +1,51 @@
+-- NOTICE LINES AND REPORT LINES for other languages: the numbers that reader and writers leave, and their buffer. Assumes nothing.
+use mathlib.Core.Bool.{cond}
+use mathlib.Core.List.{List}
+use Prim.Native.Nat.{ℕ, zero, suc}
+use lib.Dec.{eqb}
+use Rattle.notice.specs.Calls.{LineLeft, readCall, writeCall}
+use Rattle.outcome.specs.declared.Change.the-variants.{Grew, Kept, Shrank}
+use Rattle.outcome.specs.declared.Outcome.{Outcome}
+use Rattle.outcome.specs.declared.Outcome.the-variants.{Accepted, Refused}
+use Rattle.report.specs.Line.{ReportLeft, reportCall}
+use Rattle.report.specs.declared.Report.{Report}
+
+-- a lent number after a call with this refusal: the new value, or the old one where the call is refused
+unfoldable pub orOld : ℕ → ℕ → ℕ → ℕ
+orOld zero new old = new
+orOld (suc k) new old = old
+
+pub record LineOut : Type 0 where
+  pub refusal : ℕ
+  pub length : ℕ
+  pub used : ℕ
+  pub buffer : List ℕ
+
+abbrev pub lineOut : ℕ → ℕ → ℕ → List ℕ → LineOut
+lineOut r l u b = record { refusal = r; length = l; used = u; buffer = b }
+
+unfoldable pub outOf : LineLeft → ℕ → ℕ → LineOut
+outOf x length used = lineOut (x .answer .refusal) (orOld (x .answer .refusal) (x .answer .written) length) (orOld (x .answer .refusal) (x .answer .used) used) (x .buffer)
+
+unfoldable pub readOut : List ℕ → List ℕ → ℕ → ℕ → LineOut
+readOut input frame length used = outOf (readCall input frame) length used
+
+unfoldable pub writeOut : List ℕ → List ℕ → ℕ → LineOut
+writeOut frame line length = outOf (writeCall frame line) length 0
+
+-- ---- report lines
+
+-- the outcome that an answer's number stands for: G, K or S in ASCII for an accepted opening, any other number for a refusal.
+-- `outcome-of-letter` and `outcome-of-refusal` (proofs/Theorems) say that it undoes the opening's answer
+unfoldable pub outcomeOf : ℕ → Outcome
+outcomeOf a = cond (eqb a 71) (Accepted Grew) (cond (eqb a 75) (Accepted Kept) (cond (eqb a 83) (Accepted Shrank) (Refused a)))
+
+unfoldable pub reportFields : ℕ → ℕ → ℕ → ℕ → ℕ → ℕ → Report
+reportFields number answer depots chain pairs searches =
+    record { number = number; outcome = outcomeOf answer; depots = depots; chain = chain; pairs = pairs; searches = searches }
+
+unfoldable pub reportFrom : ReportLeft → ℕ → LineOut
+reportFrom x length = lineOut (x .answer .refusal) (orOld (x .answer .refusal) (x .answer .written) length) 0 (x .buffer)
+
+unfoldable pub reportOut : Report → List ℕ → ℕ → LineOut
+reportOut fields line length = reportFrom (reportCall fields line) length

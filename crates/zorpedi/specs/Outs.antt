@@ -1,0 +1,110 @@
+-- THE CALLS ON ONE MAP for other languages: the answer's number, the lent numbers and every lent word. Each is the call that it wraps, on the
+-- record in the lent words; a refused one changes nothing. Assumes nothing.
+use mathlib.Core.Bool.{cond}
+use mathlib.Core.List.{List}
+use Prim.Native.Nat.{ℕ}
+use lib.Dec.{ltb}
+use lib.ListN.{length}
+use Rattle.lists.specs.Lists.{overwrite}
+use Rattle.graph.specs.Opening.{Notice}
+use Rattle.layers.specs.Layers.{Tables}
+use Rattle.map.specs.Memory.{base}
+use Rattle.map.specs.Empty.{EmptyLeft, emptyCall}
+use Rattle.map.specs.declared.Emptying.{Emptying}
+use Rattle.map.specs.declared.Emptying.the-variants.{Done, Refused as NoEmptying}
+use Rattle.search.specs.SearchCall.{searchCall}
+use Rattle.search.specs.declared.Found.{Found}
+use Rattle.search.specs.declared.Found.the-variants.{Reached, Refused as NoSearch}
+use Rattle.rounds.specs.Leaves.{Lent}
+use Rattle.reckon.specs.ReckonCall.{ReckonLeft, reckonCall}
+use Rattle.reckon.specs.declared.Reckoning.{Reckoning}
+use Rattle.reckon.specs.declared.Reckoning.the-variants.{Searches, Refused as NoReckoning}
+use Rattle.outcome.specs.Numbers.{shortBuffer}
+use Rattle.outcome.specs.Outcome.{letterOf}
+use Rattle.outcome.specs.declared.Outcome.{Outcome}
+use Rattle.outcome.specs.declared.Outcome.the-variants.{Accepted, Refused}
+use Rattle.opening.specs.OpenCall.{OpenLeft, openCall}
+use Rattle.zorpedi.specs.Words.{recordWords, recordOf, wordsOf}
+
+-- ---- emptying
+
+pub record EmptyOut : Type 0 where
+  pub refusal : ℕ
+  pub words : List ℕ
+  pub links : List ℕ
+  pub pairs : List ℕ
+
+abbrev pub emptiedOut : ℕ → List ℕ → List ℕ → List ℕ → EmptyOut
+emptiedOut r words links pairs = record { refusal = r; words = words; links = links; pairs = pairs }
+
+-- this paper's number for each case of the answer, and the record's words: the new record over the first seven, or the old words
+unfoldable pub emptyFrom : Emptying → EmptyLeft → List ℕ → EmptyOut
+emptyFrom Done x words = emptiedOut 0 (overwrite (wordsOf (x .after)) words) (x .links) (x .pairs)
+emptyFrom (NoEmptying k) x words = emptiedOut k words (x .links) (x .pairs)
+
+unfoldable pub emptyOut : List ℕ → List ℕ → List ℕ → EmptyOut
+emptyOut words links pairs =
+    let x = emptyCall base (recordOf words) links pairs in
+    cond (ltb (length words) recordWords) (emptiedOut shortBuffer words links pairs) (emptyFrom (x .answer) x words)
+
+-- ---- the search
+
+pub record SearchOut : Type 0 where
+  pub refusal : ℕ
+  pub eccentricity : ℕ
+  pub lent : Tables
+
+abbrev pub searchedOut : ℕ → ℕ → Tables → SearchOut
+searchedOut r e B = record { refusal = r; eccentricity = e; lent = B }
+
+-- the number for each case of the answer, and the lent number: the eccentricity, or what stood there
+unfoldable pub searchFrom : Found → Tables → ℕ → SearchOut
+searchFrom (Reached e) B old = searchedOut 0 e B
+searchFrom (NoSearch k) B old = searchedOut k old B
+
+unfoldable pub searchOut : List ℕ → List ℕ → Tables → ℕ → ℕ → SearchOut
+searchOut words links B old code =
+    let x = searchCall base (recordOf words) links B code in
+    cond (ltb (length words) recordWords) (searchedOut shortBuffer old B) (searchFrom (x .answer) (x .lent) old)
+
+-- ---- the whole reckoning
+
+pub record ReckonOut : Type 0 where
+  pub refusal : ℕ
+  pub words : List ℕ
+  pub searches : ℕ
+  pub lent : Lent
+
+abbrev pub reckonedOut : ℕ → List ℕ → ℕ → Lent → ReckonOut
+reckonedOut r words n B = record { refusal = r; words = words; searches = n; lent = B }
+
+unfoldable pub reckonFrom : Reckoning → ReckonLeft → List ℕ → ℕ → ReckonOut
+reckonFrom (Searches n) x words old = reckonedOut 0 (overwrite (wordsOf (x .reckoned .after)) words) n (x .lent)
+reckonFrom (NoReckoning k) x words old = reckonedOut k words old (x .lent)
+
+unfoldable pub reckonOut : List ℕ → List ℕ → Lent → ℕ → ReckonOut
+reckonOut words links B old =
+    let x = reckonCall base (recordOf words) links B in
+    cond (ltb (length words) recordWords) (reckonedOut shortBuffer words old B) (reckonFrom (x .reckoned .answer) x words old)
+
+-- ---- the opening
+
+pub record OpenOut : Type 0 where
+  pub answer : ℕ
+  pub words : List ℕ
+  pub searches : ℕ
+  pub links : List ℕ
+  pub lent : Lent
+
+abbrev pub openedOut : ℕ → List ℕ → ℕ → List ℕ → Lent → OpenOut
+openedOut a words n links B = record { answer = a; words = words; searches = n; links = links; lent = B }
+
+-- the number for each case of the outcome: the letter of an accepted opening (71 G, 75 K, 83 S), or the refusal's number
+unfoldable pub openFrom : Outcome → OpenLeft → List ℕ → ℕ → OpenOut
+openFrom (Accepted c) x words old = openedOut (letterOf (Accepted c)) (overwrite (wordsOf (x .after)) words) (x .report .searches) (x .links) (x .lent)
+openFrom (Refused k) x words old = openedOut k words old (x .links) (x .lent)
+
+unfoldable pub openOut : List ℕ → List ℕ → Lent → Notice → ℕ → OpenOut
+openOut words links B o old =
+    let x = openCall base (recordOf words) links B o in
+    cond (ltb (length words) recordWords) (openedOut shortBuffer words old links B) (openFrom (x .report .outcome) x words old)

@@ -1,0 +1,138 @@
+// The calls on one map.
+ghost use mathlib.Core.Path.{_≡_};
+ghost use Rattle.layers.specs.Layers.{tables};
+ghost use Rattle.rounds.specs.Leaves.{lent};
+ghost use Rattle.opening.specs.Steps.{noticeOf};
+ghost use Rattle.zorpedi.specs.Outs.{emptyOut, emptiedOut, searchOut, searchedOut, reckonOut, reckonedOut, openOut, openedOut};
+use crate::record::put_record;
+use crate::record::record_of;
+use map::Emptying;
+use outcome::Outcome;
+use reckon::Reckoning;
+use search::Found;
+
+// Empties a map. 0; or 1 (short).
+#[no_mangle]
+pub extern "C" fn zorpedi_empty(words: &mut [u64], links: &mut [u64], pairs: &mut [u64]) -> u8
+    ensures { λ r. ⌜ emptiedOut r (now (words .exit)) (now (links .exit)) (now (pairs .exit)) ≡ emptyOut (now (words .entry)) (now (links .entry)) (now (pairs .entry)) ⌝ }
+{
+    if words.len() < 7 {
+        return 1;
+    }
+    let rec = record_of(&*words);
+    let got = map::empty_map(links, pairs, rec);
+    let after = got.after;
+    let answer = got.answer;
+    match answer {
+        Emptying::Done => {
+            put_record(words, after);
+            0
+        }
+        Emptying::Refused(k) => k,
+    }
+}
+
+// The search from a depot. 0, and its eccentricity; or 1 (short), 2 (spoilt), 3 (apart), 4 (absent).
+#[no_mangle]
+pub extern "C" fn zorpedi_search(
+    hops: &mut [u16],
+    even: &mut [u64],
+    odd: &mut [u64],
+    eccentricity: &mut u16,
+    words: &[u64],
+    links: &[u64],
+    code: u8,
+) -> u8
+    ensures { λ r. ⌜ searchedOut r (now (eccentricity .exit)) (tables (now (hops .exit)) (now (even .exit)) (now (odd .exit))) ≡ searchOut (now (words .entry)) (now (links .entry)) (tables (now (hops .entry)) (now (even .entry)) (now (odd .entry))) (now (eccentricity .entry)) code ⌝ }
+{
+    if words.len() < 7 {
+        return 1;
+    }
+    let rec = record_of(words);
+    let found = search::search_from(hops, even, odd, rec, links, code);
+    match found {
+        Found::Reached(e) => {
+            *eccentricity = e;
+            0
+        }
+        Found::Refused(k) => k,
+    }
+}
+
+// The whole reckoning. 0, and the number of searches; or 1 (short), 2 (spoilt), 3 (apart).
+#[no_mangle]
+pub extern "C" fn zorpedi_reckon(
+    words: &mut [u64],
+    pairs: &mut [u64],
+    hops: &mut [u16],
+    bounds: &mut [u16],
+    skips: &mut [u16],
+    even: &mut [u64],
+    odd: &mut [u64],
+    searches: &mut u16,
+    links: &[u64],
+) -> u8
+    ensures { λ r. ⌜ reckonedOut r (now (words .exit)) (now (searches .exit)) (lent (now (pairs .exit)) (tables (now (hops .exit)) (now (even .exit)) (now (odd .exit))) (now (bounds .exit)) (now (skips .exit))) ≡ reckonOut (now (words .entry)) (now (links .entry)) (lent (now (pairs .entry)) (tables (now (hops .entry)) (now (even .entry)) (now (odd .entry))) (now (bounds .entry)) (now (skips .entry))) (now (searches .entry)) ⌝ }
+{
+    if words.len() < 7 {
+        return 1;
+    }
+    let rec = record_of(&*words);
+    let got = reckon::reckon_all(pairs, hops, bounds, skips, even, odd, rec, links);
+    let after = got.after;
+    let answer = got.answer;
+    match answer {
+        Reckoning::Searches(n) => {
+            put_record(words, after);
+            *searches = n;
+            0
+        }
+        Reckoning::Refused(k) => k,
+    }
+}
+
+// The opening of a depot. 71 (G, grew), 75 (K, kept) or 83 (S, shrank), and the number of searches; or the number of the refusal.
+#[no_mangle]
+pub extern "C" fn zorpedi_open(
+    words: &mut [u64],
+    links: &mut [u64],
+    pairs: &mut [u64],
+    hops: &mut [u16],
+    bounds: &mut [u16],
+    skips: &mut [u16],
+    even: &mut [u64],
+    odd: &mut [u64],
+    searches: &mut u16,
+    code: u8,
+    neighbours: &[u8],
+) -> u8
+    ensures { λ r. ⌜ openedOut r (now (words .exit)) (now (searches .exit)) (now (links .exit)) (lent (now (pairs .exit)) (tables (now (hops .exit)) (now (even .exit)) (now (odd .exit))) (now (bounds .exit)) (now (skips .exit))) ≡ openOut (now (words .entry)) (now (links .entry)) (lent (now (pairs .entry)) (tables (now (hops .entry)) (now (even .entry)) (now (odd .entry))) (now (bounds .entry)) (now (skips .entry))) (noticeOf code (now (neighbours .entry))) (now (searches .entry)) ⌝ }
+{
+    if words.len() < 7 {
+        return 1;
+    }
+    let rec = record_of(&*words);
+    let got = opening::open_step(
+        rec,
+        links,
+        pairs,
+        hops,
+        bounds,
+        skips,
+        even,
+        odd,
+        code,
+        neighbours,
+    );
+    let after = got.after;
+    let report = got.report;
+    let outcome = report.outcome;
+    match outcome {
+        Outcome::Accepted(_) => {
+            put_record(words, after);
+            *searches = report.searches;
+            outcome::letter(outcome)
+        }
+        Outcome::Refused(k) => k,
+    }
+}
