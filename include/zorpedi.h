@@ -178,8 +178,8 @@ uint8_t zorpedi_feed(uint64_t *record, size_t record_size, uint64_t *links, size
  * Refused: as zorpedi_feed. */
 uint8_t zorpedi_finish(uint64_t *record, size_t record_size, uint64_t *links, size_t links_size, uint64_t *pairs, size_t pairs_size,
                        uint16_t *hops, size_t hops_size, uint16_t *bounds, size_t bounds_size, uint16_t *skips, size_t skips_size,
-                       uint64_t *even, size_t even_size, uint64_t *odd, size_t odd_size, uint8_t *out, size_t out_size, uint32_t *lines,
-                       size_t *held, size_t *written, const uint8_t *line, size_t line_size);
+                       uint64_t *even, size_t even_size, uint64_t *odd, size_t odd_size, const uint8_t *line, size_t line_size,
+                       uint8_t *out, size_t out_size, uint32_t *lines, size_t *held, size_t *written);
 
 /* ---- all memory of one map, and the calls over it
  *
@@ -291,8 +291,8 @@ static inline uint8_t zorpedi_stream_finish(zorpedi_stream *stream, uint8_t *out
     zorpedi_map *map = &stream->map;
     return zorpedi_finish(map->record, ZORPEDI_RECORD_SIZE, map->links, ZORPEDI_TABLE_SIZE, map->pairs, ZORPEDI_TABLE_SIZE, map->hops,
                           ZORPEDI_CODES_SIZE, map->bounds, ZORPEDI_CODES_SIZE, map->skips, ZORPEDI_CODES_SIZE, map->even, ZORPEDI_ROW_SIZE,
-                          map->odd, ZORPEDI_ROW_SIZE, out, out_size, &stream->lines, &stream->held, written, stream->line,
-                          ZORPEDI_LINE_SIZE);
+                          map->odd, ZORPEDI_ROW_SIZE, stream->line, ZORPEDI_LINE_SIZE, out, out_size, &stream->lines, &stream->held,
+                          written);
 }
 
 #ifdef __cplusplus

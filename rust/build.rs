@@ -13,7 +13,10 @@ fn main() {
     let archive = dir.join("libzorpedi.a");
     println!("cargo:rerun-if-changed={}", archive.display());
     if !archive.is_file() {
-        eprintln!("{} is not there. Run `rt staticlib zorpedi` in the repository, or set ZORPEDI_LIB_DIR to its folder.", archive.display());
+        eprintln!(
+            "{} is not there. Run `rt staticlib zorpedi` in the repository, or set ZORPEDI_LIB_DIR to its folder.",
+            archive.display()
+        );
         exit(1);
     }
     println!("cargo:rustc-link-search=native={}", dir.display());

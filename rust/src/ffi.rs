@@ -37,7 +37,7 @@ mod c {
         pub fn zorpedi_finish(
             record: *mut u64, _: usize, links: *mut u64, _: usize, pairs: *mut u64, _: usize, hops: *mut u16, _: usize,
             bounds: *mut u16, _: usize, skips: *mut u16, _: usize, even: *mut u64, _: usize, odd: *mut u64, _: usize,
-            out: *mut u8, _: usize, lines: *mut u32, held: *mut usize, written: *mut usize, line: *const u8, _: usize,
+            line: *const u8, _: usize, out: *mut u8, _: usize, lines: *mut u32, held: *mut usize, written: *mut usize,
         ) -> u8;
     }
 }
@@ -208,13 +208,13 @@ pub fn finish(m: &mut Memory, p: &mut Progress, out: &mut [u8], written: &mut us
             m.even.len(),
             m.odd.as_mut_ptr(),
             m.odd.len(),
+            p.line.as_ptr(),
+            p.line.len(),
             out.as_mut_ptr(),
             out.len(),
             &mut p.lines,
             &mut p.held,
             written,
-            p.line.as_ptr(),
-            p.line.len(),
         )
     }
 }

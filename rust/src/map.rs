@@ -216,11 +216,8 @@ impl Map {
     pub fn search(&mut self, code: u8) -> Result<Search<'_>, Refusal> {
         let mut eccentricity = 0;
         Refusal::check(ffi::search(&mut self.memory, &mut eccentricity, code))?;
-        let (last, before) = if eccentricity % 2 == 0 {
-            (&self.memory.even, &self.memory.odd)
-        } else {
-            (&self.memory.odd, &self.memory.even)
-        };
+        let (last, before) =
+            if eccentricity % 2 == 0 { (&self.memory.even, &self.memory.odd) } else { (&self.memory.odd, &self.memory.even) };
         Ok(Search { eccentricity, distances: &self.memory.hops, last, before })
     }
 

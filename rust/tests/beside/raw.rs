@@ -39,7 +39,7 @@ mod c {
         pub fn zorpedi_finish(
             record: *mut u64, _: usize, links: *mut u64, _: usize, pairs: *mut u64, _: usize, hops: *mut u16, _: usize,
             bounds: *mut u16, _: usize, skips: *mut u16, _: usize, even: *mut u64, _: usize, odd: *mut u64, _: usize,
-            out: *mut u8, _: usize, lines: *mut u32, held: *mut usize, written: *mut usize, line: *const u8, _: usize,
+            line: *const u8, _: usize, out: *mut u8, _: usize, lines: *mut u32, held: *mut usize, written: *mut usize,
         ) -> u8;
     }
 }
@@ -125,8 +125,8 @@ pub fn finish(m: &mut Lent) -> u8 {
         c::zorpedi_finish(
             m.record.pointer(), m.record.lent, m.links.pointer(), m.links.lent, m.pairs.pointer(), m.pairs.lent,
             m.hops.pointer(), m.hops.lent, m.bounds.pointer(), m.bounds.lent, m.skips.pointer(), m.skips.lent,
-            m.even.pointer(), m.even.lent, m.odd.pointer(), m.odd.lent, m.out.pointer(), m.out.lent,
-            &mut m.lines, &mut m.held, &mut m.written, m.line.pointer(), m.line.lent,
+            m.even.pointer(), m.even.lent, m.odd.pointer(), m.odd.lent, m.line.pointer(), m.line.lent,
+            m.out.pointer(), m.out.lent, &mut m.lines, &mut m.held, &mut m.written,
         )
     }
 }
