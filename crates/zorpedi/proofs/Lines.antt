@@ -7,7 +7,6 @@ use native.Mathlib.Nat.{lt-irrefl}
 use native.Mathlib.Omega.{arith}
 use Rattle.lists.specs.Lists.{overwrite}
 use lib.Dec.{ltb}
-use borrow.Author.Tests.{eq-eqb, ne-eqb}
 use lib.ListN.{length}
 use Rattle.outcome.specs.Numbers.{shortBuffer, garbledLine}
 use Rattle.notice.specs.Lines.{lineLimit, isFrame, lineOf, Line, garbled, frame, readLine}
@@ -19,15 +18,14 @@ use Rattle.notice.specs.declared.Writing.the-variants.{Line as Written, Refused
 use Rattle.notice.proofs.Tests.{frame-parts}
 use Rattle.notice.proofs.Spelling.{length-line}
 use Rattle.notice.proofs.Theorems.{read-frame}
-use Rattle.outcome.specs.declared.Change.the-variants.{Grew, Kept, Shrank}
 use Rattle.outcome.specs.declared.Outcome.{Outcome}
-use Rattle.outcome.specs.declared.Outcome.the-variants.{Accepted, Refused}
 use Rattle.report.specs.Line.{reportLine, bufferLimit, reportDone, reportRefused, writtenOf, ReportLeft, reportLeft, reportCall}
 use Rattle.report.specs.declared.Report.{Report}
 use Rattle.report.specs.declared.Written.{Written as ReportWritten}
 use Rattle.report.specs.declared.Written.the-variants.{Line as ReportLine, Refused as NoReport}
 use Rattle.report.proofs.Theorems.{line-length}
-use Rattle.zorpedi.specs.Lines.{orOld, LineOut, lineOut, outOf, readOut, writeOut, outcomeOf, reportFields, reportFrom, reportOut}
+use Rattle.foreign.specs.Outcomes.{outcomeOf}
+use Rattle.zorpedi.specs.Lines.{orOld, LineOut, lineOut, outOf, readOut, writeOut, reportFields, reportFrom, reportOut}
 
 -- a refusal has a number above 0
 old-kept : (k new old : ℕ) → (k ≡ 0 → ⊥) → orOld k new old ≡ old
@@ -92,23 +90,6 @@ module _ (f buffer : List ℕ) (l : ℕ) (r : Writing) {after : List ℕ} (left 
       refused-out k after l 0 (writer-some f buffer k after q) ∙ ap (λ (x : LineLeft). outOf x l 0) q
 
 -- ---- report lines
-
-module _ (a : ℕ) where
-  pub outcome-grew : a ≡ 71 → Accepted Grew ≡ outcomeOf a
-  unfolding outcomeOf
-  outcome-grew e = rw (eq-eqb a 71 e)
-
-  pub outcome-kept : (a ≡ 71 → ⊥) → a ≡ 75 → Accepted Kept ≡ outcomeOf a
-  unfolding outcomeOf
-  outcome-kept m e = rw (ne-eqb a 71 m, eq-eqb a 75 e)
-
-  pub outcome-shrank : (a ≡ 71 → ⊥) → (a ≡ 75 → ⊥) → a ≡ 83 → Accepted Shrank ≡ outcomeOf a
-  unfolding outcomeOf
-  outcome-shrank m n e = rw (ne-eqb a 71 m, ne-eqb a 75 n, eq-eqb a 83 e)
-
-  pub outcome-refused : (a ≡ 71 → ⊥) → (a ≡ 75 → ⊥) → (a ≡ 83 → ⊥) → Refused a ≡ outcomeOf a
-  unfolding outcomeOf
-  outcome-refused m n o = rw (ne-eqb a 71 m, ne-eqb a 75 n, ne-eqb a 83 o)
 
 line-some : (f : Report) → 0 < length (reportLine f)
 line-some f = omega (arith, line-length f)

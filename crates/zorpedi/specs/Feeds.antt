@@ -1,26 +1,14 @@
 -- THE STEP OF THE STREAM for other languages: the step of crate stream on the record in the lent words; a refused call changes nothing.
 -- Assumes nothing.
-use mathlib.Core.Bool.{cond, _||_}
 use mathlib.Core.List.{List}
 use Prim.Native.Nat.{ℕ, zero, suc}
-use lib.Dec.{ltb}
 use lib.ListN.{length}
 use Rattle.lists.specs.Lists.{overwrite}
-use Rattle.map.specs.Memory.{base}
 use Rattle.rounds.specs.Leaves.{Lent}
-use Rattle.rounds.specs.Sizes.{Sizes, sizesOf}
-use Rattle.outcome.specs.Numbers.{shortBuffer}
-use Rattle.notice.specs.Lines.{lineLimit}
-use Rattle.report.specs.Line.{bufferLimit}
-use Rattle.opening.specs.Steps.{mapRefusal}
+use Rattle.rounds.specs.Sizes.{sizesOf}
 use Rattle.stream.specs.Feeding.{Feeding, progressOf, feedCall, finishCall}
-use Rattle.zorpedi.specs.Words.{recordWords, recordOf, wordsOf}
-
--- the first refusal of a step: a buffer is below its named size (one below what it is said to hold is short too); then those of the lent map
-unfoldable pub stepRefusal : List ℕ → List ℕ → List ℕ → Sizes → ℕ → ℕ → ℕ → ℕ
-stepRefusal words links pairs sizes line out held =
-    cond (ltb (length words) recordWords || ltb line lineLimit || ltb out bufferLimit || ltb lineLimit held) shortBuffer
-    (mapRefusal base (recordOf words) links pairs sizes)
+use Rattle.foreign.specs.Words.{recordOf, wordsOf}
+use Rattle.foreign.specs.Refusal.{stepRefusal}
 
 -- the refusal, the lent numbers and the lent memory
 pub record FedOut : Type 0 where

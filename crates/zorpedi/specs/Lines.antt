@@ -1,14 +1,10 @@
 -- NOTICE LINES AND REPORT LINES for other languages: the numbers that reader and writers leave, and their buffer. Assumes nothing.
-use mathlib.Core.Bool.{cond}
 use mathlib.Core.List.{List}
 use Prim.Native.Nat.{ℕ, zero, suc}
-use lib.Dec.{eqb}
 use Rattle.notice.specs.Calls.{LineLeft, readCall, writeCall}
-use Rattle.outcome.specs.declared.Change.the-variants.{Grew, Kept, Shrank}
-use Rattle.outcome.specs.declared.Outcome.{Outcome}
-use Rattle.outcome.specs.declared.Outcome.the-variants.{Accepted, Refused}
 use Rattle.report.specs.Line.{ReportLeft, reportCall}
 use Rattle.report.specs.declared.Report.{Report}
+use Rattle.foreign.specs.Outcomes.{outcomeOf}
 
 -- a lent number after a call with this refusal: the new value, or the old one where the call is refused
 unfoldable pub orOld : ℕ → ℕ → ℕ → ℕ
@@ -34,11 +30,6 @@ unfoldable pub writeOut : List ℕ → List ℕ → ℕ → LineOut
 writeOut frame line length = outOf (writeCall frame line) length 0
 
 -- ---- report lines
-
--- the outcome that an answer's number stands for: G, K or S in ASCII for an accepted opening, any other number for a refusal.
--- `outcome-of-letter` and `outcome-of-refusal` (proofs/Theorems) say that it undoes the opening's answer
-unfoldable pub outcomeOf : ℕ → Outcome
-outcomeOf a = cond (eqb a 71) (Accepted Grew) (cond (eqb a 75) (Accepted Kept) (cond (eqb a 83) (Accepted Shrank) (Refused a)))
 
 unfoldable pub reportFields : ℕ → ℕ → ℕ → ℕ → ℕ → ℕ → Report
 reportFields number answer depots chain pairs searches =

@@ -4,8 +4,6 @@ ghost use Rattle.layers.specs.Layers.{tables};
 ghost use Rattle.rounds.specs.Leaves.{lent};
 ghost use Rattle.opening.specs.Steps.{noticeOf};
 ghost use Rattle.zorpedi.specs.Outs.{emptyOut, emptiedOut, searchOut, searchedOut, reckonOut, reckonedOut, openOut, openedOut};
-use crate::record::put_record;
-use crate::record::record_of;
 use map::Emptying;
 use outcome::Outcome;
 use reckon::Reckoning;
@@ -19,13 +17,13 @@ pub extern "C" fn zorpedi_empty(words: &mut [u64], links: &mut [u64], pairs: &mu
     if words.len() < 7 {
         return 1;
     }
-    let rec = record_of(&*words);
+    let rec = foreign::record_of(&*words);
     let got = map::empty_map(links, pairs, rec);
     let after = got.after;
     let answer = got.answer;
     match answer {
         Emptying::Done => {
-            put_record(words, after);
+            foreign::put_record(words, after);
             0
         }
         Emptying::Refused(k) => k,
@@ -48,7 +46,7 @@ pub extern "C" fn zorpedi_search(
     if words.len() < 7 {
         return 1;
     }
-    let rec = record_of(words);
+    let rec = foreign::record_of(words);
     let found = search::search_from(hops, even, odd, rec, links, code);
     match found {
         Found::Reached(e) => {
@@ -77,13 +75,13 @@ pub extern "C" fn zorpedi_reckon(
     if words.len() < 7 {
         return 1;
     }
-    let rec = record_of(&*words);
+    let rec = foreign::record_of(&*words);
     let got = reckon::reckon_all(pairs, hops, bounds, skips, even, odd, rec, links);
     let after = got.after;
     let answer = got.answer;
     match answer {
         Reckoning::Searches(n) => {
-            put_record(words, after);
+            foreign::put_record(words, after);
             *searches = n;
             0
         }
@@ -111,7 +109,7 @@ pub extern "C" fn zorpedi_open(
     if words.len() < 7 {
         return 1;
     }
-    let rec = record_of(&*words);
+    let rec = foreign::record_of(&*words);
     let got = opening::open_step(
         rec,
         links,
@@ -129,7 +127,7 @@ pub extern "C" fn zorpedi_open(
     let outcome = report.outcome;
     match outcome {
         Outcome::Accepted(_) => {
-            put_record(words, after);
+            foreign::put_record(words, after);
             *searches = report.searches;
             outcome::letter(outcome)
         }

@@ -1,45 +1,9 @@
 // The step of the stream.
 ghost use mathlib.Core.Path.{_≡_};
-ghost use lib.ListN.{length};
 ghost use Rattle.layers.specs.Layers.{tables};
 ghost use Rattle.rounds.specs.Leaves.{lent};
-ghost use Rattle.rounds.specs.Sizes.{sizes};
-ghost use Rattle.zorpedi.specs.Feeds.{stepRefusal, fedOut, feedOut, finishOut};
-use crate::record::put_record;
-use crate::record::record_of;
+ghost use Rattle.zorpedi.specs.Feeds.{fedOut, feedOut, finishOut};
 use stream::Progress;
-
-// The first refusal of a step that holds, 0 for none. It only reads.
-fn step_refusal(
-    words: &[u64],
-    links: &[u64],
-    pairs: &[u64],
-    hops: usize,
-    bounds: usize,
-    skips: usize,
-    even: usize,
-    odd: usize,
-    line: usize,
-    out: usize,
-    held: usize,
-) -> u8
-    ensures { λ r. ⌜ r ≡ stepRefusal (now (words .entry)) (now (links .entry)) (now (pairs .entry)) (sizes (length (now (links .entry))) (length (now (pairs .entry))) hops bounds skips even odd) line out held ⌝ }
-{
-    if words.len() < 7 {
-        return 1;
-    }
-    if line < 517 {
-        return 1;
-    }
-    if out < 48 {
-        return 1;
-    }
-    if 517 < held {
-        return 1;
-    }
-    let rec = record_of(words);
-    opening::map_refusal(rec, links, pairs, hops, bounds, skips, even, odd)
-}
 
 // Feeds a piece of a stream's input. 0, with the bytes of the piece used and the bytes of reports written; or 1 (short), 2 (spoilt), 3 (apart).
 // The map is checked once in a call, so large pieces are quicker.
@@ -63,7 +27,7 @@ pub extern "C" fn zorpedi_feed(
 ) -> u8
     ensures { λ r. ⌜ fedOut r (now (words .exit)) (now (lines .exit)) (now (held .exit)) (now (used .exit)) (now (written .exit)) (now (links .exit)) (lent (now (pairs .exit)) (tables (now (hops .exit)) (now (even .exit)) (now (odd .exit))) (now (bounds .exit)) (now (skips .exit))) (now (line .exit)) (now (out .exit)) ≡ feedOut (fedOut 0 (now (words .entry)) (now (lines .entry)) (now (held .entry)) (now (used .entry)) (now (written .entry)) (now (links .entry)) (lent (now (pairs .entry)) (tables (now (hops .entry)) (now (even .entry)) (now (odd .entry))) (now (bounds .entry)) (now (skips .entry))) (now (line .entry)) (now (out .entry))) (now (piece .entry)) ⌝ }
 {
-    let refusal = step_refusal(
+    let refusal = foreign::step_refusal(
         &*words,
         &*links,
         &*pairs,
@@ -79,7 +43,7 @@ pub extern "C" fn zorpedi_feed(
     if refusal != 0 {
         return refusal;
     }
-    let rec = record_of(&*words);
+    let rec = foreign::record_of(&*words);
     let progress = Progress {
         rec: rec,
         lines: *lines,
@@ -100,7 +64,7 @@ pub extern "C" fn zorpedi_feed(
     );
     let now = fed.progress;
     let after = now.rec;
-    put_record(words, after);
+    foreign::put_record(words, after);
     *lines = now.lines;
     *held = now.held;
     *used = fed.used;
@@ -127,7 +91,7 @@ pub extern "C" fn zorpedi_finish(
 ) -> u8
     ensures { λ r. ⌜ fedOut r (now (words .exit)) (now (lines .exit)) (now (held .exit)) 0 (now (written .exit)) (now (links .exit)) (lent (now (pairs .exit)) (tables (now (hops .exit)) (now (even .exit)) (now (odd .exit))) (now (bounds .exit)) (now (skips .exit))) (now (line .entry)) (now (out .exit)) ≡ finishOut (fedOut 0 (now (words .entry)) (now (lines .entry)) (now (held .entry)) 0 (now (written .entry)) (now (links .entry)) (lent (now (pairs .entry)) (tables (now (hops .entry)) (now (even .entry)) (now (odd .entry))) (now (bounds .entry)) (now (skips .entry))) (now (line .entry)) (now (out .entry))) ⌝ }
 {
-    let refusal = step_refusal(
+    let refusal = foreign::step_refusal(
         &*words,
         &*links,
         &*pairs,
@@ -143,7 +107,7 @@ pub extern "C" fn zorpedi_finish(
     if refusal != 0 {
         return refusal;
     }
-    let rec = record_of(&*words);
+    let rec = foreign::record_of(&*words);
     let progress = Progress {
         rec: rec,
         lines: *lines,
@@ -163,7 +127,7 @@ pub extern "C" fn zorpedi_finish(
     );
     let now = fed.progress;
     let after = now.rec;
-    put_record(words, after);
+    foreign::put_record(words, after);
     *lines = now.lines;
     *held = now.held;
     *written = fed.written;

@@ -1,10 +1,8 @@
 // Notice lines and report lines.
 ghost use mathlib.Core.Path.{_≡_};
-ghost use Rattle.zorpedi.specs.Lines.{lineOut, readOut, writeOut, outcomeOf, reportFields, reportOut};
+ghost use Rattle.zorpedi.specs.Lines.{lineOut, readOut, writeOut, reportFields, reportOut};
 use notice::Reading;
 use notice::Writing;
-use outcome::Change;
-use outcome::Outcome;
 use report::Report;
 use report::Written;
 
@@ -44,22 +42,6 @@ pub extern "C" fn zorpedi_write_notice(frame: &[u8], line: &mut [u8], length: &m
     }
 }
 
-// The outcome that an answer's number stands for: a letter of an accepted opening, or a refusal's number.
-fn outcome_of(answer: u8) -> Outcome
-    ensures { λ r. ⌜ r ≡ outcomeOf answer ⌝ }
-{
-    if answer == 71 {
-        return Outcome::Accepted(Change::Grew);
-    }
-    if answer == 75 {
-        return Outcome::Accepted(Change::Kept);
-    }
-    if answer == 83 {
-        return Outcome::Accepted(Change::Shrank);
-    }
-    Outcome::Refused(answer)
-}
-
 // Writes the report line of an answer into line (48 bytes). 0, and the line's length; or 1 (short).
 #[no_mangle]
 pub extern "C" fn zorpedi_report(
@@ -74,7 +56,7 @@ pub extern "C" fn zorpedi_report(
 ) -> u8
     ensures { λ r. ⌜ lineOut r (now (length .exit)) 0 (now (line .exit)) ≡ reportOut (reportFields number answer depots chain pairs searches) (now (line .entry)) (now (length .entry)) ⌝ }
 {
-    let outcome = outcome_of(answer);
+    let outcome = foreign::outcome_of(answer);
     let fields = Report {
         number: number,
         outcome: outcome,

@@ -22,7 +22,7 @@ use Rattle.map.specs.Sound.{allSet, soundLink, soundLinks, soundPair, soundFigu
 use Rattle.pairs.proofs.PairCounts.{pairs-few}
 use Rattle.rounds.specs.Sizes.{Sizes, longEnough}
 use Rattle.opening.specs.Steps.{mapRefusal}
-use Rattle.zorpedi.specs.Words.{recordOf, clampedOf}
+use Rattle.foreign.specs.Words.{recordOf, clampedOf}
 
 -- ---- tests against a number below the largest
 

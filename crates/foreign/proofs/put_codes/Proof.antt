@@ -1,8 +1,8 @@
--- `zorpedi::record::put_codes` meets its contract: four stores are one overwriting. Assumes nothing.
-use Rattle.zorpedi.proofs.Words.{write-codes}
+-- `foreign::put_codes` meets its contract: four stores are one overwriting. Assumes nothing.
+use Rattle.foreign.proofs.Words.{write-codes}
 use borrow.Author.Needs.{needs}
-use Rattle.zorpedi.proofs.record.put_codes.Statement.{statement}
-use Rattle.zorpedi.proofs.record.put_codes.Tie as tie
+use Rattle.foreign.proofs.put_codes.Statement.{statement}
+use Rattle.foreign.proofs.put_codes.Tie as tie
 
 -- src/record.rt:54:24
 shared-slice-read-put-word : tie.Need-shared-slice-read-put-word

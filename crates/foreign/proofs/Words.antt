@@ -7,7 +7,7 @@ use native.Mathlib.Omega.{arith}
 use Rattle.lists.specs.Lists.{overwrite}
 use lib.ListN.{length, getD, set, take}
 use Rattle.map.specs.declared.Record.{Record}
-use Rattle.zorpedi.specs.Words.{recordWords, wordsOf, clampedOf}
+use Rattle.foreign.specs.Words.{recordWords, wordsOf, clampedOf}
 
 -- the first four words, one by one
 first-four : (l : List ℕ) → recordWords ≤ length l → getD l 0 0 ∷ getD l 1 0 ∷ getD l 2 0 ∷ getD l 3 0 ∷ [] ≡ take 4 l

@@ -1,9 +1,9 @@
--- `zorpedi::record::put_record` meets its contract: seven stores are one overwriting. Assumes nothing.
+-- `foreign::put_record` meets its contract: seven stores are one overwriting. Assumes nothing.
 use mathlib.Core.Path.{sym}
-use Rattle.zorpedi.proofs.Words.{write-record}
+use Rattle.foreign.proofs.Words.{write-record}
 use borrow.Author.Needs.{needs}
-use Rattle.zorpedi.proofs.record.put_record.Statement.{statement}
-use Rattle.zorpedi.proofs.record.put_record.Tie as tie
+use Rattle.foreign.proofs.put_record.Statement.{statement}
+use Rattle.foreign.proofs.put_record.Tie as tie
 
 -- src/record.rt:66:22
 slice-aggregate-put-codes : tie.Need-slice-aggregate-put-codes

@@ -1,8 +1,8 @@
--- `zorpedi::streams::step_refusal` meets its contract: the tests stand in the order of the refusal, and each answer is that of the first that holds. Assumes nothing.
-use Rattle.zorpedi.proofs.Steps.{step-words, step-line, step-out, step-held, step-map}
+-- `foreign::step_refusal` meets its contract: the tests stand in the order of the refusal, and each answer is that of the first that holds. Assumes nothing.
+use Rattle.foreign.proofs.Refusals.{step-words, step-line, step-out, step-held, step-map}
 use borrow.Author.Needs.{needs}
-use Rattle.zorpedi.proofs.streams.step_refusal.Statement.{statement}
-use Rattle.zorpedi.proofs.streams.step_refusal.Tie as tie
+use Rattle.foreign.proofs.step_refusal.Statement.{statement}
+use Rattle.foreign.proofs.step_refusal.Tie as tie
 
 -- src/streams.rt:29:9
 returns : tie.Need-returns

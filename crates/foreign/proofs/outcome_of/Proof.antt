@@ -1,7 +1,7 @@
--- `zorpedi::texts::outcome_of` meets its contract: each way out is a case of the answer's number. Assumes nothing.
-use Rattle.zorpedi.proofs.Lines.{outcome-grew, outcome-kept, outcome-shrank, outcome-refused}
-use Rattle.zorpedi.proofs.texts.outcome_of.Statement.{statement}
-use Rattle.zorpedi.proofs.texts.outcome_of.Tie as tie
+-- `foreign::outcome_of` meets its contract: each way out is a case of the answer's number. Assumes nothing.
+use Rattle.foreign.proofs.Outcomes.{outcome-grew, outcome-kept, outcome-shrank, outcome-refused}
+use Rattle.foreign.proofs.outcome_of.Statement.{statement}
+use Rattle.foreign.proofs.outcome_of.Tie as tie
 
 -- src/texts.rt:52:9
 returns : tie.Need-returns

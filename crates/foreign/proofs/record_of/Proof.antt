@@ -1,8 +1,8 @@
--- `zorpedi::record::record_of` meets its contract: each figure is read at its width. Assumes nothing.
-use Rattle.zorpedi.proofs.Words.{read-record}
+-- `foreign::record_of` meets its contract: each figure is read at its width. Assumes nothing.
+use Rattle.foreign.proofs.Words.{read-record}
 use borrow.Author.Needs.{needs}
-use Rattle.zorpedi.proofs.record.record_of.Statement.{statement}
-use Rattle.zorpedi.proofs.record.record_of.Tie as tie
+use Rattle.foreign.proofs.record_of.Statement.{statement}
+use Rattle.foreign.proofs.record_of.Tie as tie
 
 -- src/record.rt:34:17
 shared-slice-read-t3 : tie.Need-shared-slice-read-t3

@@ -1,9 +1,17 @@
+// What the calls for other languages share: the record as seven lent words, the outcome of an answer's number, the refusal of a stream's step.
 ghost use mathlib.Core.Path.{_≡_};
 ghost use Prim.Native.Nat.{_≤_, _<_, min};
 ghost use lib.ListN.{length, set};
 ghost use Rattle.lists.specs.Lists.{overwrite};
-ghost use Rattle.zorpedi.specs.Words.{recordWords, wordsOf, clampedOf};
+ghost use Rattle.rounds.specs.Sizes.{sizes};
+ghost use Rattle.foreign.specs.Words.{recordWords, wordsOf, clampedOf};
+ghost use Rattle.foreign.specs.Outcomes.{outcomeOf};
+ghost use Rattle.foreign.specs.Refusal.{stepRefusal};
 use map::Record;
+use outcome::Change;
+use outcome::Outcome;
+
+// ---- the record
 
 // A word at 16 bits: a larger one becomes the largest, which no map has as its number open or its chain.
 fn at_16_bits(x: u64) -> u16
@@ -67,4 +75,56 @@ pub fn put_record(words: &mut [u64], rec: Record)
     put_word(words, 4, rec.number as u64);
     put_word(words, 5, rec.chain as u64);
     put_word(words, 6, rec.count as u64);
+}
+
+// ---- an answer's number
+
+// The outcome that an answer's number stands for: a letter of an accepted opening, or a refusal's number.
+pub fn outcome_of(answer: u8) -> Outcome
+    ensures { λ r. ⌜ r ≡ outcomeOf answer ⌝ }
+{
+    if answer == 71 {
+        return Outcome::Accepted(Change::Grew);
+    }
+    if answer == 75 {
+        return Outcome::Accepted(Change::Kept);
+    }
+    if answer == 83 {
+        return Outcome::Accepted(Change::Shrank);
+    }
+    Outcome::Refused(answer)
+}
+
+// ---- the step of a stream
+
+// The first refusal of a step that holds, 0 for none. It only reads.
+pub fn step_refusal(
+    words: &[u64],
+    links: &[u64],
+    pairs: &[u64],
+    hops: usize,
+    bounds: usize,
+    skips: usize,
+    even: usize,
+    odd: usize,
+    line: usize,
+    out: usize,
+    held: usize,
+) -> u8
+    ensures { λ r. ⌜ r ≡ stepRefusal (now (words .entry)) (now (links .entry)) (now (pairs .entry)) (sizes (length (now (links .entry))) (length (now (pairs .entry))) hops bounds skips even odd) line out held ⌝ }
+{
+    if words.len() < 7 {
+        return 1;
+    }
+    if line < 517 {
+        return 1;
+    }
+    if out < 48 {
+        return 1;
+    }
+    if 517 < held {
+        return 1;
+    }
+    let rec = record_of(words);
+    opening::map_refusal(rec, links, pairs, hops, bounds, skips, even, odd)
 }

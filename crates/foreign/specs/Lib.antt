@@ -1,0 +1,6 @@
+-- 1. the record as seven words
+pub mod Words
+-- 2. the outcome of an answer's number
+pub mod Outcomes
+-- 3. the refusal of a stream's step
+pub mod Refusal
