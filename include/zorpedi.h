@@ -6,6 +6,7 @@
  * WHAT IS PROMISED
  * Each promise below holds for every value of every argument, and is proved. It settles the answer and every element lent: what is not named
  * as written keeps its value. Each function returns, allocates nothing, keeps nothing between calls, and touches no memory but what is lent.
+ * What is said here in words is exact in the contracts of crates/zorpedi/src, whose definitions stand in the crates' specs folders.
  *
  * WHAT IS ASSUMED OF THE CALLER
  * - Every pointer is valid for its length, aligned for its type and not null, also where the length is 0.
@@ -106,10 +107,12 @@ uint8_t zorpedi_search(uint16_t *hops, size_t hops_size, uint64_t *even, size_t 
                        uint8_t code);
 
 /* Reckons longest chain and farthest pairs afresh from the links; chain, pair count and pair table may hold anything before.
- * 0: record words 5 and 6 and the pair table are those of the links; *searches is the number of depots searched. For c from 0 to 255:
- * skips[c] is the reference that skipped depot c (0 to 255), 256 if c was searched, else 257; bounds[c] is the bound at which c was skipped,
- * the eccentricity if c was searched, else 65,535. hops, even and odd are as the last search leaves them (see zorpedi_search), and unchanged
- * if no depot is open. References come in document 01's order: highest degree first, lowest code on a tie.
+ * 0: record words 5 and 6 and the pair table are those of the links; *searches is the number of depots searched, the references. The next
+ * reference is the remaining depot of highest degree, lowest code on a tie. After the search from a reference r each remaining depot v has
+ * the bound e(r) + d(r,v) if that is below the bound it has, and leaves as skipped if its bound is below the longest chain found so far. For c
+ * from 0 to 255: skips[c] is the earliest reference that gave the bound at which c was skipped (0 to 255), 256 if c was searched, else 257;
+ * bounds[c] is that bound, the eccentricity if c was searched, else 65,535. hops, even and odd are as the last search leaves them (see
+ * zorpedi_search), and unchanged if no depot is open.
  * Refused: 1 (record below 7, links or pairs below 1,024, hops, bounds or skips below 256, even or odd below 4), 2 (links only), 3. */
 uint8_t zorpedi_reckon(uint64_t *record, size_t record_size, uint64_t *pairs, size_t pairs_size, uint16_t *hops, size_t hops_size,
                        uint16_t *bounds, size_t bounds_size, uint16_t *skips, size_t skips_size, uint64_t *even, size_t even_size,
@@ -118,7 +121,8 @@ uint8_t zorpedi_reckon(uint64_t *record, size_t record_size, uint64_t *pairs, si
 /* Opens the depot `code` beside `neighbours`.
  * 71 'G', 75 'K' or 83 'S': the code joins the open set, the links to its neighbours join the link table, and chain, pair count and pair
  * table are brought up to date; the answer compares the new chain with the old. *searches is the number of depots searched: 1 for 'G' and
- * 'K', at most the number open for 'S'. skips and bounds mark the depots of this call as zorpedi_reckon says, all 256 places of both; hops,
+ * 'K', at most the number open for 'S'. The new depot is searched first; with 'S' the rounds of zorpedi_reckon follow, from the greatest
+ * distance that a stored pair still has. skips and bounds mark the depots of this call as zorpedi_reckon says, all 256 places of both; hops,
  * even and odd are as the last search leaves them. If the figures were those of the links, they are so again. If they were sound but false,
  * the same steps are taken on them.
  * Refused: 1 (sizes as for zorpedi_reckon; the neighbours have none), 2 (links or figures), 3, 5, 6, 7, 8. */

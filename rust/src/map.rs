@@ -71,7 +71,7 @@ pub enum Mark {
 }
 
 /// All memory of one map, as the archive wants it lent.
-#[derive(Clone, PartialEq, Eq)]
+#[derive(Clone)]
 pub(crate) struct Memory {
     pub record: [u64; 7],
     pub links: [u64; 1024],
@@ -90,7 +90,8 @@ const SEARCHED: u16 = 256;
 /// The mark of any other depot that was not skipped.
 const UNMARKED: u16 = 257;
 
-/// A map of depots and links, with its longest chain and its farthest pairs. It owns its memory.
+/// A map of depots and links, with its longest chain and its farthest pairs. It owns its memory. Two maps are equal if their record, link
+/// table and pair table are; the marks of the last call and the distances of the last search play no part.
 ///
 /// ```
 /// use zorpedi::{Change, Map, Refusal};
@@ -107,7 +108,7 @@ const UNMARKED: u16 = 257;
 /// assert_eq!(map.depots(), 3);
 /// # Ok::<(), Refusal>(())
 /// ```
-#[derive(Clone, PartialEq, Eq)]
+#[derive(Clone)]
 pub struct Map {
     pub(crate) memory: Box<Memory>,
 }
@@ -399,6 +400,15 @@ fn row_of(table: &[u64; 1024], code: u8) -> &[u64] {
     let first = 4 * usize::from(code);
     &table[first..first + 4]
 }
+
+impl PartialEq for Map {
+    fn eq(&self, other: &Map) -> bool {
+        let (a, b) = (&self.memory, &other.memory);
+        a.record == b.record && a.links == b.links && a.pairs == b.pairs
+    }
+}
+
+impl Eq for Map {}
 
 impl Default for Map {
     fn default() -> Map {

@@ -111,6 +111,22 @@ fn figures_that_were_lost_are_reckoned() -> Result<(), Refusal> {
     Ok(())
 }
 
+/// The same notices in another order leave an equal map.
+#[test]
+fn two_orders() -> Result<(), Refusal> {
+    let mut one = path(0..4)?;
+    let mut other = one.clone();
+    one.open(8, &[0, 3])?;
+    one.open(9, &[1])?;
+    other.open(9, &[1])?;
+    assert_ne!(one, other);
+    other.open(8, &[0, 3])?;
+    assert_eq!(one, other);
+    other.search(2)?;
+    assert_eq!(one, other);
+    Ok(())
+}
+
 #[test]
 fn what_a_map_shows() -> Result<(), Refusal> {
     let mut map = path(60..70)?;
