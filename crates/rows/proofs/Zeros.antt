@@ -8,7 +8,7 @@ use native.Mathlib.Nat.{lt-irrefl, mul-le-mul-left, mul-add}
 use native.Mathlib.Omega.{arith}
 use lib.Dec.{eqb}
 use lib.ListN.{getD}
-use lib.Bits.{bitOr, bitAnd, or-zero-l, or-add-and, and-le-l, and-le-r}
+use lib.Bits.{bitOr, or-zero-l, or-add-and, and-le-l, and-le-r}
 use borrow.Author.Tests.{eqb-true, eq-eqb}
 use Rattle.lists.specs.Lists.{range, allb}
 use Rattle.lists.proofs.Tests.{same-test, lt-or-ge}
@@ -54,15 +54,21 @@ module _ (t : List ℕ) (base n : ℕ) where
       zeros-at : allb (λ i. eqb (getD t (base + i) 0) 0) (range n) ≡ true → (i : ℕ) → i < n → getD t (base + i) 0 ≡ 0
       zeros-at h i m = eqb-true (getD t (base + i) 0) 0 (all-elim (λ i. eqb (getD t (base + i) 0) 0) (range n) h (range-in n m))
 
--- ---- k rows from row u on are all 0: no bit of them is set
+-- ---- n words from row u on are all 0, k rows and maybe more: no bit of those rows is set
 
-pub rows-zero : (W : ℕ) (t : List ℕ) (u k : ℕ) → u + k ≤ 64 * W → true ≡ allb (λ i. eqb (getD t (W * u + i) 0) 0) (range (k * W))
+pub rows-zero : (W : ℕ) (t : List ℕ) (u k n : ℕ) → u + k ≤ 64 * W → W * k ≤ n → true ≡ allb (λ i. eqb (getD t (W * u + i) 0) 0) (range n)
     → (p v : ℕ) → u ≤ p → p < u + k → v < 64 * W → tableBit W t p v ≡ false
-rows-zero W t u k n e p v l h m =
+rows-zero W t u k n f s e p v l h m =
     let a : W * p ≡ W * u + W * (p - u) = ap (λ (x : ℕ). W * x) (omega arith) ∙ mul-add W u (p - u) in
     let b : W * (p - u + 1) ≤ W * k = mul-le-mul-left W (omega arith) in
     let c : W * (p - u + 1) ≡ W * (p - u) + W * 1 = mul-add W (p - u) 1 in
     let z : getD t (W * u + (W * (p - u) + v / 64)) 0 ≡ 0 =
     eqb-true (getD t (W * u + (W * (p - u) + v / 64)) 0) 0
-    (all-elim (λ i. eqb (getD t (W * u + i) 0) 0) (range (k * W)) (sym e) (range-in (k * W) (omega arith))) in
+    (all-elim (λ i. eqb (getD t (W * u + i) 0) 0) (range n) (sym e) (range-in n (omega arith))) in
     table-in W t p v (omega arith) m ∙ ap (λ (x : ℕ). bit x (v % 64)) (ap (λ (i : ℕ). getD t i 0) (omega arith) ∙ z) ∙ bit-of-zero (v % 64)
+
+-- k rows from row u on are inside the table
+pub rows-fit : (W u k n : ℕ) → u + k ≤ 64 * W → W * (64 * W) ≤ n → W * u + W * k ≤ n
+rows-fit W u k n l h =
+    let m : W * (u + k) ≤ W * (64 * W) = mul-le-mul-left W l in
+    omega (arith, mul-add W u k)

@@ -1,7 +1,6 @@
 -- `rows::all_zero` meets its contract. The loop's invariant (Zeros.antt): the union is 0 where the words passed are. The measure is the words left.
 -- Assumes nothing.
 use Prim.Native.Nat.{_-_}
-use native.Mathlib.Omega.{arith}
 use borrow.Author.Needs.{needs}
 use Rattle.rows.proofs.Zeros.{Union, union-start, union-more, union-end}
 use Rattle.rows.proofs.all_zero.Statement.{statement}
