@@ -15,7 +15,7 @@ mul-all-zero : tie.Need-mul-all-zero
 mul-all-zero c = search needs
 
 all-zero-requires : tie.Need-all-zero-requires
-all-zero-requires c κs = let pre = c .before .before .pre in group-fits _ (c .before .before .args .pairs .now) _ (pre .2) _ (c .if1 .taken) (pre .1)
+all-zero-requires c κs = let pre = c .before .before .pre in omega (arith, group-fits _ (c .before .before .args .pairs .now) _ (pre .2) _ (c .if1 .taken) (pre .1))
 
 returns : tie.Need-returns
 returns c = bare-group _ _ _ (c .before .before .before .before .pre .2) (c .before .before .if1 .taken) (sym (c .if2 .taken) ∙ c .before .all-zero .ensures)
