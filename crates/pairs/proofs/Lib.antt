@@ -14,7 +14,7 @@ pub mod Adding
 pub mod Settling
 -- The loop of `drop_row`: the stale pairs of one row, a word at a time.
 pub mod StaleRow
--- Rows without a pair.
+-- Rows without a pair: groups of 8, one row, or none.
 pub mod BareRows
 -- The loop of `drop_stale`: the stale pairs of the table, a row at a time.
 pub mod StaleTable

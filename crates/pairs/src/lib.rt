@@ -2,7 +2,7 @@
 // What a function ensures of table and count is one equation, so that callers rewrite by it.
 ghost use mathlib.Core.Path.{_≡_};
 ghost use mathlib.Core.Bool.{_||_, _&&_};
-ghost use Prim.Native.Nat.{_+_, _*_, _<_, _≤_, min, max};
+ghost use Prim.Native.Nat.{_+_, _*_, _%_, _<_, _≤_, min, max};
 ghost use lib.Dec.{eqb, ltb};
 ghost use lib.ListN.{length, getD};
 ghost use Rattle.words.specs.Bits.{bit, wordOf};
@@ -193,19 +193,34 @@ fn drop_row(pairs: &mut [u64], hops: &[u16], words: usize, u: usize, chain: u16)
     }
 }
 
-// How many rows from u on have no pair, as far as one look tells: 8 at once where u begins a group of 8, row u alone, or none.
+// How many rows from u on have no pair, as far as whole groups of 8 tell. The first group begins at u.
+fn bare_groups(pairs: &[u64], words: usize, u: usize) -> usize
+    requires { ⌜ (words < 513) × (words * (64 * words) ≤ length (now pairs)) × (u < 64 * words) × (u % 8 ≡ 0) ⌝ }
+    ensures { λ r. ⌜ Bare words (now (pairs .entry)) u r ⌝ }
+{
+    let mut p = u;
+    while p < 64 * words {
+        if !rows::all_zero(pairs, words * p, 8 * words) {
+            return p - u;
+        }
+        p += 8;
+    }
+    p - u
+}
+
+// How many rows from u on have no pair, as far as one look tells: groups of 8 where u begins one, row u alone, or none.
 // Most rows have none, and so most are passed 8 at a time.
 fn bare_rows(pairs: &[u64], words: usize, u: usize) -> usize
     requires { ⌜ (words < 513) × (words * (64 * words) ≤ length (now pairs)) × (u < 64 * words) ⌝ }
     ensures { λ r. ⌜ Bare words (now (pairs .entry)) u r ⌝ }
 {
-    let base = words * u;
     if u % 8 == 0 {
-        if rows::all_zero(pairs, base, 8 * words) {
-            return 8;
+        let bare = bare_groups(pairs, words, u);
+        if bare != 0 {
+            return bare;
         }
     }
-    if rows::all_zero(pairs, base, words) {
+    if rows::all_zero(pairs, words * u, words) {
         return 1;
     }
     0
