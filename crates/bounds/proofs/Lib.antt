@@ -1,4 +1,4 @@
--- a reference that leaves, one code relaxed, and the loop over every code
+-- ranks, a reference that leaves, and the loop over every code
 pub mod Relaxing
--- the pick of the next reference: one more at the end, the members of a row, the loop
+-- the pick of the next reference: one more at the end, the members of a row, the loops
 pub mod Picking
