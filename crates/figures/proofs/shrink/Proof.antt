@@ -3,7 +3,7 @@
 use mathlib.Core.Path.{_∙_}
 use native.Mathlib.Omega.{arith}
 use Rattle.figures.proofs.Shrinking.{begun-counted, absorbed-counted, shrink-is}
-use Rattle.bounds.proofs.Relaxing.{thinned-ranks}
+use Rattle.bounds.proofs.Ranks.{thinned-ranks}
 use borrow.Author.Needs.{needs}
 use Rattle.figures.proofs.shrink.Statement.{statement}
 use Rattle.figures.proofs.shrink.Tie as tie
