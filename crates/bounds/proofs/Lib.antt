@@ -1,4 +1,6 @@
--- a reference that leaves, one code relaxed, and the loop over every code
+-- ranks and the row of the remaining depots
+pub mod Ranks
+-- a reference that leaves, and the loop over every code
 pub mod Relaxing
--- the pick of the next reference: one more at the end, the members of a row, the loop
+-- the pick of the next reference: one more at the end, the members of a row, the greatest rank
 pub mod Picking

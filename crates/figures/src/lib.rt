@@ -93,15 +93,15 @@ fn shrink(
     requires { ⌜ IsWhole base (now codes) (now links) (lent (now pairs) (tables (now hops) (now even) (now odd)) (now bounds) (now skips)) × IsSearched base (now codes) (now links) (lent (now pairs) (tables (now hops) (now even) (now odd)) (now bounds) (now skips)) a e × (a < 256) ⌝ }
     ensures { λ t. ⌜ ran (lent (now (pairs .exit)) (tables (now (hops .exit)) (now (even .exit)) (now (odd .exit))) (now (bounds .exit)) (now (skips .exit))) (t .candidate) (t .count) (t .searches) ≡ ranBy base (networkOf 4 (now (codes .entry)) (now (links .entry))) (rounds (chart (networkOf 4 (now (codes .entry)) (now (links .entry)))) (length (chart (networkOf 4 (now (codes .entry)) (now (links .entry))) .depots)) (round (chart (networkOf 4 (now (codes .entry)) (now (links .entry)))) a (start way))) (lent (now (pairs .entry)) (tables (now (hops .entry)) (now (even .entry)) (now (odd .entry))) (now (bounds .entry)) (now (skips .entry))) ⌝ }
 {
-    let mut waiting = [0u64; 4];
+    let mut ranks = [0u16; 256];
     let mut seen = [0u64; 4];
     let mut next = [0u64; 4];
-    rounds::begin(pairs, bounds, skips, &mut waiting, codes, 4, 257);
+    rounds::begin(pairs, bounds, skips, &mut ranks, codes, links, 4, 257);
     let first = rounds::absorb(
         pairs,
         bounds,
         skips,
-        &mut waiting,
+        &mut ranks,
         &*hops,
         &*even,
         &*odd,
@@ -126,7 +126,7 @@ fn shrink(
         pairs,
         bounds,
         skips,
-        &mut waiting,
+        &mut ranks,
         links,
         4,
         256,

@@ -11,7 +11,7 @@ use Rattle.lists.proofs.Members.{length-range, range-in, range-out}
 use Rattle.lists.proofs.Counts.{count-le-length, count-none, count-zero}
 use Rattle.lists.proofs.RangeCounts.{count-same, count-with-new}
 use Rattle.graph.specs.Chart.{Pairs, countPairs}
-use Rattle.pairs.proofs.Ranges.{sum-nothing, sum-same, sum-but, sum-few, sum-has, sum-skip}
+use Rattle.pairs.proofs.Ranges.{sum-nothing, sum-same, sum-but, sum-few, sum-has, sum-skip, count-block}
 
 module _ (n : ℕ) where
   pub pairs-same : (P Q : Pairs) → ((u v : ℕ) → u < n → v < n → P u v ≡ Q u v) → countPairs (range n) P ≡ countPairs (range n) Q
@@ -47,6 +47,19 @@ module _ (n : ℕ) where
 
       other : (u v : ℕ) → u ≢ a → Q u v ≡ P u v
       other u v ne = ap (λ (x : Bool). P u v || (x && eqb v b)) (ne-eqb u a ne) ∙ none (P u v)
+
+  -- the members of a part of row a, k numbers from m on: as many more as were not there
+  pub pairs-with-part : (P : Pairs) (Q : Pairs) (a m k : ℕ) → a < n → m + k ≤ n
+      → ((u v : ℕ) → u < n → v < n → (u ≡ a → m ≤ v → v < m + k → ⊥) → Q u v ≡ P u v)
+      → countPairs (range n) Q + countb (λ b. P a (m + b)) (range k) ≡ countPairs (range n) P + countb (λ b. Q a (m + b)) (range k)
+  unfolding countPairs
+  pairs-with-part P Q a m k l f h =
+      omega (
+        arith,
+        sum-but (λ u. countb (λ v. Q u v) (range n)) (λ u. countb (λ v. P u v) (range n)) n a l
+            (λ u b ne. count-same n (λ v. Q u v) (λ v. P u v) (λ v c. h u v b c (λ e x y. ne e))),
+        count-block n m k (λ v. Q a v) (λ v. P a v) f (λ v c o. h a v l c (λ e x y. o x y)),
+      )
 
   -- at most one for each row and column
   pub pairs-few : (P : Pairs) → countPairs (range n) P ≤ n * n

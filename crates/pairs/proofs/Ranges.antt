@@ -1,13 +1,14 @@
--- Sums, counts and greatest values of a function over 0, 1, .., n - 1: a number at a time, and one value changed. Assumes nothing.
+-- Sums, counts and greatest values of a function over 0, 1, .., n - 1: a number or a part at a time, and one value or part changed. Assumes nothing.
 use mathlib.Core.Path.{_≡_, refl, sym, ap, _∙_}
 use mathlib.Core.Logic.{_≢_, _⊎_, inl, inr}
-use mathlib.Core.Bool.{Bool, false, cond}
+use mathlib.Core.Bool.{Bool}
 use Prim.Native.Nat.{ℕ, zero, suc, _+_, _-_, _*_, _≤_, _<_, max}
 use native.Mathlib.Nat.{not-suc-le-zero, mul-suc}
 use native.Mathlib.Numerals.{add-one}
 use native.Mathlib.Omega.{arith}
 use Rattle.lists.specs.Lists.{from, range, countb, sumOf, maxOf}
 use Rattle.lists.proofs.Tests.{eq-or-ne}
+use Rattle.lists.proofs.RangeCounts.{count-same, count-split}
 
 -- ---- one number more
 
@@ -49,16 +50,6 @@ module _ (f : ℕ → ℕ) where
   pub max-nothing : maxOf f (range 0) ≡ 0
   unfolding maxOf range from
   max-nothing = refl
-
--- a count is a sum of ones
-count-is-sum : (p : ℕ → Bool) (i k : ℕ) → countb p (from i k) ≡ sumOf (λ v. cond (p v) 1 0) (from i k)
-unfolding countb sumOf from
-count-is-sum p i zero = refl
-count-is-sum p i (suc k) = ap (λ (x : ℕ). cond (p i) 1 0 + x) (count-is-sum p (suc i) k)
-
-pub count-sum : (p : ℕ → Bool) (n : ℕ) → countb p (range n) ≡ sumOf (λ v. cond (p v) 1 0) (range n)
-unfolding range
-count-sum p n = count-is-sum p 0 n
 
 -- ---- values that are 0 from one number to another add nothing
 
@@ -107,6 +98,15 @@ module _ (f g : ℕ → ℕ) where
   max-same (suc n) h =
       omega (arith, max-suc f n, max-suc g n, max-same n (λ k l. h k (omega arith)), h n (omega arith))
 
+  -- that differ at j alone, where the first has 0
+  pub max-put : (n j : ℕ) → j < n → ((k : ℕ) → k < n → k ≢ j → f k ≡ g k) → f j ≡ 0 → maxOf g (range n) ≡ max (maxOf f (range n)) (g j)
+  max-put zero j l h z = absurd (not-suc-le-zero l)
+  max-put (suc n) j l h z = go (eq-or-ne j n) (λ m. max-put n j m (λ k a ne. h k (omega arith) ne) z)
+    where
+      go : (j ≡ n) ⊎ (j ≢ n) → (j < n → maxOf g (range n) ≡ max (maxOf f (range n)) (g j)) → maxOf g (range (suc n)) ≡ max (maxOf f (range (suc n))) (g j)
+      go (inl e) ih = omega (arith, max-suc f n, max-suc g n, max-same n (λ k m. h k (omega arith) (λ q. omega arith)), ap f e, ap g e)
+      go (inr e) ih = omega (arith, max-suc f n, max-suc g n, ih (omega arith), h n (omega arith) (λ q. e (sym q)))
+
 -- a sum of values of at most b each
 pub sum-few : (f : ℕ → ℕ) (b n : ℕ) → ((k : ℕ) → k < n → f k ≤ b) → sumOf f (range n) ≤ b * n
 sum-few f b zero h = omega (arith, sum-nothing f)
@@ -121,17 +121,40 @@ sum-has f (suc n) j l = go (eq-or-ne j n) (λ m. sum-has f n j m)
     go (inl e) ih = omega (arith, sum-suc f n, ap f e)
     go (inr e) ih = omega (arith, sum-suc f n, ih (omega arith))
 
--- ---- from one number that counts to the next: none between them does
+-- ---- a part at a time
 
-pub count-end : (p : ℕ → Bool) (at n : ℕ) → at ≤ n → ((k : ℕ) → at ≤ k → k < n → p k ≡ false) → countb p (range n) ≡ countb p (range at)
-count-end p at n l h =
-    count-sum p n ∙ sum-skip (λ v. cond (p v) 1 0) at n l (λ k a b. ap (λ (x : Bool). cond {A = ℕ} x 1 0) (h k a b)) ∙ sym (count-sum p at)
-
-pub count-step : (p : ℕ → Bool) (at v : ℕ) → at ≤ v → ((k : ℕ) → at ≤ k → k < v → p k ≡ false) → countb p (range (v + 1)) ≡ countb p (range at) + cond (p v) 1 0
-count-step p at v l h = count-sum p (v + 1) ∙ sum-more (λ v. cond (p v) 1 0) v ∙ ap (λ (x : ℕ). x + cond (p v) 1 0) (sym (count-sum p v) ∙ count-end p at v l h)
-
-pub max-step : (f : ℕ → ℕ) (at v : ℕ) → at ≤ v → ((k : ℕ) → at ≤ k → k < v → f k ≡ 0) → maxOf f (range (v + 1)) ≡ max (maxOf f (range at)) (f v)
-max-step f at v l h = max-more f v ∙ ap (λ (x : ℕ). max x (f v)) (max-skip f at v l h)
-
+-- nothing at all
 pub count-nothing : (p : ℕ → Bool) → countb p (range 0) ≡ 0
-count-nothing p = count-sum p 0 ∙ sum-nothing (λ v. cond (p v) 1 0)
+unfolding countb range from
+count-nothing p = refl
+
+pub max-none : (f : ℕ → ℕ) (n : ℕ) → ((k : ℕ) → k < n → f k ≡ 0) → maxOf f (range n) ≡ 0
+max-none f n h = max-skip f 0 n (omega arith) (λ k a b. h k b) ∙ max-nothing f
+
+pub max-split : (f : ℕ → ℕ) (m n : ℕ) → maxOf f (range (m + n)) ≡ max (maxOf f (range m)) (maxOf (λ k. f (m + k)) (range n))
+max-split f m zero =
+    let e : maxOf f (range (m + 0)) ≡ maxOf f (range m) = ap (λ (n : ℕ). maxOf f (range n)) (omega arith) in
+    omega (arith, e, max-nothing (λ k. f (m + k)))
+max-split f m (suc n) =
+    let e : maxOf f (range (m + suc n)) ≡ maxOf f (range ((m + n) + 1)) = ap (λ (n : ℕ). maxOf f (range n)) (omega arith) in
+    omega (arith, e, max-more f (m + n), max-split f m n, max-suc (λ k. f (m + k)) n)
+
+-- two tests that differ in the k numbers from m on alone
+pub count-block : (n m k : ℕ) (p q : ℕ → Bool) → m + k ≤ n → ((v : ℕ) → v < n → (m ≤ v → v < m + k → ⊥) → p v ≡ q v)
+    → countb p (range n) + countb (λ b. q (m + b)) (range k) ≡ countb q (range n) + countb (λ b. p (m + b)) (range k)
+count-block n m k p q l h =
+    let d : ℕ = n - (m + k) in
+    omega (
+      arith,
+      parts p,
+      parts q,
+      count-same m p q (λ v a. h v (omega arith) (λ x y. omega arith)),
+      count-same d (λ i. p (m + (k + i))) (λ i. q (m + (k + i))) (λ i a. h (m + (k + i)) (omega arith) (λ x y. omega arith)),
+    )
+  where
+    parts : (p : ℕ → Bool)
+        → countb p (range n) ≡ countb p (range m) + (countb (λ b. p (m + b)) (range k) + countb (λ i. p (m + (k + i))) (range (n - (m + k))))
+    parts p =
+        let e : n ≡ m + (k + (n - (m + k))) = omega arith in
+        ap (λ (x : ℕ). countb p (range x)) e ∙ count-split m (k + (n - (m + k))) p
+        ∙ ap (λ (x : ℕ). countb p (range m) + x) (count-split k (n - (m + k)) (λ i. p (m + i)))

@@ -2,7 +2,7 @@
 -- Assumes nothing.
 use mathlib.Core.Path.{_≡_, refl, sym, ap, ap₂, _∙_}
 use mathlib.Core.Logic.{_≢_, _⊎_, inl, inr}
-use mathlib.Core.Bool.{Bool, cond, not, _&&_}
+use mathlib.Core.Bool.{Bool, false, cond, not, _&&_}
 use mathlib.Core.List.{List}
 use Prim.Native.Nat.{ℕ, _+_, _*_, _^_, _≤_, _<_, min, max}
 use native.Mathlib.Omega.{arith}
@@ -11,15 +11,15 @@ use lib.ListN.{length, getD}
 use borrow.Author.Tests.{eq-eqb, ne-eqb, lt-ltb, le-ltb}
 use Rattle.lists.specs.Lists.{range, countb, sumOf, maxOf, overwrite}
 use Rattle.lists.proofs.Tests.{eq-or-ne, lt-or-ge}
-use Rattle.lists.proofs.Members.{length-range}
-use Rattle.lists.proofs.Counts.{count-le-length}
+use Rattle.lists.proofs.Members.{length-range, range-out}
+use Rattle.lists.proofs.Counts.{count-le-length, count-none}
 use Rattle.lists.proofs.RangeCounts.{count-same}
 use Rattle.graph.specs.Chart.{Pairs, countPairs}
 use Rattle.rows.specs.Rows.{tableBit, encodeTable}
 use Rattle.rows.proofs.Written.{table-at}
 use Rattle.rows.proofs.Wholes.{table-whole, encode-table-ext}
-use Rattle.pairs.specs.Pairs.{Dropped, tally, tallyOf, dropped, staying, greatestWay, dropRowOf, dropOf}
-use Rattle.pairs.proofs.Ranges.{sum-nothing, sum-more, max-nothing, max-more, max-same}
+use Rattle.pairs.specs.Pairs.{Dropped, tally, tallyOf, dropped, staying, greatestWay, dropRowOf, dropOf, Bare}
+use Rattle.pairs.proofs.Ranges.{sum-nothing, sum-more, sum-skip, max-nothing, max-more, max-skip, max-none, max-same}
 use Rattle.pairs.proofs.Tallies.{table-over}
 
 module _ (W : ℕ) (hops : List ℕ) (D : ℕ) (t₀ : List ℕ) where
@@ -60,6 +60,32 @@ module _ (W : ℕ) (hops : List ℕ) (D : ℕ) (t₀ : List ℕ) where
     few = omega arith;
     way = sym (max-nothing rowWay);
   }
+
+  -- k rows more that have no pair
+  pub table-bare : {t : List ℕ} {n w u k : ℕ} → TableDropping t n w u → Bare W t u k → TableDropping t n w (u + k)
+  unfolding rowStays rowWay staying
+  table-bare {t} {n} {w} {u} {k} i r = record {
+    within = r .within;
+    table = i .table ∙ ap (λ (e : List ℕ). overwrite e t₀) (encode-table-ext W (leftAbove u) (leftAbove (u + k)) (λ p v l h. same p v h (lt-or-ge p u) (lt-or-ge p (u + k))));
+    size = i .size;
+    count = i .count ∙ sym (sum-skip rowStays u (u + k) (omega arith) (λ p a b. count-none (staying W hops D t₀ p) (range (64 * W)) (λ v m. stays p v a b (range-out (64 * W) m))));
+    few = omega (arith, i .few);
+    way = i .way ∙ sym (max-skip rowWay u (u + k) (omega arith) (λ p a b. max-none (λ v. cond (tableBit W t₀ p v) (min D (getD hops p 0 + getD hops v 0)) 0) (64 * W)
+        (λ v h. ap (λ (y : Bool). cond y (min D (getD hops p 0 + getD hops v 0)) 0) (bare p v a b h))));
+  }
+    where
+      bare : (p v : ℕ) → u ≤ p → p < u + k → v < 64 * W → tableBit W t₀ p v ≡ false
+      bare p v a b h =
+          let l : p < 64 * W = omega (arith, r .within) in
+          sym (ap (λ (s : List ℕ). tableBit W s p v) (i .table) ∙ table-at W (leftAbove u) t₀ p v l h ∙ left-yet u p v a) ∙ r .none p v a b h
+
+      stays : (p v : ℕ) → u ≤ p → p < u + k → v < 64 * W → staying W hops D t₀ p v ≡ false
+      stays p v a b h = ap (λ (y : Bool). y && not (ltb (getD hops p 0 + getD hops v 0) D)) (bare p v a b h)
+
+      same : (p v : ℕ) → v < 64 * W → (p < u) ⊎ (u ≤ p) → (p < u + k) ⊎ (u + k ≤ p) → leftAbove u p v ≡ leftAbove (u + k) p v
+      same p v h (inl a) b = left-done u p v a ∙ sym (left-done (u + k) p v (omega arith))
+      same p v h (inr a) (inl b) = left-yet u p v a ∙ bare p v a b h ∙ sym (left-done (u + k) p v b ∙ stays p v a b h)
+      same p v h (inr a) (inr b) = left-yet u p v a ∙ sym (left-yet (u + k) p v b)
 
   -- one row more
   module _ {t : List ℕ} {n w u : ℕ} (i : TableDropping t n w u) (below : u < 64 * W) where

@@ -1,12 +1,13 @@
 -- A PAIR TABLE AND THE NUMBER OF ITS PAIRS, over lists of words, for any number of words per row: what the code's steps do to them.
 -- Assumes nothing.
 use mathlib.Core.Path.{_≡_}
-use mathlib.Core.Bool.{cond, not, _&&_, _||_}
+use mathlib.Core.Bool.{Bool, false, cond, not, _&&_, _||_}
 use mathlib.Core.List.{List}
-use Prim.Native.Nat.{ℕ, _+_, _*_, _≤_, _<_, min}
+use Prim.Native.Nat.{ℕ, _+_, _*_, _/_, _%_, _≤_, _<_, min}
 use lib.Dec.{eqb, ltb}
 use lib.ListN.{length, getD}
 use Rattle.lists.specs.Lists.{range, countb, maxOf, overwrite}
+use Rattle.words.specs.Bits.{bit}
 use Rattle.graph.specs.Chart.{Pairs, countPairs}
 use Rattle.rows.specs.Rows.{rowBit, tableBit, encodeTable}
 
@@ -21,6 +22,10 @@ tally t n = record { pairs = t; count = n }
 -- the pairs of r with each member of the row `last`, as u < v
 unfoldable pub pairsWith : ℕ → List ℕ → ℕ → Pairs
 pairsWith W last r u v = ltb u v && ((eqb u r && rowBit W last v) || (eqb v r && rowBit W last u))
+
+-- v is a member of x, which is word j of a row
+unfoldable pub inWord : ℕ → ℕ → ℕ → Bool
+inWord j x v = eqb (v / 64) j && bit x (v % 64)
 
 -- the table with the pairs P, and their number
 unfoldable pub tallyOf : ℕ → Pairs → List ℕ → Tally
@@ -61,6 +66,18 @@ dropRowOf W hops D u t =
     dropped
     (tally (overwrite (encodeTable W (λ p v. cond (eqb p u) (staying W hops D t p v) (tableBit W t p v))) t) (countb (staying W hops D t u) (range (64 * W))))
     (maxOf (λ v. cond (tableBit W t u v) (min D (getD hops u 0 + getD hops v 0)) 0) (range (64 * W)))
+
+-- one word of that row, whose bit b stands for the pair of u and first + b: its members that stay, and the greatest way of its members
+unfoldable pub stayingBit : List ℕ → ℕ → ℕ → ℕ → ℕ → ℕ → Bool
+stayingBit hops D u first x b = bit x b && not (ltb (getD hops u 0 + getD hops (first + b) 0) D)
+
+unfoldable pub greatestBit : List ℕ → ℕ → ℕ → ℕ → ℕ → ℕ
+greatestBit hops D u first x = maxOf (λ b. cond (bit x b) (min D (getD hops u 0 + getD hops (first + b) 0)) 0) (range 64)
+
+-- k rows from u on have no pair
+pub record Bare (W : ℕ) (pairs : List ℕ) (u k : ℕ) : Type 0 where
+  pub within : u + k ≤ 64 * W
+  pub none : (p v : ℕ) → u ≤ p → p < u + k → v < 64 * W → tableBit W pairs p v ≡ false
 
 -- ---- what the functions ask
 

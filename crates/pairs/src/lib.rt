@@ -2,12 +2,12 @@
 // What a function ensures of table and count is one equation, so that callers rewrite by it.
 ghost use mathlib.Core.Path.{_≡_};
 ghost use mathlib.Core.Bool.{_||_, _&&_};
-ghost use Prim.Native.Nat.{_+_, _*_, _<_, _≤_, min, max};
-ghost use lib.Dec.{eqb};
+ghost use Prim.Native.Nat.{_+_, _*_, _%_, _<_, _≤_, min, max};
+ghost use lib.Dec.{eqb, ltb};
 ghost use lib.ListN.{length, getD};
+ghost use Rattle.words.specs.Bits.{bit, wordOf};
 ghost use Rattle.rows.specs.Rows.{tableBit};
-ghost use Rattle.pairs.specs.Pairs.{tally, tallyOf, pairsWith, settleOf, dropped, dropRowOf, dropOf, Counted, Reckoned};
-use rows::Next;
+ghost use Rattle.pairs.specs.Pairs.{tally, tallyOf, pairsWith, inWord, settleOf, dropped, stayingBit, greatestBit, dropRowOf, dropOf, Counted, Reckoned, Bare};
 
 // Puts the pair low < high into the table, and answers how many pairs it then has.
 fn put_pair(pairs: &mut [u64], words: usize, low: usize, high: usize, count: u32) -> u32
@@ -21,30 +21,64 @@ fn put_pair(pairs: &mut [u64], words: usize, low: usize, high: usize, count: u32
     count + 1
 }
 
+// The members below high of x, which is word j of a row. The bound on j keeps their numbers in a usize.
+fn lower_part(x: u64, j: usize, high: usize) -> u64
+    requires { ⌜ j < 512 ⌝ }
+    ensures { λ r. ⌜ r ≡ wordOf 64 (λ b. bit x b && ltb (64 * j + b) high) ⌝ }
+{
+    let first = 64 * j;
+    if high <= first {
+        return 0;
+    }
+    if first + 64 <= high {
+        return x;
+    }
+    words::below(x, high - first)
+}
+
+// Puts the pairs of low with the members of x, which is word j of a row, and answers how many pairs the table then has.
+fn put_upper(pairs: &mut [u64], words: usize, low: usize, j: usize, x: u64, count: u32) -> u32
+    requires { ⌜ Counted words (now pairs) count × (low < 64 * words) × (j < words) ⌝ }
+    ensures { λ r. ⌜ tally (now (pairs .exit)) r ≡ tallyOf words (λ u v. tableBit words (now (pairs .entry)) u v || (eqb u low && inWord j x v)) (now (pairs .entry)) ⌝ }
+{
+    let i = words * low + j;
+    let old = pairs[i];
+    pairs[i] = old | x;
+    count + words::count(x & !old)
+}
+
+// Puts the pairs of the members of x, which is word j of a row, with high, and answers how many pairs the table then has.
+fn put_lower(pairs: &mut [u64], words: usize, j: usize, x: u64, high: usize, count: u32) -> u32
+    requires { ⌜ Counted words (now pairs) count × (high < 64 * words) × (j < words) ⌝ }
+    ensures { λ r. ⌜ tally (now (pairs .exit)) r ≡ tallyOf words (λ u v. tableBit words (now (pairs .entry)) u v || (eqb v high && inWord j x u)) (now (pairs .entry)) ⌝ }
+{
+    let mut sum = count;
+    let mut left = x;
+    while left != 0 {
+        let low = 64 * j + words::least(left);
+        sum = put_pair(pairs, words, low, high, sum);
+        left = words::drop_least(left);
+    }
+    sum
+}
+
 // Adds the pairs of r with each member of the row last, and answers how many pairs the table then has.
+// Those above r stand in row r itself, and go in a word at a time; those below r each have a row of their own.
 pub fn add_pairs(pairs: &mut [u64], last: &[u64], words: usize, r: usize, count: u32) -> u32
     requires { ⌜ Counted words (now pairs) count × (words ≤ length (now last)) × (r < 64 * words) ⌝ }
     ensures { λ n. ⌜ tally (now (pairs .exit)) n ≡ tallyOf words (λ u v. tableBit words (now (pairs .entry)) u v || pairsWith words (now (last .entry)) r u v) (now (pairs .entry)) ⌝ }
 {
     let mut sum = count;
-    let mut from = 0;
-    loop {
-        let found = rows::next_member(last, words, from);
-        let Next::At(v) = found else {
-            return sum;
-        };
-        if r < v {
-            sum = put_pair(pairs, words, r, v, sum);
-            from = v + 1;
-        } else {
-            if v < r {
-                sum = put_pair(pairs, words, v, r, sum);
-                from = v + 1;
-            } else {
-                from = v + 1;
-            }
-        }
+    let mut j = 0;
+    while j < words {
+        let x = last[j];
+        let up_to = lower_part(x, j, r + 1);
+        let below = lower_part(x, j, r);
+        sum = put_upper(pairs, words, r, j, x & !up_to, sum);
+        sum = put_lower(pairs, words, j, below, r, sum);
+        j += 1;
     }
+    sum
 }
 
 // The pairs after a search from r with eccentricity e: r's own alone if e is above the candidate c, r's own added if e is c and not 0.
@@ -105,45 +139,91 @@ fn way_by(hops: &[u16], u: usize, v: usize, chain: u16) -> u16
     chain
 }
 
-// Drops the stale pairs of row u, member by member: those whose way is below chain.
-fn drop_members(pairs: &mut [u64], hops: &[u16], words: usize, u: usize, chain: u16) -> Dropping
+// The members of a word that stay, and the greatest way of those that were there.
+pub struct Sifted {
+    pub word: u64,
+    pub way: u16,
+}
+
+// Takes the stale members out of x, whose bit b stands for the pair of u and first + b: those whose way is below chain.
+fn sift(x: u64, hops: &[u16], u: usize, first: usize, chain: u16) -> Sifted
+    requires { ⌜ (u < length (now hops)) × (first + 64 ≤ length (now hops)) ⌝ }
+    ensures { λ r. ⌜ (r .word ≡ wordOf 64 (stayingBit (now (hops .entry)) chain u first x)) × (r .way ≡ greatestBit (now (hops .entry)) chain u first x) ⌝ }
+{
+    let mut word = x;
+    let mut way: u16 = 0;
+    let mut left = x;
+    while left != 0 {
+        let b = words::least(left);
+        let d = way_by(hops, u, first + b, chain);
+        way = longer(way, d);
+        if d < chain {
+            word = words::without_bit(word, b);
+            left = words::drop_least(left);
+        } else {
+            left = words::drop_least(left);
+        }
+    }
+    Sifted {
+        word: word,
+        way: way,
+    }
+}
+
+// Drops the stale pairs of row u, a word at a time.
+fn drop_row(pairs: &mut [u64], hops: &[u16], words: usize, u: usize, chain: u16) -> Dropping
     requires { ⌜ Reckoned words (now pairs) (now hops) × (u < 64 * words) ⌝ }
     ensures { λ r. ⌜ dropped (tally (now (pairs .exit)) (r .count)) (r .way) ≡ dropRowOf words (now (hops .entry)) chain u (now (pairs .entry)) ⌝ }
 {
     let base = words * u;
     let mut count: u32 = 0;
     let mut way: u16 = 0;
-    let mut from = 0;
-    loop {
-        let found = rows::next_member(&pairs[base..], words, from);
-        let Next::At(v) = found else {
-            return Dropping {
-                count: count,
-                way: way,
-            };
-        };
-        let d = way_by(hops, u, v, chain);
-        way = longer(way, d);
-        if d < chain {
-            rows::row_clear(pairs, words, u, v);
-            from = v + 1;
-        } else {
-            count += 1;
-            from = v + 1;
-        }
+    let mut j = 0;
+    while j < words {
+        let i = base + j;
+        let left = sift(pairs[i], hops, u, 64 * j, chain);
+        pairs[i] = left.word;
+        count += words::count(left.word);
+        way = longer(way, left.way);
+        j += 1;
+    }
+    Dropping {
+        count: count,
+        way: way,
     }
 }
 
-// Drops the stale pairs of row u. Most rows have none at all, and these are left at the first look.
-fn drop_row(pairs: &mut [u64], hops: &[u16], words: usize, u: usize, chain: u16) -> Dropping
-    requires { ⌜ Reckoned words (now pairs) (now hops) × (u < 64 * words) ⌝ }
-    ensures { λ r. ⌜ dropped (tally (now (pairs .exit)) (r .count)) (r .way) ≡ dropRowOf words (now (hops .entry)) chain u (now (pairs .entry)) ⌝ }
+// How many rows from u on have no pair, as far as whole groups of 8 tell. The first group begins at u.
+fn bare_groups(pairs: &[u64], words: usize, u: usize) -> usize
+    requires { ⌜ (words < 513) × (words * (64 * words) ≤ length (now pairs)) × (u < 64 * words) × (u % 8 ≡ 0) ⌝ }
+    ensures { λ r. ⌜ Bare words (now (pairs .entry)) u r ⌝ }
 {
-    let base = words * u;
-    if rows::is_empty(&pairs[base..], words) {
-        return Dropping { count: 0, way: 0 };
+    let mut p = u;
+    while p < 64 * words {
+        if !rows::all_zero(pairs, words * p, 8 * words) {
+            return p - u;
+        }
+        p += 8;
     }
-    drop_members(pairs, hops, words, u, chain)
+    p - u
+}
+
+// How many rows from u on have no pair, as far as one look tells: groups of 8 where u begins one, row u alone, or none.
+// Most rows have none, and so most are passed 8 at a time.
+fn bare_rows(pairs: &[u64], words: usize, u: usize) -> usize
+    requires { ⌜ (words < 513) × (words * (64 * words) ≤ length (now pairs)) × (u < 64 * words) ⌝ }
+    ensures { λ r. ⌜ Bare words (now (pairs .entry)) u r ⌝ }
+{
+    if u % 8 == 0 {
+        let bare = bare_groups(pairs, words, u);
+        if bare != 0 {
+            return bare;
+        }
+    }
+    if rows::all_zero(pairs, words * u, words) {
+        return 1;
+    }
+    0
 }
 
 // Drops the stale pairs of the table, row by row in the table itself, and answers what is left of them and the greatest way that was there.
@@ -155,10 +235,15 @@ pub fn drop_stale(pairs: &mut [u64], hops: &[u16], words: usize, chain: u16) -> 
     let mut way: u16 = 0;
     let mut u = 0;
     while u < 64 * words {
-        let row = drop_row(pairs, hops, words, u, chain);
-        count += row.count;
-        way = longer(way, row.way);
-        u += 1;
+        let bare = bare_rows(&*pairs, words, u);
+        if bare != 0 {
+            u += bare;
+        } else {
+            let row = drop_row(pairs, hops, words, u, chain);
+            count += row.count;
+            way = longer(way, row.way);
+            u += 1;
+        }
     }
     Dropping {
         count: count,

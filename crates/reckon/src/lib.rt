@@ -97,10 +97,10 @@ fn reckon_map(
     requires { ⌜ (1024 ≤ length (now links)) × (1024 ≤ length (now pairs)) × (256 ≤ length (now hops)) × (256 ≤ length (now bounds)) × (256 ≤ length (now skips)) × (4 ≤ length (now even)) × (4 ≤ length (now odd)) × (4 ≤ length (now codes)) × IsNet (networkOf 4 (now codes) (now links)) ⌝ }
     ensures { λ t. ⌜ ran (lent (now (pairs .exit)) (tables (now (hops .exit)) (now (even .exit)) (now (odd .exit))) (now (bounds .exit)) (now (skips .exit))) (t .candidate) (t .count) (t .searches) ≡ ranBy base (networkOf 4 (now (codes .entry)) (now (links .entry))) (reckon (chart (networkOf 4 (now (codes .entry)) (now (links .entry))))) (lent (now (pairs .entry)) (tables (now (hops .entry)) (now (even .entry)) (now (odd .entry))) (now (bounds .entry)) (now (skips .entry))) ⌝ }
 {
-    let mut waiting = [0u64; 4];
+    let mut ranks = [0u16; 256];
     let mut seen = [0u64; 4];
     let mut next = [0u64; 4];
-    rounds::begin(pairs, bounds, skips, &mut waiting, codes, 4, 257);
+    rounds::begin(pairs, bounds, skips, &mut ranks, codes, links, 4, 257);
     let none = Tally {
         candidate: 0,
         count: 0,
@@ -115,7 +115,7 @@ fn reckon_map(
         pairs,
         bounds,
         skips,
-        &mut waiting,
+        &mut ranks,
         links,
         4,
         256,

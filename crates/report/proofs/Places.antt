@@ -5,13 +5,38 @@ use Prim.Native.Nat.{ℕ, _+_, _≤_, _<_}
 use native.Mathlib.Nat.{zero-add}
 use native.Mathlib.Numerals.{add-one}
 use native.Mathlib.Omega.{arith}
-use lib.ListN.{length, set, take, drop, length-append, length-take, length-drop}
-use lib.Seq.{length-take-le, set-split, take-at, drop-append-add, drop-drop}
+use lib.ListN.{length, set, take, drop, length-append, length-take, length-drop, take-append-drop}
+use lib.Seq.{length-take-le, set-append-left, set-split, take-at, take-set-lt, take-suc-set, drop-append-add, drop-drop}
 use Rattle.lists.specs.Lists.{overwrite}
 use Rattle.report.specs.Placed.{Placed}
 
 pub placed-byte : (at : ℕ) (old : List ℕ) (x : ℕ) → at < length old → Placed (x ∷ []) at old (at + 1) (set old at x)
 placed-byte at old x h = record { behind = refl; is = set-split old at x h ∙ ap (λ (n : ℕ). take at old ++ (x ∷ drop n old)) (sym (add-one at)) }
+
+-- nothing at all
+pub placed-none : (at : ℕ) (old : List ℕ) → Placed [] at old at old
+placed-none at old =
+    let n : at ≡ at + 0 = omega arith in
+    record { behind = n; is = sym (take-append-drop at old) ∙ ap (λ (k : ℕ). take at old ++ drop k old) n }
+
+-- a byte before a text
+pub placed-before : {text old mid : List ℕ} {at end : ℕ} (x : ℕ) → Placed text (at + 1) old end mid → at < length old → Placed (x ∷ text) at old end (set mid at x)
+placed-before {text} {old} {mid} {at} x w h =
+    let front = take (at + 1) old in
+    let rest = text ++ drop (at + 1 + length text) old in
+    let n : length front ≡ at + 1 = length-take-le (at + 1) old (omega arith) in
+    let m : at + 1 + length text ≡ at + length (x ∷ text) = omega arith in
+    let f : set front at x ≡ take at old ++ (x ∷ []) =
+    sym (take-set-lt (at + 1) old at x (omega arith)) ∙ ap (λ (k : ℕ). take k (set old at x)) (add-one at) ∙ take-suc-set old at x h in
+    record {
+      behind = omega (arith, w .behind);
+      is =
+          ap (λ (r : List ℕ). set r at x) (w .is)
+          ∙ set-append-left front rest at x (omega (arith, n))
+          ∙ ap (λ (r : List ℕ). r ++ rest) f
+          ∙ append-assoc (take at old) (x ∷ []) rest
+          ∙ ap (λ (k : ℕ). take at old ++ (x ∷ text ++ drop k old)) m;
+    }
 
 -- the size of the buffer stays
 pub placed-size : {text old new : List ℕ} {at end : ℕ} → Placed text at old end new → at + length text ≤ length old → length new ≡ length old

@@ -92,16 +92,53 @@ fn put_field(line: &mut [u8], at: usize, n: u32) -> usize
     put_number(line, at + 1, n)
 }
 
-// Puts a number at a place of the line, the digits of a tenth of it first.
+// How many digits a number has.
+fn digits(n: u32) -> usize
+    ensures { λ r. ⌜ r ≡ length (decimal n) ⌝ }
+{
+    if n < 10 {
+        return 1;
+    }
+    if n < 100 {
+        return 2;
+    }
+    if n < 1000 {
+        return 3;
+    }
+    if n < 10000 {
+        return 4;
+    }
+    if n < 100000 {
+        return 5;
+    }
+    if n < 1000000 {
+        return 6;
+    }
+    if n < 10000000 {
+        return 7;
+    }
+    if n < 100000000 {
+        return 8;
+    }
+    if n < 1000000000 {
+        return 9;
+    }
+    10
+}
+
+// Puts a number at a place of the line, from its last digit to its first.
 fn put_number(line: &mut [u8], at: usize, n: u32) -> usize
     requires { ⌜ at + length (decimal n) ≤ length (now line) ⌝ }
     ensures { λ r. ⌜ Placed (decimal n) at (now (line .entry)) r (now (line .exit)) ⌝ }
 {
-    if n < 10 {
-        line[at] = 48 + n as u8;
-        return at + 1;
+    let end = at + digits(n);
+    let mut i = end - 1;
+    let mut m = n;
+    while 10 <= m {
+        line[i] = 48 + (m % 10) as u8;
+        m /= 10;
+        i -= 1;
     }
-    let end = put_number(line, at, n / 10);
-    line[end] = 48 + (n % 10) as u8;
-    end + 1
+    line[i] = 48 + m as u8;
+    end
 }

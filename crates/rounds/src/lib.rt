@@ -6,7 +6,7 @@ ghost use lib.Dec.{ltb};
 ghost use lib.ListN.{length};
 ghost use Rattle.layers.specs.Layers.{tables};
 ghost use Rattle.pairs.specs.Pairs.{tally, settleOf, Counted};
-ghost use Rattle.bounds.specs.Bounds.{marks, Fits};
+ghost use Rattle.bounds.specs.Bounds.{marks, waitingOf, AreRanks, AreThinned, Fits};
 ghost use Rattle.rounds.specs.Workspace.{lastRow, absorbed, absorbing, workspace, roundOf, runOf, begun, beginOf, Room};
 use rows::Next;
 
@@ -54,7 +54,7 @@ pub fn absorb(
     pairs: &mut [u64],
     bounds: &mut [u16],
     skips: &mut [u16],
-    waiting: &mut [u64],
+    ranks: &mut [u16],
     hops: &[u16],
     even: &[u64],
     odd: &[u64],
@@ -65,13 +65,13 @@ pub fn absorb(
     candidate: u16,
     count: u32,
 ) -> Tally
-    requires { ⌜ Counted words (now pairs) count × Fits words (now bounds) (now skips) (now waiting) × (64 * words ≤ length (now hops)) × (words ≤ length (now even)) × (words ≤ length (now odd)) × (r < 64 * words) ⌝ }
-    ensures { λ t. ⌜ absorbed (tally (now (pairs .exit)) (t .count)) (marks (now (bounds .exit)) (now (skips .exit)) (now (waiting .exit))) (t .candidate) ≡ absorbing words mark r e (tables (now (hops .entry)) (now (even .entry)) (now (odd .entry))) (absorbed (tally (now (pairs .entry)) count) (marks (now (bounds .entry)) (now (skips .entry)) (now (waiting .entry))) candidate) ⌝ }
+    requires { ⌜ Counted words (now pairs) count × Fits words (now bounds) (now skips) (now ranks) × (64 * words ≤ length (now hops)) × (words ≤ length (now even)) × (words ≤ length (now odd)) × (r < 64 * words) ⌝ }
+    ensures { λ t. ⌜ (absorbed (tally (now (pairs .exit)) (t .count)) (marks (now (bounds .exit)) (now (skips .exit)) (waitingOf words (now (ranks .exit)))) (t .candidate) ≡ absorbing words mark r e (tables (now (hops .entry)) (now (even .entry)) (now (odd .entry))) (absorbed (tally (now (pairs .entry)) count) (marks (now (bounds .entry)) (now (skips .entry)) (waitingOf words (now (ranks .entry)))) candidate)) × AreThinned words (now (ranks .entry)) (now (ranks .exit)) ⌝ }
 {
     let sum = settle_by(pairs, even, odd, words, r, e, candidate, count);
     let c = raise(candidate, e);
-    bounds::leave(bounds, skips, waiting, words, r, e, mark);
-    bounds::relax(bounds, skips, waiting, hops, words, r as u16, e, c);
+    bounds::leave(bounds, skips, ranks, words, r, e, mark);
+    bounds::relax(bounds, skips, ranks, hops, words, r as u16, e, c);
     Tally {
         candidate: c,
         count: sum,
@@ -89,22 +89,22 @@ fn round(
     pairs: &mut [u64],
     bounds: &mut [u16],
     skips: &mut [u16],
-    waiting: &mut [u64],
+    ranks: &mut [u16],
     links: &[u64],
     words: usize,
     mark: u16,
     r: usize,
     before: Tally,
 ) -> Tally
-    requires { ⌜ Room words (now links) (now hops) (now even) (now odd) (now seen) (now next) × Counted words (now pairs) (before .count) × Fits words (now bounds) (now skips) (now waiting) × (r < 64 * words) × (before .searches < 65535) ⌝ }
-    ensures { λ t. ⌜ workspace (tables (now (hops .exit)) (now (even .exit)) (now (odd .exit))) (tally (now (pairs .exit)) (t .count)) (marks (now (bounds .exit)) (now (skips .exit)) (now (waiting .exit))) (t .candidate) (t .searches) ≡ roundOf words (now (links .entry)) mark r (workspace (tables (now (hops .entry)) (now (even .entry)) (now (odd .entry))) (tally (now (pairs .entry)) (before .count)) (marks (now (bounds .entry)) (now (skips .entry)) (now (waiting .entry))) (before .candidate) (before .searches)) ⌝ }
+    requires { ⌜ Room words (now links) (now hops) (now even) (now odd) (now seen) (now next) × Counted words (now pairs) (before .count) × Fits words (now bounds) (now skips) (now ranks) × (r < 64 * words) × (before .searches < 65535) ⌝ }
+    ensures { λ t. ⌜ (workspace (tables (now (hops .exit)) (now (even .exit)) (now (odd .exit))) (tally (now (pairs .exit)) (t .count)) (marks (now (bounds .exit)) (now (skips .exit)) (waitingOf words (now (ranks .exit)))) (t .candidate) (t .searches) ≡ roundOf words (now (links .entry)) mark r (workspace (tables (now (hops .entry)) (now (even .entry)) (now (odd .entry))) (tally (now (pairs .entry)) (before .count)) (marks (now (bounds .entry)) (now (skips .entry)) (waitingOf words (now (ranks .entry)))) (before .candidate) (before .searches))) × AreThinned words (now (ranks .entry)) (now (ranks .exit)) ⌝ }
 {
     let e = layers::search_table(hops, even, odd, seen, next, links, words, r);
     let got = absorb(
         pairs,
         bounds,
         skips,
-        waiting,
+        ranks,
         &*hops,
         &*even,
         &*odd,
@@ -124,7 +124,7 @@ fn round(
 
 // ---- rounds until none remains
 
-// Rounds until no depot remains. What stands in waiting, seen and next afterwards is free where the caller does not look.
+// Rounds until no depot remains. What stands in ranks, seen and next afterwards is free where the caller does not look.
 pub fn run_rounds(
     hops: &mut [u16],
     even: &mut [u64],
@@ -134,18 +134,18 @@ pub fn run_rounds(
     pairs: &mut [u64],
     bounds: &mut [u16],
     skips: &mut [u16],
-    waiting: &mut [u64],
+    ranks: &mut [u16],
     links: &[u64],
     words: usize,
     mark: u16,
     before: Tally,
 ) -> Tally
-    requires { ⌜ Room words (now links) (now hops) (now even) (now odd) (now seen) (now next) × Counted words (now pairs) (before .count) × Fits words (now bounds) (now skips) (now waiting) × (before .searches < 2) ⌝ }
-    ensures { λ t. ⌜ workspace (tables (now (hops .exit)) (now (even .exit)) (now (odd .exit))) (tally (now (pairs .exit)) (t .count)) (marks (now (bounds .exit)) (now (skips .exit)) (now (waiting .exit))) (t .candidate) (t .searches) ≡ runOf words (now (links .entry)) mark (64 * words) (workspace (tables (now (hops .entry)) (now (even .entry)) (now (odd .entry))) (tally (now (pairs .entry)) (before .count)) (marks (now (bounds .entry)) (now (skips .entry)) (now (waiting .entry))) (before .candidate) (before .searches)) ⌝ }
+    requires { ⌜ Room words (now links) (now hops) (now even) (now odd) (now seen) (now next) × Counted words (now pairs) (before .count) × Fits words (now bounds) (now skips) (now ranks) × AreRanks words (now links) (now ranks) × (before .searches < 2) ⌝ }
+    ensures { λ t. ⌜ workspace (tables (now (hops .exit)) (now (even .exit)) (now (odd .exit))) (tally (now (pairs .exit)) (t .count)) (marks (now (bounds .exit)) (now (skips .exit)) (waitingOf words (now (ranks .exit)))) (t .candidate) (t .searches) ≡ runOf words (now (links .entry)) mark (64 * words) (workspace (tables (now (hops .entry)) (now (even .entry)) (now (odd .entry))) (tally (now (pairs .entry)) (before .count)) (marks (now (bounds .entry)) (now (skips .entry)) (waitingOf words (now (ranks .entry)))) (before .candidate) (before .searches)) ⌝ }
 {
     let mut now = before;
     loop {
-        let found = bounds::pick_next(&*waiting, links, words);
+        let found = bounds::pick_next(&*ranks, words);
         let Next::At(r) = found else {
             return now;
         };
@@ -158,7 +158,7 @@ pub fn run_rounds(
             pairs,
             bounds,
             skips,
-            waiting,
+            ranks,
             links,
             words,
             mark,
@@ -174,16 +174,17 @@ pub fn begin(
     pairs: &mut [u64],
     bounds: &mut [u16],
     skips: &mut [u16],
-    waiting: &mut [u64],
+    ranks: &mut [u16],
     codes: &[u64],
+    links: &[u64],
     words: usize,
     other: u16,
 )
-    requires { ⌜ Fits words (now bounds) (now skips) (now waiting) × (words * (64 * words) ≤ length (now pairs)) × (words ≤ length (now codes)) ⌝ }
-    ensures { λ x. ⌜ begun (now (pairs .exit)) (marks (now (bounds .exit)) (now (skips .exit)) (now (waiting .exit))) ≡ beginOf words other (now (codes .entry)) (begun (now (pairs .entry)) (marks (now (bounds .entry)) (now (skips .entry)) (now (waiting .entry)))) ⌝ }
+    requires { ⌜ Fits words (now bounds) (now skips) (now ranks) × (words * (64 * words) ≤ length (now pairs)) × (words ≤ length (now codes)) × (words * (64 * words) ≤ length (now links)) ⌝ }
+    ensures { λ x. ⌜ (begun (now (pairs .exit)) (marks (now (bounds .exit)) (now (skips .exit)) (waitingOf words (now (ranks .exit)))) ≡ beginOf words other (now (codes .entry)) (begun (now (pairs .entry)) (marks (now (bounds .entry)) (now (skips .entry)) (waitingOf words (now (ranks .entry)))))) × AreRanks words (now (links .entry)) (now (ranks .exit)) ⌝ }
 {
     rows::clear(pairs, words * (64 * words));
     layers::fill(bounds, 64 * words, 65535);
     layers::fill(skips, 64 * words, other);
-    rows::copy(waiting, codes, words);
+    bounds::rank_all(ranks, codes, links, words);
 }

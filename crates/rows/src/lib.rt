@@ -3,8 +3,9 @@
 ghost use mathlib.Core.Path.{_≡_};
 ghost use mathlib.Core.Bool.{true, false, not, _&&_, _||_};
 ghost use Prim.Native.Nat.{_+_, _*_, _^_, _<_, _≤_};
-ghost use lib.ListN.{length};
-ghost use Rattle.lists.specs.Lists.{range, countb, anyb, overwrite};
+ghost use lib.Dec.{eqb};
+ghost use lib.ListN.{length, getD};
+ghost use Rattle.lists.specs.Lists.{range, countb, anyb, allb, overwrite};
 ghost use Rattle.rows.specs.Rows.{rowBit, tableBit, encodeRow, putBit, InTable};
 ghost use Rattle.rows.specs.Next.{NextIs};
 
@@ -149,4 +150,20 @@ pub fn remove_row(row: &mut [u64], other: &[u64], words: usize)
         row[j] = row[j] & !other[j];
         j += 1;
     }
+}
+
+// ---- words of a table
+
+// Whether n words from base on are all 0: one union and one test, without a branch at each word.
+pub fn all_zero(t: &[u64], base: usize, n: usize) -> bool
+    requires { ⌜ base + n ≤ length (now t) ⌝ }
+    ensures { λ r. ⌜ r ≡ allb (λ i. eqb (getD (now (t .entry)) (base + i) 0) 0) (range n) ⌝ }
+{
+    let mut union: u64 = 0;
+    let mut j = 0;
+    while j < n {
+        union = union | t[base + j];
+        j += 1;
+    }
+    union == 0
 }

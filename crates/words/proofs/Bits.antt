@@ -5,11 +5,11 @@ use mathlib.Core.Bool.{Bool, true, false, cond, not, _&&_, _||_, or-comm}
 use Prim.Native.Nat.{ℕ, zero, suc, _+_, _-_, _*_, _/_, _%_, _^_, _≤_, _<_, suc-le-suc, min, max}
 use native.Mathlib.Nat.{zero-lt-suc, le-of-suc-le-suc, not-suc-le-zero, pow-suc, lt-of-le-of-lt}
 use native.Mathlib.Omega.{arith}
-use lib.Dec.{eqb}
-use lib.Pow.{pow-lt}
+use lib.Dec.{eqb, ltb}
+use lib.Pow.{pow-lt, pow-pos}
 use lib.Bits.{bitAnd, bitOr, or-lt, and-le-l}
-use borrow.Author.Tests.{eq-eqb, ne-eqb}
-use Rattle.lists.proofs.Tests.{eq-or-ne}
+use borrow.Author.Tests.{eq-eqb, ne-eqb, lt-ltb, le-ltb}
+use Rattle.lists.proofs.Tests.{eq-or-ne, lt-or-ge}
 use Rattle.words.specs.Bits.{bit, wordOf}
 use Rattle.words.proofs.Digits.{digit, digit-lt, digit-zero, digit-suc, digit-of-zero, digit-past, digit-shr, digit-or, digit-and, digit-not, digit-pow-same, digit-pow-other, digit-ext}
 
@@ -162,3 +162,19 @@ word-without n a b ha l =
     word-minus n a (2 ^ b) ha (pow-lt l)
     ∙ wordOf-ext n (λ k. bit a k && not (bit (2 ^ b) k)) (λ k. bit a k && not (eqb k b))
     (λ k m. ap (λ (x : Bool). bit a k && not x) (bit-pow b k))
+
+-- `a & ((1 << b) - 1)`: the bits below b
+bit-mask : (b k : ℕ) → bit (2 ^ b - 1) k ≡ ltb k b
+bit-mask b k = go (lt-or-ge k b)
+  where
+    some : 0 < 2 ^ b
+    some = pow-pos b
+
+    go : (k < b) ⊎ (b ≤ k) → bit (2 ^ b - 1) k ≡ ltb k b
+    go (inl l) = ap (λ (m : ℕ). bit m k) (omega arith) ∙ bit-not b 0 k some l ∙ ap not (bit-of-zero k) ∙ sym (lt-ltb k b l)
+    go (inr l) = bit-past b (2 ^ b - 1) k (omega (arith, some)) l ∙ sym (le-ltb k b l)
+
+pub word-below : (n a b : ℕ) → a < 2 ^ n → bitAnd a (2 ^ b - 1) ≡ wordOf n (λ k. bit a k && ltb k b)
+word-below n a b ha =
+    word-is n (bitAnd a (2 ^ b - 1)) (λ k. bit a k && ltb k b) (lt-of-le-of-lt (and-le-l a _) ha)
+    (λ k l. bit-and a (2 ^ b - 1) k ∙ ap (λ (x : Bool). bit a k && x) (bit-mask b k))

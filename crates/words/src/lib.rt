@@ -2,7 +2,7 @@
 ghost use mathlib.Core.Path.{_≡_};
 ghost use mathlib.Core.Bool.{not, _&&_, _||_};
 ghost use Prim.Native.Nat.{_<_};
-ghost use lib.Dec.{eqb};
+ghost use lib.Dec.{eqb, ltb};
 ghost use Rattle.lists.specs.Lists.{range, countb};
 ghost use Rattle.words.specs.Bits.{bit, wordOf};
 ghost use Rattle.words.specs.Least.{IsLeast, WithoutLeast};
@@ -52,4 +52,12 @@ pub fn drop_least(w: u64) -> u64
     ensures { λ r. ⌜ WithoutLeast w r ⌝ }
 {
     w & (w - 1)
+}
+
+// The members of w that are below b.
+pub fn below(w: u64, b: usize) -> u64
+    requires { ⌜ b < 64 ⌝ }
+    ensures { λ r. ⌜ r ≡ wordOf 64 (λ k. bit w k && ltb k b) ⌝ }
+{
+    w & ((1u64 << b) - 1)
 }

@@ -1,7 +1,7 @@
--- `bounds::leave` meets its contract: two places stored, and what `row_clear` ensures of the row (Relaxing.antt).
+-- `bounds::leave` meets its contract: three places stored (Relaxing.antt).
 -- Assumes nothing.
+use Rattle.bounds.proofs.Relaxing.{reference-left, left-thinned}
 use borrow.Author.Needs.{needs}
-use Rattle.bounds.proofs.Relaxing.{reference-left}
 use Rattle.bounds.proofs.leave.Statement.{statement}
 use Rattle.bounds.proofs.leave.Tie as tie
 
@@ -17,8 +17,11 @@ mul-skips c = search needs
 slice-write-skips : tie.Need-slice-write-skips
 slice-write-skips c = search needs
 
-row-clear-requires : tie.Need-row-clear-requires
-row-clear-requires c κs = search needs
+mul-ranks : tie.Need-mul-ranks
+mul-ranks c = search needs
+
+slice-write-ranks : tie.Need-slice-write-ranks
+slice-write-ranks c = search needs
 
 same-length : tie.Need-same-length
 same-length c = search needs
@@ -30,7 +33,7 @@ same-length-3 : tie.Need-same-length-3
 same-length-3 c = search needs
 
 returns : tie.Need-returns
-returns c = reference-left _ _ _ _ _ _ _ _ (c .before .before .row-clear .ensures)
+returns c = (reference-left _ _ _ (c .pre .1) (c .pre .0 .rankPlaces) _ _ _ _, left-thinned _ _ _ (c .pre .1) (c .pre .0 .rankPlaces))
 
 pub leave-spec : {M : Type 1} → statement M
 leave-spec =
@@ -40,7 +43,8 @@ leave-spec =
     slice-write-bounds
     mul-skips
     slice-write-skips
-    row-clear-requires
+    mul-ranks
+    slice-write-ranks
     same-length
     same-length-2
     same-length-3

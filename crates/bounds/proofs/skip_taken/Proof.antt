@@ -1,17 +1,14 @@
--- `bounds::skip_taken` meets its contract, by whether the code waits and whether the offer is smaller.
+-- `bounds::skip_taken` meets its contract, by the one test.
 -- Assumes nothing.
-use borrow.Author.Tests.{not-true, not-false, lt-ltb, le-ltb}
+use borrow.Author.Tests.{lt-ltb, le-ltb}
 use Rattle.bounds.proofs.skip_taken.Statement.{statement}
 use Rattle.bounds.proofs.skip_taken.Tie as tie
 
 returns : tie.Need-returns
-returns c = rw (not-true (c .before .args .waits) (c .if1 .taken))
+returns c = rw (lt-ltb 0 (c .before .args .below) (c .if1 .taken))
 
 returns-2 : tie.Need-returns-2
-returns-2 c = rw (not-false (c .before .before .args .waits) (c .before .if1 .left), lt-ltb (c .before .before .args .x) (c .before .before .args .b) (c .if2 .taken))
-
-returns-3 : tie.Need-returns-3
-returns-3 c = rw (not-false (c .before .before .args .waits) (c .before .if1 .left), le-ltb (c .before .before .args .x) (c .before .before .args .b) (c .if2 .left))
+returns-2 c = rw (le-ltb 0 (c .before .args .below) (c .if1 .left))
 
 pub skip-taken-spec : {M : Type 1} → statement M
-skip-taken-spec = tie.close (tie.spec returns returns-2 returns-3)
+skip-taken-spec = tie.close (tie.spec returns returns-2)

@@ -1,90 +1,63 @@
--- `pairs::add_pairs` meets its contract. The loop's invariant (Adding.antt): the pairs of r with the members below `from` are in the table,
--- and the sum counts them all. The measure is the codes left. Assumes nothing.
-use mathlib.Core.Path.{subst}
+-- `pairs::add_pairs` meets its contract. The loop's invariant (Adding.antt): the pairs of r with the members in the words passed are in the table,
+-- and the sum counts them all. The measure is the words left. Assumes nothing.
 use Prim.Native.Nat.{_-_, _*_}
 use native.Mathlib.Omega.{arith}
-use Rattle.rows.specs.Next.{IsNext, NextIs}
 use Rattle.pairs.proofs.Tallies.{holds-whole, holds-length, holds-counted}
-use Rattle.pairs.proofs.Adding.{Adding, add-start, add-low, add-high, add-itself, add-end}
-use borrow.Author.Needs.{needs}
+use Rattle.pairs.proofs.Adding.{Adding, add-start, add-upper, add-word, lower-bits, upper-bits, add-end}
 use Rattle.pairs.proofs.add_pairs.Statement.{statement}
 use Rattle.pairs.proofs.add_pairs.Tie as tie
 
 abbrev Inv-loop : tie.InvT-loop
-Inv-loop pairs₀ last words r count sum₀ from₀ pairs sum from = Adding words last r pairs₀ pairs sum from
+Inv-loop pairs₀ last words r count sum₀ j₀ pairs sum j = Adding words last r pairs₀ pairs sum (64 * j)
 
 abbrev μ-loop : tie.MeasureT-loop
-μ-loop pairs₀ last words r count sum₀ from₀ pairs sum from = 64 * words - from
-
--- the member found
-is-next : (c : tie.After-known-told Inv-loop μ-loop) → let a = c .before .before .before .before .before .before .before .args in
-    IsNext (a .words) (a .last .now) (c .before .before .before .before .loop .from) (c .before .found .given .0 .0)
-is-next c = subst (NextIs _ _ _) (c .before .found .given .1) (c .before .before .before .next-member .ensures)
+μ-loop pairs₀ last words r count sum₀ j₀ pairs sum j = words - j
 
 loop-holds : tie.Need-loop-holds Inv-loop μ-loop
 loop-holds c = add-start _ _ (holds-whole (c .before .before .pre .0) (λ i l. c .before .slice-known .given i .fits))
 
-next-member-requires : tie.Need-next-member-requires Inv-loop μ-loop
-next-member-requires c κs = (c .before .before .before .pre .1, omega (arith, c .before .before .before .pre .0 .most))
+mul-x : tie.Need-mul-x Inv-loop μ-loop
+mul-x c = omega (arith, c .before .before .before .before .pre .1, c .loop-test .taken)
 
-enum-known-found : tie.Need-enum-known-found Inv-loop μ-loop
-enum-known-found c = search needs
+shared-slice-read-x : tie.Need-shared-slice-read-x Inv-loop μ-loop
+shared-slice-read-x c = omega (arith, c .before .before .before .before .before .pre .1, c .before .loop-test .taken)
 
-enum-told : tie.Need-enum-told Inv-loop μ-loop
-enum-told c = search needs
+add-lower-part : tie.Need-add-lower-part Inv-loop μ-loop
+add-lower-part c = let pre = c .before .before .before .before .before .pre in omega (arith, pre .2, pre .0 .most)
 
-same-length : tie.Need-same-length Inv-loop μ-loop
-same-length c = holds-length (c .before .before .before .loop .inv .holds) (c .before .before .before .before .before .before .pre .0 .table)
+lower-part-requires : tie.Need-lower-part-requires Inv-loop μ-loop
+lower-part-requires c κs = omega (arith, c .before .loop-test .taken, c .before .before .before .before .before .pre .0 .most)
 
-returns : tie.Need-returns Inv-loop μ-loop
-returns c = add-end (c .before .before .before .loop .inv) (subst (NextIs _ _ _) (c .enum-told .given .1) (c .before .before .next-member .ensures))
+lower-part-requires-2 : tie.Need-lower-part-requires-2 Inv-loop μ-loop
+lower-part-requires-2 c κs = omega (arith, c .before .before .loop-test .taken, c .before .before .before .before .before .before .pre .0 .most)
 
-put-pair-requires : tie.Need-put-pair-requires Inv-loop μ-loop
-put-pair-requires c κs =
-    let told = c .before .before in
-    let pre = told .before .before .before .before .before .before .before .pre in
-    let inside = is-next told .inside in
-    (holds-counted (told .before .before .before .before .loop .inv .holds) (pre .0 .positive) (pre .0 .most) (pre .0 .table), omega (arith, inside), omega (arith, inside))
+put-upper-requires : tie.Need-put-upper-requires Inv-loop μ-loop
+put-upper-requires c κs =
+    let pre = c .before .before .before .before .before .before .before .before .pre in
+    (holds-counted (c .before .before .before .before .before .loop .inv .holds) (pre .0 .positive) (pre .0 .most) (pre .0 .table), pre .2, c .before .before .before .before .loop-test .taken)
 
-add-from : tie.Need-add-from Inv-loop μ-loop
-add-from c = omega (arith, is-next (c .before .before .before .before .before) .inside)
+put-lower-requires : tie.Need-put-lower-requires Inv-loop μ-loop
+put-lower-requires c κs =
+    let pre = c .before .before .before .before .before .before .before .before .before .before .before .before .pre in
+    let upper = add-upper (c .before .before .before .before .before .before .before .before .before .loop .inv) (c .before .before .before .before .before .before .before .before .loop-test .taken) _ (c .before .before .before .put-upper .ensures) in
+    (holds-counted upper (pre .0 .positive) (pre .0 .most) (pre .0 .table), pre .2, c .before .before .before .before .before .before .before .before .loop-test .taken)
+
+add-j : tie.Need-add-j Inv-loop μ-loop
+add-j c = omega (arith, c .before .before .before .before .before .before .before .before .before .before .before .loop-test .taken, c .before .before .before .before .before .before .before .before .before .before .before .before .before .before .before .pre .0 .most)
 
 loop-less : tie.Need-loop-less Inv-loop μ-loop
-loop-less c = let n = is-next (c .before .before .before .before .before) in omega (arith, n .inside, n .after)
+loop-less c = omega (arith, c .before .before .before .before .before .before .before .before .before .before .before .loop-test .taken)
 
 loop-again : tie.Need-loop-again Inv-loop μ-loop
 loop-again c =
-    let told = c .before .before .before .before .before in
-    add-low (told .before .before .before .before .loop .inv) (is-next told) _ _ (c .before .before .put-pair .ensures) (c .before .before .before .before .if1 .taken)
+    add-word (c .before .before .before .before .before .before .before .before .before .before .before .before .loop .inv) (c .before .before .before .before .before .before .before .before .before .before .before .loop-test .taken) _ (c .before .before .before .before .before .before .put-upper .ensures) _ (c .before .before .put-lower .ensures)
+    (upper-bits _ _ _ (c .before .before .before .before .before .before .before .before .before .before .shared-slice-known2 .given _ .fits) (c .before .before .before .before .before .before .before .before .before .lower-part .ensures)) (lower-bits _ _ _ (c .before .before .before .before .before .before .before .before .lower-part2 .ensures))
 
-put-pair-requires-2 : tie.Need-put-pair-requires-2 Inv-loop μ-loop
-put-pair-requires-2 c κs =
-    let told = c .before .before .before in
-    let pre = told .before .before .before .before .before .before .before .pre in
-    let inside = is-next told .inside in
-    (holds-counted (told .before .before .before .before .loop .inv .holds) (pre .0 .positive) (pre .0 .most) (pre .0 .table), omega (arith, inside), omega (arith, inside))
+same-length : tie.Need-same-length Inv-loop μ-loop
+same-length c = holds-length (c .before .loop .inv .holds) (c .before .before .before .before .pre .0 .table)
 
-add-from-2 : tie.Need-add-from-2 Inv-loop μ-loop
-add-from-2 c = omega (arith, is-next (c .before .before .before .before .before .before) .inside)
-
-loop-less-2 : tie.Need-loop-less-2 Inv-loop μ-loop
-loop-less-2 c = let n = is-next (c .before .before .before .before .before .before) in omega (arith, n .inside, n .after)
-
-loop-again-2 : tie.Need-loop-again-2 Inv-loop μ-loop
-loop-again-2 c =
-    let told = c .before .before .before .before .before .before in
-    add-high (told .before .before .before .before .loop .inv) (is-next told) _ _ (c .before .before .put-pair2 .ensures) (c .before .before .before .before .if2 .taken)
-
-add-from-3 : tie.Need-add-from-3 Inv-loop μ-loop
-add-from-3 c = omega (arith, is-next (c .before .before) .inside)
-
-loop-less-3 : tie.Need-loop-less-3 Inv-loop μ-loop
-loop-less-3 c = let n = is-next (c .before .before) in omega (arith, n .inside, n .after)
-
-loop-again-3 : tie.Need-loop-again-3 Inv-loop μ-loop
-loop-again-3 c =
-    let told = c .before .before in
-    add-itself (told .before .before .before .before .loop .inv) (is-next told) (omega arith)
+returns : tie.Need-returns Inv-loop μ-loop
+returns c = add-end (c .before .loop .inv) (omega (arith, c .loop-test .left))
 
 pub add-pairs-spec : {M : Type 1} → statement M
 add-pairs-spec =
@@ -93,19 +66,15 @@ add-pairs-spec =
     Inv-loop
     μ-loop
     loop-holds
-    next-member-requires
-    enum-known-found
-    enum-told
-    same-length
-    returns
-    put-pair-requires
-    add-from
+    mul-x
+    shared-slice-read-x
+    add-lower-part
+    lower-part-requires
+    lower-part-requires-2
+    put-upper-requires
+    put-lower-requires
+    add-j
     loop-less
     loop-again
-    put-pair-requires-2
-    add-from-2
-    loop-less-2
-    loop-again-2
-    add-from-3
-    loop-less-3
-    loop-again-3)
+    same-length
+    returns)

@@ -34,14 +34,15 @@ run-rounds-requires c κs =
     let pre = c .before .before .before .before .before .before .before .before .before .before .before .before .before .before .before .before .before .before .before .before .before .before .before .before .before .before .before .before .before .pre in
     let k = c .before .before .before .before .before .before .before .before .before .before .before .before .before .before .before .before .begin .kept in (
       record { table = pre .0; hopPlaces = pre .2; evenRow = pre .5; oddRow = pre .6; seenRow = omega arith; nextRow = omega arith },
-      begun-counted 4 257 _ _ _ _ _ _ (omega arith) (omega arith) (pre .1) (c .before .before .before .before .before .before .before .before .before .before .before .before .before .before .before .before .begin .ensures),
+      begun-counted 4 257 _ _ _ _ _ _ (omega arith) (omega arith) (pre .1) (c .before .before .before .before .before .before .before .before .before .before .before .before .before .before .before .before .begin .ensures .0),
       record {
         positive = omega arith;
         most = omega arith;
         boundPlaces = omega (arith, pre .3, k .1 .0);
         skipPlaces = omega (arith, pre .4, k .1 .1 .0);
-        row = omega (arith, slice-aggregate-run-rounds-3 c);
+        rankPlaces = omega (arith, slice-aggregate-run-rounds-3 c);
       },
+      c .before .before .before .before .before .before .before .before .before .before .before .before .before .before .before .before .begin .ensures .1,
       omega arith,
     )
 
@@ -71,7 +72,7 @@ same-length-6 c = search needs
 
 -- src/lib.rt:87:1
 returns : tie.Need-returns
-returns c = reckoned-is base base-shape _ _ (c .before .before .before .before .before .before .before .before .before .before .before .before .before .before .before .before .before .before .before .before .before .before .before .before .before .before .before .before .before .before .before .before .before .before .before .before .before .before .before .before .before .before .before .before .before .pre .8) _ _ _ _ _ _ _ (c .before .before .before .before .before .before .before .before .before .before .before .before .before .before .before .before .before .before .before .before .before .before .before .before .before .before .before .before .before .before .before .before .begin .ensures) (c .before .before .before .before .before .before .before .before .before .before .before .before .before .before .before .run-rounds .ensures)
+returns c = reckoned-is base base-shape _ _ (c .before .before .before .before .before .before .before .before .before .before .before .before .before .before .before .before .before .before .before .before .before .before .before .before .before .before .before .before .before .before .before .before .before .before .before .before .before .before .before .before .before .before .before .before .before .pre .8) _ _ _ _ _ _ _ (c .before .before .before .before .before .before .before .before .before .before .before .before .before .before .before .before .before .before .before .before .before .before .before .before .before .before .before .before .before .before .before .before .begin .ensures .0) (c .before .before .before .before .before .before .before .before .before .before .before .before .before .before .before .run-rounds .ensures)
 
 pub reckon-map-spec : {M : Type 1} → statement M
 reckon-map-spec =

@@ -1,6 +1,7 @@
 -- `rounds::absorb` meets its contract: its four calls are the four parts of the definition.
 -- Assumes nothing.
 use Rattle.rounds.proofs.Turns.{absorb-is}
+use Rattle.bounds.proofs.Ranks.{thinned-twice}
 use borrow.Author.Needs.{needs}
 use Rattle.rounds.proofs.absorb.Statement.{statement}
 use Rattle.rounds.proofs.absorb.Tie as tie
@@ -43,7 +44,8 @@ same-length-4 c = search needs
 
 -- src/lib.rt:54:1
 returns : tie.Need-returns
-returns c = absorb-is _ _ _ _ _ _ _ _ _ _ (c .before .before .before .before .before .before .before .before .before .before .before .before .before .before .before .before .before .before .before .before .before .before .before .settle-by .ensures) (c .before .before .before .before .before .before .before .before .before .before .before .before .before .before .before .before .before .before .before .before .raise .ensures) (c .before .before .before .before .before .before .before .before .before .before .before .before .before .before .before .before .leave .ensures) (c .before .before .before .before .before .before .relax .ensures)
+returns c =
+    (absorb-is _ _ _ _ _ _ _ _ _ _ (c .before .before .before .before .before .before .before .before .before .before .before .before .before .before .before .before .before .before .before .before .before .before .before .settle-by .ensures) (c .before .before .before .before .before .before .before .before .before .before .before .before .before .before .before .before .before .before .before .before .raise .ensures) (c .before .before .before .before .before .before .before .before .before .before .before .before .before .before .before .before .leave .ensures .0) (c .before .before .before .before .before .before .relax .ensures .0), thinned-twice _ _ _ _ (c .before .before .before .before .before .before .before .before .before .before .before .before .before .before .before .before .leave .ensures .1) (c .before .before .before .before .before .before .relax .ensures .1))
 
 pub absorb-spec : {M : Type 1} → statement M
 absorb-spec =

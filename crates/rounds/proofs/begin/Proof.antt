@@ -1,6 +1,7 @@
 -- `rounds::begin` meets its contract: each of the four buffers is filled by its call.
 -- Assumes nothing.
 use Rattle.rounds.proofs.Turns.{begin-is}
+use Rattle.bounds.proofs.Ranks.{ranked-row, ranked-all}
 use borrow.Author.Needs.{needs}
 use Rattle.rounds.proofs.begin.Statement.{statement}
 use Rattle.rounds.proofs.begin.Tie as tie
@@ -34,8 +35,8 @@ fill-requires-2 : tie.Need-fill-requires-2
 fill-requires-2 c κs = search needs
 
 -- src/lib.rt:189:5
-copy-requires : tie.Need-copy-requires
-copy-requires c κs = search needs
+rank-all-requires : tie.Need-rank-all-requires
+rank-all-requires c κs = search needs
 
 -- src/lib.rt:174:1
 same-length : tie.Need-same-length
@@ -55,7 +56,7 @@ same-length-4 c = search needs
 
 -- src/lib.rt:174:1
 returns : tie.Need-returns
-returns c = begin-is _ _ _ _ _ _ _ _ (c .before .before .before .before .before .before .before .before .before .before .before .before .before .before .clear .ensures) (c .before .before .before .before .before .before .before .before .before .before .fill .ensures) (c .before .before .before .before .before .before .fill2 .ensures) (c .before .before .copy .ensures)
+returns c = (begin-is _ _ _ _ _ _ _ _ (c .before .before .before .before .before .before .before .before .before .before .before .before .before .before .clear .ensures) (c .before .before .before .before .before .before .before .before .before .before .fill .ensures) (c .before .before .before .before .before .before .fill2 .ensures) (ranked-row _ _ _ _ _ (c .before .before .rank-all .ensures)), ranked-all _ _ _ _ _ (c .before .before .rank-all .ensures))
 
 pub begin-spec : {M : Type 1} → statement M
 begin-spec =
@@ -68,7 +69,7 @@ begin-spec =
     fill-requires
     mul-fill-2
     fill-requires-2
-    copy-requires
+    rank-all-requires
     same-length
     same-length-2
     same-length-3

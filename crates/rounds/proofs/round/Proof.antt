@@ -57,7 +57,7 @@ same-length-9 c = search needs
 
 -- src/lib.rt:84:1
 returns : tie.Need-returns
-returns c = round-is-absorbed _ _ _ _ _ _ _ _ _ _ _ (c .before .before .before .before .before .before .before .before .before .before .before .before .before .before .before .before .before .before .before .before .before .before .before .before .before .before .before .search-table .ensures) (c .before .before .before .before .before .before .before .before .before .absorb .ensures) refl
+returns c = (round-is-absorbed _ _ _ _ _ _ _ _ _ _ _ (c .before .before .before .before .before .before .before .before .before .before .before .before .before .before .before .before .before .before .before .before .before .before .before .before .before .before .before .search-table .ensures) (c .before .before .before .before .before .before .before .before .before .absorb .ensures .0) refl, c .before .before .before .before .before .before .before .before .before .absorb .ensures .1)
 
 pub round-spec : {M : Type 1} → statement M
 round-spec =
