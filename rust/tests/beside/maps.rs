@@ -258,7 +258,7 @@ pub fn damage(dice: &mut Dice, lent: &mut Lent, network: &Network, way: usize) {
         // a further depot without links: apart
         7 if !closed.is_empty() => {
             record[some_closed / 64] |= 1 << (some_closed % 64);
-            record[4] += 1;
+            record[4] = record[4].wrapping_add(1);
         }
         // a link taken away, both ways round: apart or not
         8 | 9 => {
@@ -273,12 +273,12 @@ pub fn damage(dice: &mut Dice, lent: &mut Lent, network: &Network, way: usize) {
         10 => flip(pairs, dice.below(256), dice.below(256)),
         11 => {
             flip(pairs, any, dice.below(any + 1));
-            record[6] += 1;
+            record[6] = record[6].wrapping_add(1);
         }
         12 => {
             let (u, v) = (some_open.min(some_closed), some_open.max(some_closed));
             flip(pairs, u, v);
-            record[6] += 1;
+            record[6] = record[6].wrapping_add(1);
         }
         // pair count
         13 => record[6] = dice.pick(&[record[6].wrapping_add(1), record[6].wrapping_sub(1), 65_535]),
