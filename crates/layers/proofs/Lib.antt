@@ -2,6 +2,8 @@
 pub mod Theorems
 -- a visit of a layer's members
 pub mod Visits
+-- the two passes over next in a step
+pub mod Passes
 -- one step of the code's loop
 pub mod Stepping
 -- the hop table, one layer on

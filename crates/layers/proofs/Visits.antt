@@ -1,174 +1,303 @@
--- The loop of `visit`: the members below `from` have their hop, and the codes linked to them stand in next. Assumes nothing.
+-- Visits of sets of members: nobody, one member, one set after another; and the two loops, over the words of a layer and the set bits of a word.
+-- Assumes nothing.
 use mathlib.Core.Path.{_≡_, refl, sym, ap, ap₂, _∙_, subst}
 use mathlib.Core.Logic.{_≢_, _⊎_, inl, inr}
-use mathlib.Core.Bool.{Bool, true, false, cond, _&&_, _||_}
-use mathlib.Core.List.{List}
-use Prim.Native.Nat.{ℕ, _+_, _*_, _≤_, _<_}
+use mathlib.Core.Bool.{Bool, true, false, cond, not, _&&_, _||_}
+use mathlib.Core.List.{List, List·Memᴰ}
+use Prim.Native.Nat.{ℕ, _+_, _-_, _*_, _/_, _%_, _^_, _≤_, _<_}
+use native.Mathlib.Nat.{lt-irrefl}
 use native.Mathlib.Omega.{arith}
-use lib.Dec.{ltb}
+use lib.Dec.{eqb, ltb}
 use lib.ListN.{length, getD, set, length-set}
-use borrow.Author.Tests.{ltb-true, lt-ltb, le-ltb}
+use borrow.Author.Tests.{eqb-true, eqb-false, eq-eqb, ne-eqb, lt-ltb, le-ltb}
 use Rattle.lists.specs.Lists.{range, mapl, anyb, overwrite}
-use Rattle.lists.proofs.Tests.{clash, and-true, and-intro, or-true, or-left, or-right, same-test, lt-or-ge}
-use Rattle.lists.proofs.Members.{any-none, any-intro, any-elim, range-in}
-use Rattle.lists.proofs.Fills.{overwrite-length, fill-ext}
+use Rattle.lists.proofs.Tests.{look, clash, and-true, and-intro, or-true, or-left, or-right, same-test, lt-or-ge, eq-or-ne}
+use Rattle.lists.proofs.Members.{any-none, any-intro, any-elim, any-ext, range-in, range-out}
+use Rattle.lists.proofs.Fills.{fill-ext, fill-at, length-fill, overwrite-twice}
 use Rattle.lists.proofs.Buffers.{fill-whole, fill-put}
+use Rattle.words.specs.Bits.{bit}
+use Rattle.words.specs.Least.{IsLeast, WithoutLeast}
+use Rattle.words.proofs.Bits.{bit-of-zero, bit-wordOf}
 use Rattle.rows.specs.Rows.{rowBit, tableBit, encodeRow}
-use Rattle.rows.specs.Next.{IsNext}
-use Rattle.rows.proofs.Written.{encode-row-length, row-read}
-use Rattle.rows.proofs.Wholes.{encode-row-ext, row-over}
-use Rattle.layers.specs.Steps.{reaches, visited, visitOf}
+use Rattle.rows.proofs.Written.{row-in}
+use Rattle.rows.proofs.Wholes.{encode-row-ext, row-whole, row-again}
+use Rattle.layers.specs.Steps.{inWord, reaches, Visited, visited, visitSet, visitOf}
 
-module _ (W : ℕ) (links layer : List ℕ) (k : ℕ) where
-  -- what the members below `at` reach, and the hops that they leave
-  unfoldable pub reachedBelow : ℕ → ℕ → Bool
-  reachedBelow at v = anyb (λ u. ltb u at && (rowBit W layer u && tableBit W links u v)) (range (64 * W))
+module _ (W : ℕ) (links : List ℕ) (k : ℕ) where
+  -- what the members of S are linked to
+  abbrev from : (ℕ → Bool) → ℕ → Bool
+  from S v = anyb (λ u. S u && tableBit W links u v) (range (64 * W))
 
-  unfoldable pub hopBelow : List ℕ → ℕ → ℕ → ℕ
-  hopBelow hops at v = cond (ltb v at && rowBit W layer v) k (getD hops v 0)
+  -- ---- sets
 
-  pub record Visiting (next₀ hops₀ next hops : List ℕ) (at : ℕ) : Type 0 where
-    pub within : at ≤ 64 * W
-    pub next-is : next ≡ overwrite (encodeRow W (reachedBelow at)) next₀
-    pub hops-is : hops ≡ overwrite (mapl (hopBelow hops₀ at) (range (64 * W))) hops₀
-    pub next-length : length next ≡ length next₀
-    pub hops-length : length hops ≡ length hops₀
+  from-ext : (S R : ℕ → Bool) → ((u : ℕ) → u < 64 * W → S u ≡ R u) → (v : ℕ) → from S v ≡ from R v
+  from-ext S R h v =
+      any-ext (λ u. S u && tableBit W links u v) (λ u. R u && tableBit W links u v) (range (64 * W))
+      (λ u m. ap (λ (b : Bool). b && tableBit W links u v) (h u (range-out (64 * W) m)))
 
-  none-below : (v : ℕ) → reachedBelow 0 v ≡ false
-  unfolding reachedBelow
-  none-below v = any-none (λ u. ltb u 0 && (rowBit W layer u && tableBit W links u v)) (range (64 * W)) (λ u m. rw (le-ltb u 0 (omega arith)))
+  from-none : (v : ℕ) → from (λ u. false) v ≡ false
+  from-none v = any-none (λ u. false && tableBit W links u v) (range (64 * W)) (λ u m. refl)
 
-  hop-none : (hops : List ℕ) (v : ℕ) → hopBelow hops 0 v ≡ getD hops v 0
-  unfolding hopBelow
-  hop-none hops v = rw (le-ltb v 0 (omega arith))
+  from-one : (m : ℕ) → m < 64 * W → (v : ℕ) → from (λ u. eqb u m) v ≡ tableBit W links m v
+  from-one m l v = same-test (from (λ u. eqb u m) v) (tableBit W links m v) to (λ h. any-intro p (range (64 * W)) (range-in (64 * W) l) (and-intro (eq-eqb m m refl) h))
+    where
+      p : ℕ → Bool
+      p u = eqb u m && tableBit W links u v
 
-  pub visit-none : (entry next₀ hops₀ : List ℕ) → next₀ ≡ overwrite (encodeRow W (λ v. false)) entry → 64 * W ≤ length hops₀ → Visiting next₀ hops₀ next₀ hops₀ 0
-  visit-none entry next₀ hops₀ e l = record {
-    within = omega arith;
-    next-is =
-        e ∙ sym (ap (overwrite (encodeRow W (reachedBelow 0))) e ∙ row-over W (reachedBelow 0) (λ v. false) entry
-        ∙ ap (λ (r : List ℕ). overwrite r entry) (encode-row-ext W (reachedBelow 0) (λ v. false) (λ v m. none-below v)));
-    hops-is = fill-whole (hopBelow hops₀ 0) (64 * W) hops₀ l (λ v m. sym (hop-none hops₀ v));
-    next-length = refl;
-    hops-length = refl;
-  }
+      to : from (λ u. eqb u m) v ≡ true → tableBit W links m v ≡ true
+      to h =
+          let y = any-elim p (range (64 * W)) h in
+          let z = and-true (eqb (y .0) m) (tableBit W links (y .0) v) (y .2) in
+          subst (λ (u : ℕ). tableBit W links u v ≡ true) (eqb-true (y .0) m (z .0)) (z .1)
 
-  -- one member more
-  module _ (at v : ℕ) (n : IsNext W layer at v) where
-    -- a member below v + 1 is one below `at`, or v
-    below-cases : (u : ℕ) → u < v + 1 → rowBit W layer u ≡ true → (u < at) ⊎ (u ≡ v)
-    below-cases u l m = go (lt-or-ge u at) (lt-or-ge u v)
+  from-both : (S R : ℕ → Bool) (v : ℕ) → (from S v || from R v) ≡ from (λ u. S u || R u) v
+  from-both S R v = same-test (from S v || from R v) (from (λ u. S u || R u) v) (λ h. to (or-true (from S v) (from R v) h)) back
+    where
+      p : (ℕ → Bool) → ℕ → Bool
+      p Q u = Q u && tableBit W links u v
+
+      to : (from S v ≡ true) ⊎ (from R v ≡ true) → from (λ u. S u || R u) v ≡ true
+      to (inl h) =
+          let y = any-elim (p S) (range (64 * W)) h in
+          let z = and-true (S (y .0)) (tableBit W links (y .0) v) (y .2) in
+          any-intro (p (λ u. S u || R u)) (range (64 * W)) (y .1) (and-intro (or-left (R (y .0)) (z .0)) (z .1))
+      to (inr h) =
+          let y = any-elim (p R) (range (64 * W)) h in
+          let z = and-true (R (y .0)) (tableBit W links (y .0) v) (y .2) in
+          any-intro (p (λ u. S u || R u)) (range (64 * W)) (y .1) (and-intro (or-right (S (y .0)) (z .0)) (z .1))
+
+      back : from (λ u. S u || R u) v ≡ true → (from S v || from R v) ≡ true
+      back h =
+          let y = any-elim (p (λ u. S u || R u)) (range (64 * W)) h in
+          let z = and-true (S (y .0) || R (y .0)) (tableBit W links (y .0) v) (y .2) in
+          on (y .0) (y .1) (z .1) (or-true (S (y .0)) (R (y .0)) (z .0))
+        where
+          on : (u : ℕ) → List·Memᴰ u (range (64 * W)) → tableBit W links u v ≡ true → (S u ≡ true) ⊎ (R u ≡ true) → (from S v || from R v) ≡ true
+          on u m t (inl a) = or-left (from R v) (any-intro (p S) (range (64 * W)) m (and-intro a t))
+          on u m t (inr a) = or-right (from S v) (any-intro (p R) (range (64 * W)) m (and-intro a t))
+
+  -- ---- visits of them
+
+  abbrev visit : (ℕ → Bool) → Visited → Visited
+  visit S B = visitSet W links k S B
+
+  -- the same members
+  pub visit-ext : (S R : ℕ → Bool) (B : Visited) → ((u : ℕ) → u < 64 * W → S u ≡ R u) → visit S B ≡ visit R B
+  unfolding visitSet
+  visit-ext S R B h =
+      ap₂ visited
+      (ap (λ (r : List ℕ). overwrite r (B .next))
+      (encode-row-ext W (λ v. rowBit W (B .next) v || from S v) (λ v. rowBit W (B .next) v || from R v) (λ v m. ap (λ (b : Bool). rowBit W (B .next) v || b) (from-ext S R h v))))
+      (ap (λ (r : List ℕ). overwrite r (B .hops))
+      (fill-ext (λ v. cond (S v) k (getD (B .hops) v 0)) (λ v. cond (R v) k (getD (B .hops) v 0)) (64 * W) (λ v m. ap (λ (b : Bool). cond b k (getD (B .hops) v 0)) (h v m))))
+
+  -- nobody
+  pub visit-none : (next hops : List ℕ) → W ≤ length next → ((i : ℕ) → i < W → getD next i 0 < 2 ^ 64) → 64 * W ≤ length hops
+      → visited next hops ≡ visit (λ u. false) (visited next hops)
+  unfolding visitSet
+  visit-none next hops l fits m =
+      ap₂ visited
+      (row-whole W next l fits
+      ∙ ap (λ (r : List ℕ). overwrite r next) (encode-row-ext W (rowBit W next) (λ v. rowBit W next v || from (λ u. false) v) (λ v h. sym (ap (λ (b : Bool). rowBit W next v || b) (from-none v) ∙ or-false (rowBit W next v)))))
+      (fill-whole (λ v. getD hops v 0) (64 * W) hops m (λ v h. refl))
+    where
+      or-false : (b : Bool) → (b || false) ≡ b
+      or-false true = refl
+      or-false false = refl
+
+  -- one member, as the code visits it
+  pub visit-one : (v : ℕ) (next next′ hops : List ℕ) → v < 64 * W → 64 * W ≤ length hops
+      → next′ ≡ overwrite (encodeRow W (λ x. rowBit W next x || tableBit W links v x)) next
+      → visited next′ (set hops v k) ≡ visit (λ u. eqb u v) (visited next hops)
+  unfolding visitSet
+  visit-one v next next′ hops l m e =
+      ap₂ visited
+      (e ∙ ap (λ (r : List ℕ). overwrite r next)
+      (encode-row-ext W (λ x. rowBit W next x || tableBit W links v x) (λ x. rowBit W next x || from (λ u. eqb u v) x) (λ x h. ap (λ (b : Bool). rowBit W next x || b) (sym (from-one v l x)))))
+      (ap (λ (t : List ℕ). set t v k) (fill-whole (λ u. getD hops u 0) (64 * W) hops m (λ u h. refl))
+      ∙ fill-put (λ u. getD hops u 0) (λ u. cond (eqb u v) k (getD hops u 0)) (64 * W) hops v k l (rw (eq-eqb v v refl)) (λ u h ne. rw (ne-eqb u v ne)))
+
+  -- one set after another
+  pub visit-both : (S R : ℕ → Bool) (B : Visited) → visit R (visit S B) ≡ visit (λ u. S u || R u) B
+  unfolding visitSet
+  visit-both S R B = ap₂ visited next-both hops-both
+    where
+      f : ℕ → Bool
+      f v = rowBit W (B .next) v || from S v
+
+      or-assoc : (a b c : Bool) → ((a || b) || c) ≡ (a || (b || c))
+      or-assoc true b c = refl
+      or-assoc false b c = refl
+
+      next-both : overwrite (encodeRow W (λ v. rowBit W (overwrite (encodeRow W f) (B .next)) v || from R v)) (overwrite (encodeRow W f) (B .next))
+          ≡ overwrite (encodeRow W (λ v. rowBit W (B .next) v || from (λ u. S u || R u) v)) (B .next)
+      next-both =
+          row-again W f (λ b v. b || from R v) (B .next)
+          ∙ ap (λ (r : List ℕ). overwrite r (B .next))
+          (encode-row-ext W (λ v. f v || from R v) (λ v. rowBit W (B .next) v || from (λ u. S u || R u) v)
+          (λ v h. or-assoc (rowBit W (B .next) v) (from S v) (from R v) ∙ ap (λ (b : Bool). rowBit W (B .next) v || b) (from-both S R v)))
+
+      g : ℕ → ℕ
+      g v = cond (S v) k (getD (B .hops) v 0)
+
+      two : (a b : Bool) (x : ℕ) → cond b k (cond a k x) ≡ cond (a || b) k x
+      two true true x = refl
+      two true false x = refl
+      two false b x = refl
+
+      hops-both : overwrite (mapl (λ v. cond (R v) k (getD (overwrite (mapl g (range (64 * W))) (B .hops)) v 0)) (range (64 * W))) (overwrite (mapl g (range (64 * W))) (B .hops))
+          ≡ overwrite (mapl (λ v. cond (S v || R v) k (getD (B .hops) v 0)) (range (64 * W))) (B .hops)
+      hops-both =
+          overwrite-twice (mapl h (range (64 * W))) (mapl g (range (64 * W))) (B .hops) (omega (arith, length-fill h (64 * W), length-fill g (64 * W)))
+          ∙ ap (λ (r : List ℕ). overwrite r (B .hops))
+          (fill-ext h (λ v. cond (S v || R v) k (getD (B .hops) v 0)) (64 * W)
+          (λ v m. ap (λ (x : ℕ). cond (R v) k x) (fill-at g (B .hops) (64 * W) v 0 m) ∙ two (S v) (R v) (getD (B .hops) v 0)))
+        where
+          h : ℕ → ℕ
+          h v = cond (R v) k (getD (overwrite (mapl g (range (64 * W))) (B .hops)) v 0)
+
+  -- ---- the set bits of a word
+
+  module _ (w word : ℕ) where
+    -- the members that have left the word are visited; what is left was in it
+    pub record BitsVisited (next₀ hops₀ next hops : List ℕ) (x : ℕ) : Type 0 where
+      pub inside : (b : ℕ) → b < 64 → bit x b ≡ true → bit word b ≡ true
+      pub now-is : visited next hops ≡ visit (λ u. inWord w word u && not (inWord w x u)) (visited next₀ hops₀)
+      pub next-length : length next ≡ length next₀
+      pub hops-length : length hops ≡ length hops₀
+
+    pub bits-start : (next hops : List ℕ) → W ≤ length next → ((i : ℕ) → i < W → getD next i 0 < 2 ^ 64) → 64 * W ≤ length hops → BitsVisited next hops next hops word
+    bits-start next hops l fits m = record {
+      inside = λ b h e. e;
+      now-is = visit-none next hops l fits m ∙ visit-ext (λ u. false) (λ u. inWord w word u && not (inWord w word u)) (visited next hops) (λ u h. sym (and-not (inWord w word u)));
+      next-length = refl;
+      hops-length = refl;
+    }
       where
-        go : (u < at) ⊎ (at ≤ u) → (u < v) ⊎ (v ≤ u) → (u < at) ⊎ (u ≡ v)
-        go (inl p) q = inl p
-        go (inr p) (inl q) = absurd (clash m (n .first u p q))
-        go (inr p) (inr q) = inr (omega arith)
+        and-not : (b : Bool) → (b && not b) ≡ false
+        and-not true = refl
+        and-not false = refl
 
-    reached-more : (x : ℕ) → (reachedBelow at x || tableBit W links v x) ≡ reachedBelow (v + 1) x
-    unfolding reachedBelow
-    reached-more x = same-test (reachedBelow at x || tableBit W links v x) (reachedBelow (v + 1) x) (λ h. to (or-true (reachedBelow at x) (tableBit W links v x) h)) from
+    -- the least bit is visited, and leaves
+    module _ (x y b : ℕ) (within : w < W) (l : IsLeast x b) (d : WithoutLeast x y) where
+      left : (c : ℕ) → c < 64 → bit y c ≡ (bit x c && not (eqb c b))
+      left c m = ap (λ (r : ℕ). bit r c) (d .rest b l) ∙ bit-wordOf 64 (λ c. bit x c && not (eqb c b)) c m
+
+      same-member : (u : ℕ) → eqb (u / 64) w ≡ true → eqb u (64 * w + b) ≡ eqb (u % 64) b
+      same-member u e = go (eqb-true (u / 64) w e) (eq-or-ne (u % 64) b)
+        where
+          go : u / 64 ≡ w → (u % 64 ≡ b) ⊎ (u % 64 ≢ b) → eqb u (64 * w + b) ≡ eqb (u % 64) b
+          go h (inl q) = eq-eqb u (64 * w + b) (omega arith) ∙ sym (eq-eqb (u % 64) b q)
+          go h (inr q) = ne-eqb u (64 * w + b) (λ p. q (omega arith)) ∙ sym (ne-eqb (u % 64) b q)
+
+      other-word : (u : ℕ) → eqb (u / 64) w ≡ false → eqb u (64 * w + b) ≡ false
+      other-word u e = ne-eqb u (64 * w + b) (λ p. eqb-false (u / 64) w e (omega (arith, l .below)))
+
+      bits-one : ((c : ℕ) → c < 64 → bit x c ≡ true → bit word c ≡ true) → (u : ℕ)
+          → ((inWord w word u && not (inWord w x u)) || eqb u (64 * w + b)) ≡ (inWord w word u && not (inWord w y u))
+      unfolding inWord
+      bits-one inside u = go (look (eqb (u / 64) w))
+        where
+          small : u % 64 < 64
+          small = omega arith
+
+          tests : (a p e : Bool) → (p ≡ true → a ≡ true) → (e ≡ true → p ≡ true) → ((a && not p) || e) ≡ (a && not (p && not e))
+          tests true true true f g = refl
+          tests true true false f g = refl
+          tests true false true f g = refl
+          tests true false false f g = refl
+          tests false true e f g = absurd (clash refl (sym (f refl)))
+          tests false false true f g = sym (g refl)
+          tests false false false f g = refl
+
+          go : (eqb (u / 64) w ≡ true) ⊎ (eqb (u / 64) w ≡ false)
+              → ((inWord w word u && not (inWord w x u)) || eqb u (64 * w + b)) ≡ (inWord w word u && not (inWord w y u))
+          go (inl e) =
+              rw (e, same-member u e, left (u % 64) small)
+              (tests (bit word (u % 64)) (bit x (u % 64)) (eqb (u % 64) b) (inside (u % 64) small) (λ q. rw (eqb-true (u % 64) b q) (l .here)))
+          go (inr e) = rw (e, other-word u e)
+
+      pub bits-next : {next₀ hops₀ next hops : List ℕ} (next′ : List ℕ) → BitsVisited next₀ hops₀ next hops x → 64 * W ≤ length hops
+          → next′ ≡ overwrite (encodeRow W (λ v. rowBit W next v || tableBit W links (64 * w + b) v)) next → length next′ ≡ length next
+          → BitsVisited next₀ hops₀ next′ (set hops (64 * w + b) k) y
+      bits-next {next₀} {hops₀} {next} {hops} next′ I m e same = record {
+        inside = λ c h q. I .inside c h (and-true (bit x c) (not (eqb c b)) (sym (left c h) ∙ q) .0);
+        now-is =
+            visit-one (64 * w + b) next next′ hops (omega (arith, l .below)) m e
+            ∙ ap (visit (λ u. eqb u (64 * w + b))) (I .now-is)
+            ∙ visit-both (λ u. inWord w word u && not (inWord w x u)) (λ u. eqb u (64 * w + b)) (visited next₀ hops₀)
+            ∙ visit-ext (λ u. (inWord w word u && not (inWord w x u)) || eqb u (64 * w + b)) (λ u. inWord w word u && not (inWord w y u)) (visited next₀ hops₀) (λ u h. bits-one (I .inside) u);
+        next-length = same ∙ I .next-length;
+        hops-length = length-set hops (64 * w + b) k ∙ I .hops-length;
+      }
+
+    -- no bit is left
+    pub bits-end : {next₀ hops₀ next hops : List ℕ} (x : ℕ) → BitsVisited next₀ hops₀ next hops x → x ≡ 0 → visited next hops ≡ visit (inWord w word) (visited next₀ hops₀)
+    unfolding inWord
+    bits-end {next₀} {hops₀} x I z =
+        I .now-is ∙ visit-ext (λ u. inWord w word u && not (inWord w x u)) (inWord w word) (visited next₀ hops₀) (λ u h. all (inWord w word u) (eqb (u / 64) w) (bit x (u % 64)) (rw z (bit-of-zero (u % 64))))
       where
-        p : ℕ → ℕ → Bool
-        p a u = ltb u a && (rowBit W layer u && tableBit W links u x)
+        all : (a p q : Bool) → q ≡ false → (a && not (p && q)) ≡ a
+        all true true q e = rw e
+        all true false q e = refl
+        all false p q e = refl
 
-        to : (reachedBelow at x ≡ true) ⊎ (tableBit W links v x ≡ true) → reachedBelow (v + 1) x ≡ true
-        to (inl h) =
-            let y = any-elim (p at) (range (64 * W)) h in
-            let z = and-true (ltb (y .0) at) (rowBit W layer (y .0) && tableBit W links (y .0) x) (y .2) in
-            let l : y .0 < at = ltb-true (y .0) at (z .0) in
-            let a : at ≤ v = n .after in
-            any-intro (p (v + 1)) (range (64 * W)) (y .1) (and-intro (lt-ltb (y .0) (v + 1) (omega arith)) (z .1))
-        to (inr h) = any-intro (p (v + 1)) (range (64 * W)) (range-in (64 * W) (n .inside)) (and-intro (lt-ltb v (v + 1) (omega arith)) (and-intro (n .here) h))
+  -- ---- the words of a layer
 
-        from : reachedBelow (v + 1) x ≡ true → (reachedBelow at x || tableBit W links v x) ≡ true
-        from h =
-            let y = any-elim (p (v + 1)) (range (64 * W)) h in
-            let z = and-true (ltb (y .0) (v + 1)) (rowBit W layer (y .0) && tableBit W links (y .0) x) (y .2) in
-            let w = and-true (rowBit W layer (y .0)) (tableBit W links (y .0) x) (z .1) in
-            go (y .0) (y .1) w (below-cases (y .0) (ltb-true (y .0) (v + 1) (z .0)) (w .0))
-          where
-            go : (u : ℕ) → mathlib.Core.List.List·Memᴰ u (range (64 * W)) → (rowBit W layer u ≡ true) × (tableBit W links u x ≡ true) → (u < at) ⊎ (u ≡ v) → (reachedBelow at x || tableBit W links v x) ≡ true
-            go u m w (inl l) = or-left (tableBit W links v x) (any-intro (p at) (range (64 * W)) m (and-intro (lt-ltb u at l) (and-intro (w .0) (w .1))))
-            go u m w (inr e) = or-right (reachedBelow at x) (subst (λ (y : ℕ). tableBit W links y x ≡ true) e (w .1))
+  module _ (layer : List ℕ) where
+    -- the members in the first w words are visited
+    pub record WordsVisited (next₀ hops₀ next hops : List ℕ) (w : ℕ) : Type 0 where
+      pub within : w ≤ W
+      pub now-is : visited next hops ≡ visit (λ u. ltb u (64 * w) && rowBit W layer u) (visited next₀ hops₀)
+      pub next-length : length next ≡ length next₀
+      pub hops-length : length hops ≡ length hops₀
 
-    hop-here : (hops : List ℕ) → k ≡ hopBelow hops (v + 1) v
-    unfolding hopBelow
-    hop-here hops = rw (lt-ltb v (v + 1) (omega arith), n .here)
+    pub words-start : (next hops : List ℕ) → W ≤ length next → ((i : ℕ) → i < W → getD next i 0 < 2 ^ 64) → 64 * W ≤ length hops → WordsVisited next hops next hops 0
+    words-start next hops l fits m = record {
+      within = omega arith;
+      now-is = visit-none next hops l fits m ∙ visit-ext (λ u. false) (λ u. ltb u (64 * 0) && rowBit W layer u) (visited next hops) (λ u h. rw (le-ltb u (64 * 0) (omega arith)));
+      next-length = refl;
+      hops-length = refl;
+    }
 
-    hop-other : (hops : List ℕ) (i : ℕ) → i ≢ v → hopBelow hops at i ≡ hopBelow hops (v + 1) i
-    unfolding hopBelow
-    hop-other hops i ne = ap (λ (b : Bool). cond b k (getD hops i 0)) (same-test (ltb i at && rowBit W layer i) (ltb i (v + 1) && rowBit W layer i) to (λ h. from (and-true (ltb i (v + 1)) (rowBit W layer i) h)))
+    -- one word more
+    words-one : (w : ℕ) → w < W → (u : ℕ) → u < 64 * W → ((ltb u (64 * w) && rowBit W layer u) || inWord w (getD layer w 0) u) ≡ (ltb u (64 * (w + 1)) && rowBit W layer u)
+    unfolding inWord
+    words-one w h u l = go (lt-or-ge u (64 * w)) (lt-or-ge u (64 * (w + 1)))
       where
-        to : (ltb i at && rowBit W layer i) ≡ true → (ltb i (v + 1) && rowBit W layer i) ≡ true
-        to h =
-            let z = and-true (ltb i at) (rowBit W layer i) h in
-            let l : i < at = ltb-true i at (z .0) in
-            let a : at ≤ v = n .after in
-            and-intro (lt-ltb i (v + 1) (omega arith)) (z .1)
+        or-false : (b : Bool) → (b || false) ≡ b
+        or-false true = refl
+        or-false false = refl
 
-        from : (ltb i (v + 1) ≡ true) × (rowBit W layer i ≡ true) → (ltb i at && rowBit W layer i) ≡ true
-        from z = go (below-cases i (ltb-true i (v + 1) (z .0)) (z .1))
-          where
-            go : (i < at) ⊎ (i ≡ v) → (ltb i at && rowBit W layer i) ≡ true
-            go (inl l) = and-intro (lt-ltb i at l) (z .1)
-            go (inr e) = absurd (ne e)
+        go : (u < 64 * w) ⊎ (64 * w ≤ u) → (u < 64 * (w + 1)) ⊎ (64 * (w + 1) ≤ u)
+            → ((ltb u (64 * w) && rowBit W layer u) || inWord w (getD layer w 0) u) ≡ (ltb u (64 * (w + 1)) && rowBit W layer u)
+        go (inl a) c = rw (lt-ltb u (64 * w) a, lt-ltb u (64 * (w + 1)) (omega arith), ne-eqb (u / 64) w (λ q. lt-irrefl u (omega arith))) (or-false (rowBit W layer u))
+        go (inr a) (inl c) =
+            let q : u / 64 ≡ w = omega arith in
+            rw (le-ltb u (64 * w) a, lt-ltb u (64 * (w + 1)) c, eq-eqb (u / 64) w q)
+            (sym (row-in W layer u l ∙ ap (λ (i : ℕ). bit (getD layer i 0) (u % 64)) q))
+        go (inr a) (inr c) = rw (le-ltb u (64 * w) a, le-ltb u (64 * (w + 1)) c, ne-eqb (u / 64) w (λ q. lt-irrefl u (omega arith)))
 
-    pub visit-more : {next₀ hops₀ next hops : List ℕ} (next′ : List ℕ) → Visiting next₀ hops₀ next hops at → W ≤ length next₀ → 64 * W ≤ length hops₀
-        → next′ ≡ overwrite (encodeRow W (λ x. rowBit W next x || tableBit W links v x)) next → Visiting next₀ hops₀ next′ (set hops v k) (v + 1)
-    visit-more {next₀} {hops₀} {next} {hops} next′ I ln lh e =
-        let is : next′ ≡ overwrite (encodeRow W (reachedBelow (v + 1))) next₀ =
-        e ∙ ap (λ (l : List ℕ). overwrite (encodeRow W (λ x. rowBit W next x || tableBit W links v x)) l) (I .next-is)
-        ∙ row-over W (λ x. rowBit W next x || tableBit W links v x) (reachedBelow at) next₀
-        ∙ ap (λ (r : List ℕ). overwrite r next₀) (encode-row-ext W (λ x. rowBit W next x || tableBit W links v x) (reachedBelow (v + 1)) bits) in
-        record {
-          within = omega (arith, n .inside);
-          next-is = is;
-          hops-is =
-              ap (λ (l : List ℕ). set l v k) (I .hops-is)
-              ∙ fill-put (hopBelow hops₀ at) (hopBelow hops₀ (v + 1)) (64 * W) hops₀ v k (n .inside) (hop-here hops₀) (λ i m ne. hop-other hops₀ i ne);
-          next-length = ap length is ∙ overwrite-length (encodeRow W (reachedBelow (v + 1))) next₀ (subst (λ (m : ℕ). m ≤ length next₀) (sym (encode-row-length W (reachedBelow (v + 1)))) ln);
-          hops-length = length-set hops v k ∙ I .hops-length;
-        }
-      where
-        bits : (x : ℕ) → x < 64 * W → (rowBit W next x || tableBit W links v x) ≡ reachedBelow (v + 1) x
-        bits x m =
-            ap (λ (b : Bool). b || tableBit W links v x) (ap (λ (l : List ℕ). rowBit W l x) (I .next-is) ∙ row-read W (reachedBelow at) next₀ x ∙ ap (λ (b : Bool). b && reachedBelow at x) (lt-ltb x (64 * W) m))
-            ∙ reached-more x
+    pub words-next : {next₀ hops₀ next hops : List ℕ} (w : ℕ) (next′ hops′ : List ℕ) → WordsVisited next₀ hops₀ next hops w → w < W
+        → visited next′ hops′ ≡ visit (inWord w (getD layer w 0)) (visited next hops) → length next′ ≡ length next → length hops′ ≡ length hops
+        → WordsVisited next₀ hops₀ next′ hops′ (w + 1)
+    words-next {next₀} {hops₀} w next′ hops′ I h e n m = record {
+      within = omega arith;
+      now-is =
+          e ∙ ap (visit (inWord w (getD layer w 0))) (I .now-is)
+          ∙ visit-both (λ u. ltb u (64 * w) && rowBit W layer u) (inWord w (getD layer w 0)) (visited next₀ hops₀)
+          ∙ visit-ext (λ u. (ltb u (64 * w) && rowBit W layer u) || inWord w (getD layer w 0) u) (λ u. ltb u (64 * (w + 1)) && rowBit W layer u) (visited next₀ hops₀) (words-one w h);
+      next-length = n ∙ I .next-length;
+      hops-length = m ∙ I .hops-length;
+    }
 
-  -- no member is left
-  module _ (at : ℕ) (none : (u : ℕ) → at ≤ u → rowBit W layer u ≡ false) where
-    all-below : (u : ℕ) → (ltb u at && rowBit W layer u) ≡ rowBit W layer u
-    all-below u = go (lt-or-ge u at)
-      where
-        go : (u < at) ⊎ (at ≤ u) → (ltb u at && rowBit W layer u) ≡ rowBit W layer u
-        go (inl l) = rw (lt-ltb u at l)
-        go (inr l) = rw (none u l, le-ltb u at l)
-
-    reached-all : (v : ℕ) → reachedBelow at v ≡ reaches W links layer v
-    unfolding reachedBelow reaches
-    reached-all v = same-test (reachedBelow at v) (reaches W links layer v) to from
-      where
-        to : reachedBelow at v ≡ true → reaches W links layer v ≡ true
-        to h =
-            let y = any-elim (λ u. ltb u at && (rowBit W layer u && tableBit W links u v)) (range (64 * W)) h in
-            any-intro (λ u. rowBit W layer u && tableBit W links u v) (range (64 * W)) (y .1) (and-true (ltb (y .0) at) _ (y .2) .1)
-
-        from : reaches W links layer v ≡ true → reachedBelow at v ≡ true
-        from h =
-            let y = any-elim (λ u. rowBit W layer u && tableBit W links u v) (range (64 * W)) h in
-            let z = and-true (rowBit W layer (y .0)) (tableBit W links (y .0) v) (y .2) in
-            any-intro (λ u. ltb u at && (rowBit W layer u && tableBit W links u v)) (range (64 * W)) (y .1)
-            (and-intro (and-true (ltb (y .0) at) (rowBit W layer (y .0)) (all-below (y .0) ∙ z .0) .0) (y .2))
-
-    hop-all : (hops : List ℕ) (v : ℕ) → hopBelow hops at v ≡ cond (rowBit W layer v) k (getD hops v 0)
-    unfolding hopBelow
-    hop-all hops v = ap (λ (b : Bool). cond b k (getD hops v 0)) (all-below v)
-
-    pub visit-end : {next₀ hops₀ next hops : List ℕ} (entry : List ℕ) → Visiting next₀ hops₀ next hops at → next₀ ≡ overwrite (encodeRow W (λ v. false)) entry
-        → visited next hops ≡ visitOf W links layer k (visited entry hops₀)
-    unfolding visitOf
-    visit-end {next₀} {hops₀} {next} {hops} entry I e =
-        ap₂ visited
-        (I .next-is ∙ ap (overwrite (encodeRow W (reachedBelow at))) e ∙ row-over W (reachedBelow at) (λ v. false) entry
-        ∙ ap (λ (r : List ℕ). overwrite r entry) (encode-row-ext W (reachedBelow at) (reaches W links layer) (λ v m. reached-all v)))
-        (I .hops-is ∙ ap (λ (r : List ℕ). overwrite r hops₀) (fill-ext (hopBelow hops₀ at) (λ v. cond (rowBit W layer v) k (getD hops₀ v 0)) (64 * W) (λ v m. hop-all hops₀ v)))
+    -- no word is left, and next was cleared
+    pub words-end : {next₀ hops₀ next hops : List ℕ} (w : ℕ) (entry : List ℕ) → WordsVisited next₀ hops₀ next hops w → W ≤ w
+        → next₀ ≡ overwrite (encodeRow W (λ v. false)) entry → visited next hops ≡ visitOf W links layer k (visited entry hops₀)
+    unfolding visitSet visitOf reaches
+    words-end {next₀} {hops₀} w entry I h e =
+        I .now-is
+        ∙ visit-ext (λ u. ltb u (64 * w) && rowBit W layer u) (rowBit W layer) (visited next₀ hops₀) (λ u m. rw (lt-ltb u (64 * w) (omega arith)))
+        ∙ ap (λ (n : List ℕ). visited n (overwrite (mapl (λ v. cond (rowBit W layer v) k (getD hops₀ v 0)) (range (64 * W))) hops₀))
+        (ap (λ (n : List ℕ). overwrite (encodeRow W (λ v. rowBit W n v || from (rowBit W layer) v)) n) e
+        ∙ row-again W (λ v. false) (λ b v. b || from (rowBit W layer) v) entry)

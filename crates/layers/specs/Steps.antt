@@ -2,11 +2,12 @@
 -- Assumes nothing.
 use mathlib.Core.Bool.{Bool, false, cond, not, _&&_, _||_}
 use mathlib.Core.List.{List}
-use Prim.Native.Nat.{ℕ, _*_, _≤_, _<_}
+use Prim.Native.Nat.{ℕ, _*_, _/_, _%_, _≤_, _<_}
 use lib.Dec.{eqb}
 use lib.ListN.{length, getD}
 use Rattle.lists.specs.Lists.{range, mapl, anyb, overwrite}
 use Rattle.graph.specs.Distance.{unreached}
+use Rattle.words.specs.Bits.{bit}
 use Rattle.rows.specs.Rows.{rowBit, tableBit, encodeRow}
 use Rattle.layers.specs.Layers.{Tables}
 
@@ -18,7 +19,7 @@ reaches W links layer v = anyb (λ u. rowBit W layer u && tableBit W links u v) 
 unfoldable pub fresh : ℕ → List ℕ → List ℕ → List ℕ → ℕ → Bool
 fresh W links layer seen v = reaches W links layer v && not (rowBit W seen v)
 
--- a visit of the layer's members: each gets the hop k, and the codes linked to it come into next
+-- next and the hop table, as a visit changes them
 pub record Visited : Type 0 where
   pub next : List ℕ
   pub hops : List ℕ
@@ -26,10 +27,53 @@ pub record Visited : Type 0 where
 abbrev pub visited : List ℕ → List ℕ → Visited
 visited n h = record { next = n; hops = h }
 
+-- a visit of the members of a set: each gets the hop k, and the codes linked to it come into next beside what stands there
+unfoldable pub visitSet : ℕ → List ℕ → ℕ → (ℕ → Bool) → Visited → Visited
+visitSet W links k S B = record {
+  next = overwrite (encodeRow W (λ v. rowBit W (B .next) v || anyb (λ u. S u && tableBit W links u v) (range (64 * W)))) (B .next);
+  hops = overwrite (mapl (λ v. cond (S v) k (getD (B .hops) v 0)) (range (64 * W))) (B .hops);
+}
+
+-- the members that x holds as word w of a row
+unfoldable pub inWord : ℕ → ℕ → ℕ → Bool
+inWord w x u = eqb (u / 64) w && bit x (u % 64)
+
+-- a visit of the layer's members: each gets the hop k, and the codes linked to it are next
 unfoldable pub visitOf : ℕ → List ℕ → List ℕ → ℕ → Visited → Visited
 visitOf W links layer k B = record {
   next = overwrite (encodeRow W (reaches W links layer)) (B .next);
   hops = overwrite (mapl (λ v. cond (rowBit W layer v) k (getD (B .hops) v 0)) (range (64 * W))) (B .hops);
+}
+
+-- the codes of next that are not seen
+unfoldable pub isUnseen : ℕ → List ℕ → List ℕ → ℕ → Bool
+isUnseen W seen next v = rowBit W next v && not (rowBit W seen v)
+
+-- next with these alone; `some`: there is one
+pub record Unseen : Type 0 where
+  pub some : Bool
+  pub next : List ℕ
+
+abbrev pub unseen : Bool → List ℕ → Unseen
+unseen b n = record { some = b; next = n }
+
+unfoldable pub unseenOf : ℕ → List ℕ → List ℕ → Unseen
+unseenOf W seen next =
+    let new = isUnseen W seen next in
+    unseen (anyb new (range (64 * W))) (overwrite (encodeRow W new) next)
+
+-- next made the other row's, and seen
+pub record Passed : Type 0 where
+  pub other : List ℕ
+  pub seen : List ℕ
+
+abbrev pub passed : List ℕ → List ℕ → Passed
+passed o s = record { other = o; seen = s }
+
+unfoldable pub passOn : ℕ → List ℕ → Passed → Passed
+passOn W next B = record {
+  other = overwrite (encodeRow W (rowBit W next)) (B .other);
+  seen = overwrite (encodeRow W (λ v. rowBit W (B .seen) v || rowBit W next v)) (B .seen);
 }
 
 -- one step from the layer at distance k to the next one, which goes into the other row; `more`: there is a next layer

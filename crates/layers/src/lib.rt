@@ -3,8 +3,7 @@ ghost use Prim.Native.Nat.{_+_, _*_, _<_, _≤_};
 ghost use lib.ListN.{length};
 ghost use Rattle.lists.specs.Lists.{range, mapl, overwrite};
 ghost use Rattle.layers.specs.Layers.{tables, searched, searchTable};
-ghost use Rattle.layers.specs.Steps.{visited, visitOf, stepped, stepOf, begun, beginOf, Room};
-use rows::Next;
+ghost use Rattle.layers.specs.Steps.{inWord, visited, visitSet, visitOf, unseen, unseenOf, passed, passOn, stepped, stepOf, begun, beginOf, Room};
 
 // Puts x into the first n places of a table of numbers.
 pub fn fill(table: &mut [u16], n: usize, x: u16)
@@ -18,27 +17,75 @@ pub fn fill(table: &mut [u16], n: usize, x: u16)
     }
 }
 
-// Visits the members of a layer: each gets the hop k, and the codes linked to it come into next.
-pub fn visit(next: &mut [u64], hops: &mut [u16], links: &[u64], layer: &[u64], words: usize, k: u16)
+// Visits the members that word w of a layer holds: each gets the hop k, and the codes linked to it come into next, beside those there already.
+// The word is a copy, from which each member leaves as it is visited.
+fn visit_word(
+    next: &mut [u64],
+    hops: &mut [u16],
+    links: &[u64],
+    words: usize,
+    w: usize,
+    word: u64,
+    k: u16,
+)
+    requires { ⌜ Room words (now links) (now hops) × (words ≤ length (now next)) × (w < words) ⌝ }
+    ensures { λ r. ⌜ visited (now (next .exit)) (now (hops .exit)) ≡ visitSet words (now (links .entry)) k (inWord w word) (visited (now (next .entry)) (now (hops .entry))) ⌝ }
+{
+    let mut x = word;
+    while x != 0 {
+        let v = 64 * w + words::least(x);
+        hops[v] = k;
+        rows::add_row(next, links, words, v);
+        x = words::drop_least(x);
+    }
+}
+
+// Visits the members of a layer, word by word: each gets the hop k, and the codes linked to it come into next.
+fn visit(next: &mut [u64], hops: &mut [u16], links: &[u64], layer: &[u64], words: usize, k: u16)
     requires { ⌜ Room words (now links) (now hops) × (words ≤ length (now next)) × (words ≤ length (now layer)) ⌝ }
     ensures { λ r. ⌜ visited (now (next .exit)) (now (hops .exit)) ≡ visitOf words (now (links .entry)) (now (layer .entry)) k (visited (now (next .entry)) (now (hops .entry))) ⌝ }
 {
     rows::clear(next, words);
-    let mut from = 0;
-    loop {
-        let found = rows::next_member(layer, words, from);
-        let Next::At(v) = found else {
-            return;
-        };
-        hops[v] = k;
-        rows::add_row(next, links, words, v);
-        from = v + 1;
+    let mut w = 0;
+    while w < words {
+        visit_word(next, hops, links, words, w, layer[w], k);
+        w += 1;
+    }
+}
+
+// Takes the codes that are seen out of next, and answers whether one is left: the or of all words tells by one test at the end.
+fn keep_unseen(next: &mut [u64], seen: &[u64], words: usize) -> bool
+    requires { ⌜ (words ≤ length (now next)) × (words ≤ length (now seen)) ⌝ }
+    ensures { λ r. ⌜ unseen r (now (next .exit)) ≡ unseenOf words (now (seen .entry)) (now (next .entry)) ⌝ }
+{
+    let mut all: u64 = 0;
+    let mut j = 0;
+    while j < words {
+        let x = next[j] & !seen[j];
+        next[j] = x;
+        all = all | x;
+        j += 1;
+    }
+    all != 0
+}
+
+// Puts next into the other row, and its codes among those seen.
+fn pass_on(other: &mut [u64], seen: &mut [u64], next: &[u64], words: usize)
+    requires { ⌜ (words ≤ length (now other)) × (words ≤ length (now seen)) × (words ≤ length (now next)) ⌝ }
+    ensures { λ r. ⌜ passed (now (other .exit)) (now (seen .exit)) ≡ passOn words (now (next .entry)) (passed (now (other .entry)) (now (seen .entry))) ⌝ }
+{
+    let mut j = 0;
+    while j < words {
+        let x = next[j];
+        other[j] = x;
+        seen[j] = seen[j] | x;
+        j += 1;
     }
 }
 
 // One step of a search, from the layer at distance k to the next one, which goes into the other row and is seen.
 // Answers whether there is a next layer. What stands in next afterwards is free.
-pub fn step(
+fn step(
     hops: &mut [u16],
     other: &mut [u64],
     seen: &mut [u64],
@@ -52,12 +99,10 @@ pub fn step(
     ensures { λ r. ⌜ stepped r (now (hops .exit)) (now (other .exit)) (now (seen .exit)) ≡ stepOf words (now (links .entry)) (now (layer .entry)) k (now (hops .entry)) (now (other .entry)) (now (seen .entry)) ⌝ }
 {
     visit(next, hops, links, layer, words, k);
-    rows::remove_row(next, &*seen, words);
-    if rows::is_empty(&*next, words) {
+    if !keep_unseen(next, &*seen, words) {
         return false;
     }
-    rows::copy(other, &*next, words);
-    rows::add_row(seen, &*next, words, 0);
+    pass_on(other, seen, &*next, words);
     true
 }
 
