@@ -1,9 +1,10 @@
 -- What `step` makes of next, the other row and seen. Assumes nothing.
-use mathlib.Core.Path.{_≡_, refl, sym, ap, ap₂, _∙_}
+use mathlib.Core.Path.{_≡_, sym, ap, _∙_}
 use mathlib.Core.Bool.{Bool, true, false, cond, not, _&&_, _||_}
 use mathlib.Core.List.{List}
 use Prim.Native.Nat.{ℕ, _*_, _<_}
 use lib.ListN.{getD}
+use borrow.Author.Tests.{not-true, not-false}
 use Rattle.lists.specs.Lists.{range, mapl, anyb, overwrite}
 use Rattle.lists.proofs.Members.{any-ext, range-out}
 use Rattle.rows.specs.Rows.{rowBit, encodeRow}
@@ -34,22 +35,14 @@ module _ (W : ℕ) (links layer seen : List ℕ) (next₀ next₁ next₂ : List
   -- no code is fresh
   pub step-none : (other : List ℕ) → not b ≡ true → stepped false hops₁ other seen ≡ stepOf W links layer k hops₀ other seen
   unfolding stepOf
-  step-none other q = rw (more-is ∙ back b q, hops-are)
-    where
-      back : (x : Bool) → not x ≡ true → x ≡ false
-      back true e = sym e
-      back false e = refl
+  step-none other q = rw (more-is ∙ not-true b q, hops-are)
 
   -- some code is
   pub step-more : (other other′ seen′ : List ℕ) → not b ≡ false → passed other′ seen′ ≡ passOn W next₂ (passed other seen)
       → stepped true hops₁ other′ seen′ ≡ stepOf W links layer k hops₀ other seen
   unfolding stepOf passOn
-  step-more other other′ seen′ q e = rw (more-is ∙ back b q, hops-are, is-other, is-seen)
+  step-more other other′ seen′ q e = rw (more-is ∙ not-false b q, hops-are, is-other, is-seen)
     where
-      back : (x : Bool) → not x ≡ false → x ≡ true
-      back true e = refl
-      back false e = sym e
-
       is-other : other′ ≡ overwrite (encodeRow W (fresh W links layer seen)) other
       is-other = ap (λ (x : Passed). x .other) e ∙ ap (λ (r : List ℕ). overwrite r other) (encode-row-ext W (rowBit W next₂) (fresh W links layer seen) new-bit)
 

@@ -4,7 +4,7 @@ use mathlib.Core.Path.{_≡_, refl, sym, ap, ap₂, _∙_, subst}
 use mathlib.Core.Logic.{_≢_, _⊎_, inl, inr}
 use mathlib.Core.Bool.{Bool, true, false, cond, not, _&&_, _||_}
 use mathlib.Core.List.{List, List·Memᴰ}
-use Prim.Native.Nat.{ℕ, _+_, _-_, _*_, _/_, _%_, _^_, _≤_, _<_}
+use Prim.Native.Nat.{ℕ, _+_, _*_, _/_, _%_, _^_, _≤_, _<_}
 use native.Mathlib.Nat.{lt-irrefl}
 use native.Mathlib.Omega.{arith}
 use lib.Dec.{eqb, ltb}
@@ -23,40 +23,44 @@ use Rattle.rows.proofs.Written.{row-in}
 use Rattle.rows.proofs.Wholes.{encode-row-ext, row-whole, row-again}
 use Rattle.layers.specs.Steps.{inWord, reaches, Visited, visited, visitSet, visitOf}
 
+or-false : (b : Bool) → (b || false) ≡ b
+or-false true = refl
+or-false false = refl
+
 module _ (W : ℕ) (links : List ℕ) (k : ℕ) where
   -- what the members of S are linked to
-  abbrev from : (ℕ → Bool) → ℕ → Bool
-  from S v = anyb (λ u. S u && tableBit W links u v) (range (64 * W))
+  abbrev linkedTo : (ℕ → Bool) → ℕ → Bool
+  linkedTo S v = anyb (λ u. S u && tableBit W links u v) (range (64 * W))
 
   -- ---- sets
 
-  from-ext : (S R : ℕ → Bool) → ((u : ℕ) → u < 64 * W → S u ≡ R u) → (v : ℕ) → from S v ≡ from R v
-  from-ext S R h v =
+  linked-ext : (S R : ℕ → Bool) → ((u : ℕ) → u < 64 * W → S u ≡ R u) → (v : ℕ) → linkedTo S v ≡ linkedTo R v
+  linked-ext S R h v =
       any-ext (λ u. S u && tableBit W links u v) (λ u. R u && tableBit W links u v) (range (64 * W))
       (λ u m. ap (λ (b : Bool). b && tableBit W links u v) (h u (range-out (64 * W) m)))
 
-  from-none : (v : ℕ) → from (λ u. false) v ≡ false
-  from-none v = any-none (λ u. false && tableBit W links u v) (range (64 * W)) (λ u m. refl)
+  linked-none : (v : ℕ) → linkedTo (λ u. false) v ≡ false
+  linked-none v = any-none (λ u. false && tableBit W links u v) (range (64 * W)) (λ u m. refl)
 
-  from-one : (m : ℕ) → m < 64 * W → (v : ℕ) → from (λ u. eqb u m) v ≡ tableBit W links m v
-  from-one m l v = same-test (from (λ u. eqb u m) v) (tableBit W links m v) to (λ h. any-intro p (range (64 * W)) (range-in (64 * W) l) (and-intro (eq-eqb m m refl) h))
+  linked-one : (m : ℕ) → m < 64 * W → (v : ℕ) → linkedTo (λ u. eqb u m) v ≡ tableBit W links m v
+  linked-one m l v = same-test (linkedTo (λ u. eqb u m) v) (tableBit W links m v) to (λ h. any-intro p (range (64 * W)) (range-in (64 * W) l) (and-intro (eq-eqb m m refl) h))
     where
       p : ℕ → Bool
       p u = eqb u m && tableBit W links u v
 
-      to : from (λ u. eqb u m) v ≡ true → tableBit W links m v ≡ true
+      to : linkedTo (λ u. eqb u m) v ≡ true → tableBit W links m v ≡ true
       to h =
           let y = any-elim p (range (64 * W)) h in
           let z = and-true (eqb (y .0) m) (tableBit W links (y .0) v) (y .2) in
           subst (λ (u : ℕ). tableBit W links u v ≡ true) (eqb-true (y .0) m (z .0)) (z .1)
 
-  from-both : (S R : ℕ → Bool) (v : ℕ) → (from S v || from R v) ≡ from (λ u. S u || R u) v
-  from-both S R v = same-test (from S v || from R v) (from (λ u. S u || R u) v) (λ h. to (or-true (from S v) (from R v) h)) back
+  linked-both : (S R : ℕ → Bool) (v : ℕ) → (linkedTo S v || linkedTo R v) ≡ linkedTo (λ u. S u || R u) v
+  linked-both S R v = same-test (linkedTo S v || linkedTo R v) (linkedTo (λ u. S u || R u) v) (λ h. to (or-true (linkedTo S v) (linkedTo R v) h)) back
     where
       p : (ℕ → Bool) → ℕ → Bool
       p Q u = Q u && tableBit W links u v
 
-      to : (from S v ≡ true) ⊎ (from R v ≡ true) → from (λ u. S u || R u) v ≡ true
+      to : (linkedTo S v ≡ true) ⊎ (linkedTo R v ≡ true) → linkedTo (λ u. S u || R u) v ≡ true
       to (inl h) =
           let y = any-elim (p S) (range (64 * W)) h in
           let z = and-true (S (y .0)) (tableBit W links (y .0) v) (y .2) in
@@ -66,15 +70,15 @@ module _ (W : ℕ) (links : List ℕ) (k : ℕ) where
           let z = and-true (R (y .0)) (tableBit W links (y .0) v) (y .2) in
           any-intro (p (λ u. S u || R u)) (range (64 * W)) (y .1) (and-intro (or-right (S (y .0)) (z .0)) (z .1))
 
-      back : from (λ u. S u || R u) v ≡ true → (from S v || from R v) ≡ true
+      back : linkedTo (λ u. S u || R u) v ≡ true → (linkedTo S v || linkedTo R v) ≡ true
       back h =
           let y = any-elim (p (λ u. S u || R u)) (range (64 * W)) h in
           let z = and-true (S (y .0) || R (y .0)) (tableBit W links (y .0) v) (y .2) in
           on (y .0) (y .1) (z .1) (or-true (S (y .0)) (R (y .0)) (z .0))
         where
-          on : (u : ℕ) → List·Memᴰ u (range (64 * W)) → tableBit W links u v ≡ true → (S u ≡ true) ⊎ (R u ≡ true) → (from S v || from R v) ≡ true
-          on u m t (inl a) = or-left (from R v) (any-intro (p S) (range (64 * W)) m (and-intro a t))
-          on u m t (inr a) = or-right (from S v) (any-intro (p R) (range (64 * W)) m (and-intro a t))
+          on : (u : ℕ) → List·Memᴰ u (range (64 * W)) → tableBit W links u v ≡ true → (S u ≡ true) ⊎ (R u ≡ true) → (linkedTo S v || linkedTo R v) ≡ true
+          on u m t (inl a) = or-left (linkedTo R v) (any-intro (p S) (range (64 * W)) m (and-intro a t))
+          on u m t (inr a) = or-right (linkedTo S v) (any-intro (p R) (range (64 * W)) m (and-intro a t))
 
   -- ---- visits of them
 
@@ -82,60 +86,56 @@ module _ (W : ℕ) (links : List ℕ) (k : ℕ) where
   visit S B = visitSet W links k S B
 
   -- the same members
-  pub visit-ext : (S R : ℕ → Bool) (B : Visited) → ((u : ℕ) → u < 64 * W → S u ≡ R u) → visit S B ≡ visit R B
+  visit-ext : (S R : ℕ → Bool) (B : Visited) → ((u : ℕ) → u < 64 * W → S u ≡ R u) → visit S B ≡ visit R B
   unfolding visitSet
   visit-ext S R B h =
       ap₂ visited
       (ap (λ (r : List ℕ). overwrite r (B .next))
-      (encode-row-ext W (λ v. rowBit W (B .next) v || from S v) (λ v. rowBit W (B .next) v || from R v) (λ v m. ap (λ (b : Bool). rowBit W (B .next) v || b) (from-ext S R h v))))
+      (encode-row-ext W (λ v. rowBit W (B .next) v || linkedTo S v) (λ v. rowBit W (B .next) v || linkedTo R v) (λ v m. ap (λ (b : Bool). rowBit W (B .next) v || b) (linked-ext S R h v))))
       (ap (λ (r : List ℕ). overwrite r (B .hops))
       (fill-ext (λ v. cond (S v) k (getD (B .hops) v 0)) (λ v. cond (R v) k (getD (B .hops) v 0)) (64 * W) (λ v m. ap (λ (b : Bool). cond b k (getD (B .hops) v 0)) (h v m))))
 
   -- nobody
-  pub visit-none : (next hops : List ℕ) → W ≤ length next → ((i : ℕ) → i < W → getD next i 0 < 2 ^ 64) → 64 * W ≤ length hops
+  visit-none : (next hops : List ℕ) → W ≤ length next → ((i : ℕ) → i < W → getD next i 0 < 2 ^ 64) → 64 * W ≤ length hops
       → visited next hops ≡ visit (λ u. false) (visited next hops)
   unfolding visitSet
   visit-none next hops l fits m =
       ap₂ visited
       (row-whole W next l fits
-      ∙ ap (λ (r : List ℕ). overwrite r next) (encode-row-ext W (rowBit W next) (λ v. rowBit W next v || from (λ u. false) v) (λ v h. sym (ap (λ (b : Bool). rowBit W next v || b) (from-none v) ∙ or-false (rowBit W next v)))))
+      ∙ ap (λ (r : List ℕ). overwrite r next) (encode-row-ext W (rowBit W next) (λ v. rowBit W next v || linkedTo (λ u. false) v) (λ v h. sym (ap (λ (b : Bool). rowBit W next v || b) (linked-none v) ∙ or-false (rowBit W next v)))))
       (fill-whole (λ v. getD hops v 0) (64 * W) hops m (λ v h. refl))
-    where
-      or-false : (b : Bool) → (b || false) ≡ b
-      or-false true = refl
-      or-false false = refl
 
   -- one member, as the code visits it
-  pub visit-one : (v : ℕ) (next next′ hops : List ℕ) → v < 64 * W → 64 * W ≤ length hops
+  visit-one : (v : ℕ) (next next′ hops : List ℕ) → v < 64 * W → 64 * W ≤ length hops
       → next′ ≡ overwrite (encodeRow W (λ x. rowBit W next x || tableBit W links v x)) next
       → visited next′ (set hops v k) ≡ visit (λ u. eqb u v) (visited next hops)
   unfolding visitSet
   visit-one v next next′ hops l m e =
       ap₂ visited
       (e ∙ ap (λ (r : List ℕ). overwrite r next)
-      (encode-row-ext W (λ x. rowBit W next x || tableBit W links v x) (λ x. rowBit W next x || from (λ u. eqb u v) x) (λ x h. ap (λ (b : Bool). rowBit W next x || b) (sym (from-one v l x)))))
+      (encode-row-ext W (λ x. rowBit W next x || tableBit W links v x) (λ x. rowBit W next x || linkedTo (λ u. eqb u v) x) (λ x h. ap (λ (b : Bool). rowBit W next x || b) (sym (linked-one v l x)))))
       (ap (λ (t : List ℕ). set t v k) (fill-whole (λ u. getD hops u 0) (64 * W) hops m (λ u h. refl))
       ∙ fill-put (λ u. getD hops u 0) (λ u. cond (eqb u v) k (getD hops u 0)) (64 * W) hops v k l (rw (eq-eqb v v refl)) (λ u h ne. rw (ne-eqb u v ne)))
 
   -- one set after another
-  pub visit-both : (S R : ℕ → Bool) (B : Visited) → visit R (visit S B) ≡ visit (λ u. S u || R u) B
+  visit-both : (S R : ℕ → Bool) (B : Visited) → visit R (visit S B) ≡ visit (λ u. S u || R u) B
   unfolding visitSet
   visit-both S R B = ap₂ visited next-both hops-both
     where
       f : ℕ → Bool
-      f v = rowBit W (B .next) v || from S v
+      f v = rowBit W (B .next) v || linkedTo S v
 
       or-assoc : (a b c : Bool) → ((a || b) || c) ≡ (a || (b || c))
       or-assoc true b c = refl
       or-assoc false b c = refl
 
-      next-both : overwrite (encodeRow W (λ v. rowBit W (overwrite (encodeRow W f) (B .next)) v || from R v)) (overwrite (encodeRow W f) (B .next))
-          ≡ overwrite (encodeRow W (λ v. rowBit W (B .next) v || from (λ u. S u || R u) v)) (B .next)
+      next-both : overwrite (encodeRow W (λ v. rowBit W (overwrite (encodeRow W f) (B .next)) v || linkedTo R v)) (overwrite (encodeRow W f) (B .next))
+          ≡ overwrite (encodeRow W (λ v. rowBit W (B .next) v || linkedTo (λ u. S u || R u) v)) (B .next)
       next-both =
-          row-again W f (λ b v. b || from R v) (B .next)
+          row-again W f (λ b v. b || linkedTo R v) (B .next)
           ∙ ap (λ (r : List ℕ). overwrite r (B .next))
-          (encode-row-ext W (λ v. f v || from R v) (λ v. rowBit W (B .next) v || from (λ u. S u || R u) v)
-          (λ v h. or-assoc (rowBit W (B .next) v) (from S v) (from R v) ∙ ap (λ (b : Bool). rowBit W (B .next) v || b) (from-both S R v)))
+          (encode-row-ext W (λ v. f v || linkedTo R v) (λ v. rowBit W (B .next) v || linkedTo (λ u. S u || R u) v)
+          (λ v h. or-assoc (rowBit W (B .next) v) (linkedTo S v) (linkedTo R v) ∙ ap (λ (b : Bool). rowBit W (B .next) v || b) (linked-both S R v)))
 
       g : ℕ → ℕ
       g v = cond (S v) k (getD (B .hops) v 0)
@@ -265,10 +265,6 @@ module _ (W : ℕ) (links : List ℕ) (k : ℕ) where
     unfolding inWord
     words-one w h u l = go (lt-or-ge u (64 * w)) (lt-or-ge u (64 * (w + 1)))
       where
-        or-false : (b : Bool) → (b || false) ≡ b
-        or-false true = refl
-        or-false false = refl
-
         go : (u < 64 * w) ⊎ (64 * w ≤ u) → (u < 64 * (w + 1)) ⊎ (64 * (w + 1) ≤ u)
             → ((ltb u (64 * w) && rowBit W layer u) || inWord w (getD layer w 0) u) ≡ (ltb u (64 * (w + 1)) && rowBit W layer u)
         go (inl a) c = rw (lt-ltb u (64 * w) a, lt-ltb u (64 * (w + 1)) (omega arith), ne-eqb (u / 64) w (λ q. lt-irrefl u (omega arith))) (or-false (rowBit W layer u))
@@ -299,5 +295,5 @@ module _ (W : ℕ) (links : List ℕ) (k : ℕ) where
         I .now-is
         ∙ visit-ext (λ u. ltb u (64 * w) && rowBit W layer u) (rowBit W layer) (visited next₀ hops₀) (λ u m. rw (lt-ltb u (64 * w) (omega arith)))
         ∙ ap (λ (n : List ℕ). visited n (overwrite (mapl (λ v. cond (rowBit W layer v) k (getD hops₀ v 0)) (range (64 * W))) hops₀))
-        (ap (λ (n : List ℕ). overwrite (encodeRow W (λ v. rowBit W n v || from (rowBit W layer) v)) n) e
-        ∙ row-again W (λ v. false) (λ b v. b || from (rowBit W layer) v) entry)
+        (ap (λ (n : List ℕ). overwrite (encodeRow W (λ v. rowBit W n v || linkedTo (rowBit W layer) v)) n) e
+        ∙ row-again W (λ v. false) (λ b v. b || linkedTo (rowBit W layer) v) entry)
