@@ -1,6 +1,6 @@
 -- `layers::put_word` meets its contract: the word is stored where the row has it. Assumes nothing.
 use borrow.Author.Needs.{needs}
-use Rattle.layers.proofs.Visits.{put-here, put-past}
+use Rattle.layers.proofs.Links.{put-here, put-past}
 use Rattle.layers.proofs.put_word.Statement.{statement}
 use Rattle.layers.proofs.put_word.Tie as tie
 

@@ -3,7 +3,8 @@
 use native.Mathlib.Omega.{arith}
 use borrow.Author.Needs.{needs}
 use Rattle.rows.proofs.Places.{row-fits}
-use Rattle.layers.proofs.Visits.{four, side, BitsVisited, bits-start, bits-next, bits-end}
+use Rattle.layers.proofs.Links.{four, side}
+use Rattle.layers.proofs.Visits.{BitsVisited, bits-start, bits-next, bits-end}
 use Rattle.layers.proofs.reach_word.Statement.{statement}
 use Rattle.layers.proofs.reach_word.Tie as tie
 

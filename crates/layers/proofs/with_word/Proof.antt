@@ -2,7 +2,7 @@
 use Prim.Native.Nat.{_+_, _*_}
 use native.Mathlib.Omega.{arith}
 use borrow.Author.Needs.{needs}
-use Rattle.layers.proofs.Visits.{with-none, with-more}
+use Rattle.layers.proofs.Links.{with-none, with-more}
 use Rattle.layers.proofs.with_word.Statement.{statement}
 use Rattle.layers.proofs.with_word.Tie as tie
 
