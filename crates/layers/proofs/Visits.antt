@@ -1,174 +1,280 @@
--- The loop of `visit`: the members below `from` have their hop, and the codes linked to them stand in next. Assumes nothing.
-use mathlib.Core.Path.{_≡_, refl, sym, ap, ap₂, _∙_, subst}
+-- The loops of a visit: over the set bits of a word, the words of a layer, and the fours of a row. Assumes nothing.
+use mathlib.Core.Path.{_≡_, refl, sym, ap, ap₂, _∙_}
 use mathlib.Core.Logic.{_≢_, _⊎_, inl, inr}
-use mathlib.Core.Bool.{Bool, true, false, cond, _&&_, _||_}
+use mathlib.Core.Bool.{Bool, true, false, cond, not, _&&_, _||_}
 use mathlib.Core.List.{List}
-use Prim.Native.Nat.{ℕ, _+_, _*_, _≤_, _<_}
+use Prim.Native.Nat.{ℕ, _+_, _*_, _/_, _%_, _≤_, _<_}
+use native.Mathlib.Nat.{lt-irrefl}
 use native.Mathlib.Omega.{arith}
-use lib.Dec.{ltb}
+use lib.Dec.{eqb, ltb}
 use lib.ListN.{length, getD, set, length-set}
-use borrow.Author.Tests.{ltb-true, lt-ltb, le-ltb}
-use Rattle.lists.specs.Lists.{range, mapl, anyb, overwrite}
-use Rattle.lists.proofs.Tests.{clash, and-true, and-intro, or-true, or-left, or-right, same-test, lt-or-ge}
-use Rattle.lists.proofs.Members.{any-none, any-intro, any-elim, range-in}
-use Rattle.lists.proofs.Fills.{overwrite-length, fill-ext}
-use Rattle.lists.proofs.Buffers.{fill-whole, fill-put}
+use borrow.Author.Tests.{eqb-true, eqb-false, eq-eqb, ne-eqb, lt-ltb, le-ltb}
+use Rattle.lists.specs.Lists.{range, mapl, overwrite}
+use Rattle.lists.proofs.Tests.{look, clash, and-true, lt-or-ge, eq-or-ne}
+use Rattle.lists.proofs.Fills.{fill-more}
+use Rattle.words.specs.Bits.{bit, wordOf}
+use Rattle.words.specs.Least.{IsLeast, WithoutLeast}
+use Rattle.words.proofs.Bits.{bit-of-zero, bit-wordOf, wordOf-ext}
 use Rattle.rows.specs.Rows.{rowBit, tableBit, encodeRow}
-use Rattle.rows.specs.Next.{IsNext}
-use Rattle.rows.proofs.Written.{encode-row-length, row-read}
-use Rattle.rows.proofs.Wholes.{encode-row-ext, row-over}
-use Rattle.layers.specs.Steps.{reaches, visited, visitOf}
+use Rattle.rows.proofs.Written.{row-in}
+use Rattle.rows.proofs.Turns.{turn-none}
+use Rattle.layers.specs.declared.Four.{Four}
+use Rattle.layers.specs.Steps.{inWord, reaches, hopSet, linkWord, Reached, reached, reachSet, AreWords, noWords, putWord, visited, visitOf}
+use Rattle.layers.proofs.Links.{or-false, side, side-ext, put-here, put-past, linkedTo, word-one, hop-ext, hop-one, hop-both, visit-ext, visit-none, visit-both, visit-fits}
 
-module _ (W : ℕ) (links layer : List ℕ) (k : ℕ) where
-  -- what the members below `at` reach, and the hops that they leave
-  unfoldable pub reachedBelow : ℕ → ℕ → Bool
-  reachedBelow at v = anyb (λ u. ltb u at && (rowBit W layer u && tableBit W links u v)) (range (64 * W))
+module _ (W : ℕ) (links : List ℕ) (k : ℕ) where
+  module _ (j : ℕ) where
+    abbrev visit : (ℕ → Bool) → Reached → Reached
+    visit S B = reachSet W links k j S B
 
-  unfoldable pub hopBelow : List ℕ → ℕ → ℕ → ℕ
-  hopBelow hops at v = cond (ltb v at && rowBit W layer v) k (getD hops v 0)
+    -- ---- the set bits of a word
 
-  pub record Visiting (next₀ hops₀ next hops : List ℕ) (at : ℕ) : Type 0 where
-    pub within : at ≤ 64 * W
-    pub next-is : next ≡ overwrite (encodeRow W (reachedBelow at)) next₀
-    pub hops-is : hops ≡ overwrite (mapl (hopBelow hops₀ at) (range (64 * W))) hops₀
-    pub next-length : length next ≡ length next₀
-    pub hops-length : length hops ≡ length hops₀
+    module _ (w word : ℕ) where
+      -- the members that have left the word are visited; what is left was in it
+      pub record BitsVisited (from : Four) (hops₀ : List ℕ) (now : Reached) (x : ℕ) : Type 0 where
+        pub inside : (b : ℕ) → b < 64 → bit x b ≡ true → bit word b ≡ true
+        pub now-is : now ≡ visit (λ u. inWord w word u && not (inWord w x u)) (reached from hops₀)
+        pub hops-length : length (now .hops) ≡ length hops₀
 
-  none-below : (v : ℕ) → reachedBelow 0 v ≡ false
-  unfolding reachedBelow
-  none-below v = any-none (λ u. ltb u 0 && (rowBit W layer u && tableBit W links u v)) (range (64 * W)) (λ u m. rw (le-ltb u 0 (omega arith)))
+      pub bits-start : (from : Four) (hops : List ℕ) → AreWords from → 64 * W ≤ length hops → BitsVisited from hops (reached from hops) word
+      bits-start from hops i m = record {
+        inside = λ b h e. e;
+        now-is = visit-none W links k j from hops i m ∙ visit-ext W links k j (λ u. false) (λ u. inWord w word u && not (inWord w word u)) (reached from hops) (λ u h. sym (and-not (inWord w word u)));
+        hops-length = refl;
+      }
+        where
+          and-not : (b : Bool) → (b && not b) ≡ false
+          and-not true = refl
+          and-not false = refl
 
-  hop-none : (hops : List ℕ) (v : ℕ) → hopBelow hops 0 v ≡ getD hops v 0
-  unfolding hopBelow
-  hop-none hops v = rw (le-ltb v 0 (omega arith))
+      -- the least bit is visited, and leaves
+      module _ (x y b : ℕ) (within : w < W) (l : IsLeast x b) (d : WithoutLeast x y) where
+        left : (c : ℕ) → c < 64 → bit y c ≡ (bit x c && not (eqb c b))
+        left c m = ap (λ (r : ℕ). bit r c) (d .rest b l) ∙ bit-wordOf 64 (λ c. bit x c && not (eqb c b)) c m
 
-  pub visit-none : (entry next₀ hops₀ : List ℕ) → next₀ ≡ overwrite (encodeRow W (λ v. false)) entry → 64 * W ≤ length hops₀ → Visiting next₀ hops₀ next₀ hops₀ 0
-  visit-none entry next₀ hops₀ e l = record {
-    within = omega arith;
-    next-is =
-        e ∙ sym (ap (overwrite (encodeRow W (reachedBelow 0))) e ∙ row-over W (reachedBelow 0) (λ v. false) entry
-        ∙ ap (λ (r : List ℕ). overwrite r entry) (encode-row-ext W (reachedBelow 0) (λ v. false) (λ v m. none-below v)));
-    hops-is = fill-whole (hopBelow hops₀ 0) (64 * W) hops₀ l (λ v m. sym (hop-none hops₀ v));
-    next-length = refl;
-    hops-length = refl;
-  }
-
-  -- one member more
-  module _ (at v : ℕ) (n : IsNext W layer at v) where
-    -- a member below v + 1 is one below `at`, or v
-    below-cases : (u : ℕ) → u < v + 1 → rowBit W layer u ≡ true → (u < at) ⊎ (u ≡ v)
-    below-cases u l m = go (lt-or-ge u at) (lt-or-ge u v)
-      where
-        go : (u < at) ⊎ (at ≤ u) → (u < v) ⊎ (v ≤ u) → (u < at) ⊎ (u ≡ v)
-        go (inl p) q = inl p
-        go (inr p) (inl q) = absurd (clash m (n .first u p q))
-        go (inr p) (inr q) = inr (omega arith)
-
-    reached-more : (x : ℕ) → (reachedBelow at x || tableBit W links v x) ≡ reachedBelow (v + 1) x
-    unfolding reachedBelow
-    reached-more x = same-test (reachedBelow at x || tableBit W links v x) (reachedBelow (v + 1) x) (λ h. to (or-true (reachedBelow at x) (tableBit W links v x) h)) from
-      where
-        p : ℕ → ℕ → Bool
-        p a u = ltb u a && (rowBit W layer u && tableBit W links u x)
-
-        to : (reachedBelow at x ≡ true) ⊎ (tableBit W links v x ≡ true) → reachedBelow (v + 1) x ≡ true
-        to (inl h) =
-            let y = any-elim (p at) (range (64 * W)) h in
-            let z = and-true (ltb (y .0) at) (rowBit W layer (y .0) && tableBit W links (y .0) x) (y .2) in
-            let l : y .0 < at = ltb-true (y .0) at (z .0) in
-            let a : at ≤ v = n .after in
-            any-intro (p (v + 1)) (range (64 * W)) (y .1) (and-intro (lt-ltb (y .0) (v + 1) (omega arith)) (z .1))
-        to (inr h) = any-intro (p (v + 1)) (range (64 * W)) (range-in (64 * W) (n .inside)) (and-intro (lt-ltb v (v + 1) (omega arith)) (and-intro (n .here) h))
-
-        from : reachedBelow (v + 1) x ≡ true → (reachedBelow at x || tableBit W links v x) ≡ true
-        from h =
-            let y = any-elim (p (v + 1)) (range (64 * W)) h in
-            let z = and-true (ltb (y .0) (v + 1)) (rowBit W layer (y .0) && tableBit W links (y .0) x) (y .2) in
-            let w = and-true (rowBit W layer (y .0)) (tableBit W links (y .0) x) (z .1) in
-            go (y .0) (y .1) w (below-cases (y .0) (ltb-true (y .0) (v + 1) (z .0)) (w .0))
+        same-member : (u : ℕ) → eqb (u / 64) w ≡ true → eqb u (64 * w + b) ≡ eqb (u % 64) b
+        same-member u e = go (eqb-true (u / 64) w e) (eq-or-ne (u % 64) b)
           where
-            go : (u : ℕ) → mathlib.Core.List.List·Memᴰ u (range (64 * W)) → (rowBit W layer u ≡ true) × (tableBit W links u x ≡ true) → (u < at) ⊎ (u ≡ v) → (reachedBelow at x || tableBit W links v x) ≡ true
-            go u m w (inl l) = or-left (tableBit W links v x) (any-intro (p at) (range (64 * W)) m (and-intro (lt-ltb u at l) (and-intro (w .0) (w .1))))
-            go u m w (inr e) = or-right (reachedBelow at x) (subst (λ (y : ℕ). tableBit W links y x ≡ true) e (w .1))
+            go : u / 64 ≡ w → (u % 64 ≡ b) ⊎ (u % 64 ≢ b) → eqb u (64 * w + b) ≡ eqb (u % 64) b
+            go h (inl q) = eq-eqb u (64 * w + b) (omega arith) ∙ sym (eq-eqb (u % 64) b q)
+            go h (inr q) = ne-eqb u (64 * w + b) (λ p. q (omega arith)) ∙ sym (ne-eqb (u % 64) b q)
 
-    hop-here : (hops : List ℕ) → k ≡ hopBelow hops (v + 1) v
-    unfolding hopBelow
-    hop-here hops = rw (lt-ltb v (v + 1) (omega arith), n .here)
+        other-word : (u : ℕ) → eqb (u / 64) w ≡ false → eqb u (64 * w + b) ≡ false
+        other-word u e = ne-eqb u (64 * w + b) (λ p. eqb-false (u / 64) w e (omega (arith, l .below)))
 
-    hop-other : (hops : List ℕ) (i : ℕ) → i ≢ v → hopBelow hops at i ≡ hopBelow hops (v + 1) i
-    unfolding hopBelow
-    hop-other hops i ne = ap (λ (b : Bool). cond b k (getD hops i 0)) (same-test (ltb i at && rowBit W layer i) (ltb i (v + 1) && rowBit W layer i) to (λ h. from (and-true (ltb i (v + 1)) (rowBit W layer i) h)))
-      where
-        to : (ltb i at && rowBit W layer i) ≡ true → (ltb i (v + 1) && rowBit W layer i) ≡ true
-        to h =
-            let z = and-true (ltb i at) (rowBit W layer i) h in
-            let l : i < at = ltb-true i at (z .0) in
-            let a : at ≤ v = n .after in
-            and-intro (lt-ltb i (v + 1) (omega arith)) (z .1)
-
-        from : (ltb i (v + 1) ≡ true) × (rowBit W layer i ≡ true) → (ltb i at && rowBit W layer i) ≡ true
-        from z = go (below-cases i (ltb-true i (v + 1) (z .0)) (z .1))
+        bits-one : ((c : ℕ) → c < 64 → bit x c ≡ true → bit word c ≡ true) → (u : ℕ)
+            → ((inWord w word u && not (inWord w x u)) || eqb u (64 * w + b)) ≡ (inWord w word u && not (inWord w y u))
+        unfolding inWord
+        bits-one inside u = go (look (eqb (u / 64) w))
           where
-            go : (i < at) ⊎ (i ≡ v) → (ltb i at && rowBit W layer i) ≡ true
-            go (inl l) = and-intro (lt-ltb i at l) (z .1)
-            go (inr e) = absurd (ne e)
+            small : u % 64 < 64
+            small = omega arith
 
-    pub visit-more : {next₀ hops₀ next hops : List ℕ} (next′ : List ℕ) → Visiting next₀ hops₀ next hops at → W ≤ length next₀ → 64 * W ≤ length hops₀
-        → next′ ≡ overwrite (encodeRow W (λ x. rowBit W next x || tableBit W links v x)) next → Visiting next₀ hops₀ next′ (set hops v k) (v + 1)
-    visit-more {next₀} {hops₀} {next} {hops} next′ I ln lh e =
-        let is : next′ ≡ overwrite (encodeRow W (reachedBelow (v + 1))) next₀ =
-        e ∙ ap (λ (l : List ℕ). overwrite (encodeRow W (λ x. rowBit W next x || tableBit W links v x)) l) (I .next-is)
-        ∙ row-over W (λ x. rowBit W next x || tableBit W links v x) (reachedBelow at) next₀
-        ∙ ap (λ (r : List ℕ). overwrite r next₀) (encode-row-ext W (λ x. rowBit W next x || tableBit W links v x) (reachedBelow (v + 1)) bits) in
-        record {
-          within = omega (arith, n .inside);
-          next-is = is;
-          hops-is =
-              ap (λ (l : List ℕ). set l v k) (I .hops-is)
-              ∙ fill-put (hopBelow hops₀ at) (hopBelow hops₀ (v + 1)) (64 * W) hops₀ v k (n .inside) (hop-here hops₀) (λ i m ne. hop-other hops₀ i ne);
-          next-length = ap length is ∙ overwrite-length (encodeRow W (reachedBelow (v + 1))) next₀ (subst (λ (m : ℕ). m ≤ length next₀) (sym (encode-row-length W (reachedBelow (v + 1)))) ln);
-          hops-length = length-set hops v k ∙ I .hops-length;
+            tests : (a p e : Bool) → (p ≡ true → a ≡ true) → (e ≡ true → p ≡ true) → ((a && not p) || e) ≡ (a && not (p && not e))
+            tests true true true f g = refl
+            tests true true false f g = refl
+            tests true false true f g = refl
+            tests true false false f g = refl
+            tests false true e f g = absurd (clash refl (sym (f refl)))
+            tests false false true f g = sym (g refl)
+            tests false false false f g = refl
+
+            go : (eqb (u / 64) w ≡ true) ⊎ (eqb (u / 64) w ≡ false)
+                → ((inWord w word u && not (inWord w x u)) || eqb u (64 * w + b)) ≡ (inWord w word u && not (inWord w y u))
+            go (inl e) =
+                rw (e, same-member u e, left (u % 64) small)
+                (tests (bit word (u % 64)) (bit x (u % 64)) (eqb (u % 64) b) (inside (u % 64) small) (λ q. rw (eqb-true (u % 64) b q) (l .here)))
+            go (inr e) = rw (e, other-word u e)
+
+        -- a word with the links of the member besides, as the code has it
+        abbrev Joins : ℕ → ℕ → ℕ → Type 0
+        Joins i p q = q ≡ wordOf 64 (λ c. bit p c || tableBit W links (64 * w + b) (64 * i + c))
+
+        bits-visit : (p q r s p′ q′ r′ s′ : ℕ) (hops : List ℕ) → 64 * W ≤ length hops → Joins j p p′ → Joins (j + 1) q q′ → Joins (j + 2) r r′ → Joins (j + 3) s s′
+            → side p′ q′ r′ s′ (set hops (64 * w + b) k) ≡ visit (λ u. eqb u (64 * w + b)) (side p q r s hops)
+        unfolding reachSet
+        bits-visit p q r s p′ q′ r′ s′ hops m e f g h =
+            let n : 64 * w + b < 64 * W = omega (arith, l .below) in
+            side-ext (word-one W links k j p p′ (64 * w + b) n e) (word-one W links k (j + 1) q q′ (64 * w + b) n f) (word-one W links k (j + 2) r r′ (64 * w + b) n g) (word-one W links k (j + 3) s s′ (64 * w + b) n h)
+            (hop-one W links k (64 * w + b) hops n m)
+
+        pub bits-next : {from : Four} {hops₀ : List ℕ} (p q r s p′ q′ r′ s′ : ℕ) (hops : List ℕ) → BitsVisited from hops₀ (side p q r s hops) x → 64 * W ≤ length hops
+            → Joins j p p′ → Joins (j + 1) q q′ → Joins (j + 2) r r′ → Joins (j + 3) s s′ → BitsVisited from hops₀ (side p′ q′ r′ s′ (set hops (64 * w + b) k)) y
+        bits-next {from} {hops₀} p q r s p′ q′ r′ s′ hops I m e f g h = record {
+          inside = λ c n t. I .inside c n (and-true (bit x c) (not (eqb c b)) (sym (left c n) ∙ t) .0);
+          now-is =
+              bits-visit p q r s p′ q′ r′ s′ hops m e f g h ∙ ap (visit (λ u. eqb u (64 * w + b))) (I .now-is)
+              ∙ visit-both W links k j (λ u. inWord w word u && not (inWord w x u)) (λ u. eqb u (64 * w + b)) (reached from hops₀)
+              ∙ visit-ext W links k j (λ u. (inWord w word u && not (inWord w x u)) || eqb u (64 * w + b)) (λ u. inWord w word u && not (inWord w y u)) (reached from hops₀) (λ u n. bits-one (I .inside) u);
+          hops-length = length-set hops (64 * w + b) k ∙ I .hops-length;
         }
+
+      -- no bit is left
+      pub bits-end : {from : Four} {hops₀ : List ℕ} {now : Reached} (x : ℕ) → BitsVisited from hops₀ now x → x ≡ 0 → now ≡ visit (inWord w word) (reached from hops₀)
+      unfolding inWord
+      bits-end {from} {hops₀} x I z =
+          I .now-is ∙ visit-ext W links k j (λ u. inWord w word u && not (inWord w x u)) (inWord w word) (reached from hops₀) (λ u h. all (inWord w word u) (eqb (u / 64) w) (bit x (u % 64)) (rw z (bit-of-zero (u % 64))))
+        where
+          all : (a p q : Bool) → q ≡ false → (a && not (p && q)) ≡ a
+          all true true q e = rw e
+          all true false q e = refl
+          all false p q e = refl
+
+    -- ---- the words of a layer
+
+    module _ (layer : List ℕ) where
+      -- the members in the first w words are visited
+      pub record WordsVisited (hops₀ : List ℕ) (now : Reached) (w : ℕ) : Type 0 where
+        pub within : w ≤ W
+        pub now-is : now ≡ visit (λ u. ltb u (64 * w) && rowBit W layer u) (reached noWords hops₀)
+        pub hops-length : length (now .hops) ≡ length hops₀
+
+      pub words-start : (hops : List ℕ) → 64 * W ≤ length hops → WordsVisited hops (reached noWords hops) 0
+      words-start hops m = record {
+        within = omega arith;
+        now-is = visit-none W links k j noWords hops (record { a-fits = omega arith; b-fits = omega arith; c-fits = omega arith; d-fits = omega arith }) m ∙ visit-ext W links k j (λ u. false) (λ u. ltb u (64 * 0) && rowBit W layer u) (reached noWords hops) (λ u h. rw (le-ltb u (64 * 0) (omega arith)));
+        hops-length = refl;
+      }
+
+      -- one word more
+      words-one : (w : ℕ) → w < W → (u : ℕ) → u < 64 * W → ((ltb u (64 * w) && rowBit W layer u) || inWord w (getD layer w 0) u) ≡ (ltb u (64 * (w + 1)) && rowBit W layer u)
+      unfolding inWord
+      words-one w h u l = go (lt-or-ge u (64 * w)) (lt-or-ge u (64 * (w + 1)))
+        where
+          go : (u < 64 * w) ⊎ (64 * w ≤ u) → (u < 64 * (w + 1)) ⊎ (64 * (w + 1) ≤ u)
+              → ((ltb u (64 * w) && rowBit W layer u) || inWord w (getD layer w 0) u) ≡ (ltb u (64 * (w + 1)) && rowBit W layer u)
+          go (inl a) c = rw (lt-ltb u (64 * w) a, lt-ltb u (64 * (w + 1)) (omega arith), ne-eqb (u / 64) w (λ q. lt-irrefl u (omega arith))) (or-false (rowBit W layer u))
+          go (inr a) (inl c) =
+              let q : u / 64 ≡ w = omega arith in
+              rw (le-ltb u (64 * w) a, lt-ltb u (64 * (w + 1)) c, eq-eqb (u / 64) w q)
+              (sym (row-in W layer u l ∙ ap (λ (i : ℕ). bit (getD layer i 0) (u % 64)) q))
+          go (inr a) (inr c) = rw (le-ltb u (64 * w) a, le-ltb u (64 * (w + 1)) c, ne-eqb (u / 64) w (λ q. lt-irrefl u (omega arith)))
+
+      pub words-fit : {hops₀ : List ℕ} (f : Four) (hops : List ℕ) (w : ℕ) → WordsVisited hops₀ (reached f hops) w → AreWords f
+      words-fit {hops₀} f hops w I = visit-fits W links k j (λ u. ltb u (64 * w) && rowBit W layer u) (reached noWords hops₀) f hops (I .now-is)
+
+      pub words-next : {hops₀ : List ℕ} {now : Reached} (w : ℕ) (now′ : Reached) → WordsVisited hops₀ now w → w < W
+          → now′ ≡ visit (inWord w (getD layer w 0)) now → length (now′ .hops) ≡ length (now .hops) → WordsVisited hops₀ now′ (w + 1)
+      words-next {hops₀} w now′ I h e m = record {
+        within = omega arith;
+        now-is =
+            e ∙ ap (visit (inWord w (getD layer w 0))) (I .now-is)
+            ∙ visit-both W links k j (λ u. ltb u (64 * w) && rowBit W layer u) (inWord w (getD layer w 0)) (reached noWords hops₀)
+            ∙ visit-ext W links k j (λ u. (ltb u (64 * w) && rowBit W layer u) || inWord w (getD layer w 0) u) (λ u. ltb u (64 * (w + 1)) && rowBit W layer u) (reached noWords hops₀) (words-one w h);
+        hops-length = m ∙ I .hops-length;
+      }
+
+      -- no word is left
+      pub words-end : {hops₀ : List ℕ} {now : Reached} (w : ℕ) → WordsVisited hops₀ now w → W ≤ w → now ≡ visit (rowBit W layer) (reached noWords hops₀)
+      words-end {hops₀} w I h =
+          I .now-is ∙ visit-ext W links k j (λ u. ltb u (64 * w) && rowBit W layer u) (rowBit W layer) (reached noWords hops₀) (λ u m. rw (lt-ltb u (64 * w) (omega arith)))
+
+  -- ---- the fours of a row
+
+  -- so many words of a row are done after j
+  abbrev upTo : ℕ → ℕ
+  upTo j = cond (ltb j W) j W
+
+  put-next : (f : ℕ → Bool) (i n x : ℕ) (row₀ row row′ : List ℕ) → i + 1 ≡ n → W ≤ length row₀ → row ≡ overwrite (encodeRow (upTo i) f) row₀ → x ≡ wordOf 64 (λ b. f (64 * i + b))
+      → row′ ≡ putWord W i x row → row′ ≡ overwrite (encodeRow (upTo n) f) row₀
+  unfolding encodeRow
+  put-next f i n x row₀ row row′ e m p q s = s ∙ go (lt-or-ge i W)
+    where
+      g : ℕ → ℕ
+      g w = wordOf 64 (λ b. f (64 * w + b))
+
+      few : i < W → upTo i ≡ i
+      few h = rw (lt-ltb i W h)
+
+      all : W ≤ i → upTo i ≡ W
+      all h = rw (le-ltb i W h)
+
+      last : i < W → (n < W) ⊎ (W ≤ n) → upTo n ≡ i + 1
+      last h (inl l) = rw (lt-ltb n W l) (sym e)
+      last h (inr l) = rw (le-ltb n W l) (omega arith)
+
+      past : W ≤ i → upTo n ≡ W
+      past h = rw (le-ltb n W (omega arith))
+
+      go : (i < W) ⊎ (W ≤ i) → putWord W i x row ≡ overwrite (mapl g (range (upTo n))) row₀
+      go (inl h) =
+          sym (put-here W i x row h)
+          ∙ ap₂ (λ (r : List ℕ) (y : ℕ). set r i y) (p ∙ ap (λ (c : ℕ). overwrite (mapl g (range c)) row₀) (few h)) q
+          ∙ fill-more g row₀ i (omega arith)
+          ∙ ap (λ (c : ℕ). overwrite (mapl g (range c)) row₀) (sym (last h (lt-or-ge n W)))
+      go (inr h) = sym (put-past W i x row h) ∙ p ∙ ap (λ (c : ℕ). overwrite (mapl g (range c)) row₀) (all h ∙ sym (past h))
+
+  module _ (layer : List ℕ) where
+    -- the words before j are next's, and the hops are in place after the first four
+    pub record FoursVisited (next₀ hops₀ next hops : List ℕ) (j : ℕ) : Type 0 where
+      pub next-is : next ≡ overwrite (encodeRow (upTo j) (reaches W links layer)) next₀
+      pub hops-first : j ≡ 0 → hops ≡ hops₀
+      pub hops-then : 0 < j → hops ≡ hopSet W k (rowBit W layer) hops₀
+      pub next-length : length next ≡ length next₀
+      pub hops-length : length hops ≡ length hops₀
+
+    pub fours-start : (next hops : List ℕ) → 0 < W → FoursVisited next hops next hops 0
+    fours-start next hops h = record {
+      next-is = turn-none (reaches W links layer) next ∙ ap (λ (c : ℕ). overwrite (encodeRow c (reaches W links layer)) next) (sym (none (lt-ltb 0 W h)));
+      hops-first = λ e. refl;
+      hops-then = λ l. absurd (lt-irrefl 0 l);
+      next-length = refl;
+      hops-length = refl;
+    }
       where
-        bits : (x : ℕ) → x < 64 * W → (rowBit W next x || tableBit W links v x) ≡ reachedBelow (v + 1) x
-        bits x m =
-            ap (λ (b : Bool). b || tableBit W links v x) (ap (λ (l : List ℕ). rowBit W l x) (I .next-is) ∙ row-read W (reachedBelow at) next₀ x ∙ ap (λ (b : Bool). b && reachedBelow at x) (lt-ltb x (64 * W) m))
-            ∙ reached-more x
+        none : ltb 0 W ≡ true → upTo 0 ≡ 0
+        none e = rw e
 
-  -- no member is left
-  module _ (at : ℕ) (none : (u : ℕ) → at ≤ u → rowBit W layer u ≡ false) where
-    all-below : (u : ℕ) → (ltb u at && rowBit W layer u) ≡ rowBit W layer u
-    all-below u = go (lt-or-ge u at)
+    -- a word of the four, as it is stored
+    stored : (i x : ℕ) → x ≡ linkWord W links (rowBit W layer) i 0 → x ≡ wordOf 64 (λ b. reaches W links layer (64 * i + b))
+    unfolding linkWord reaches
+    stored i x e = e ∙ wordOf-ext 64 (λ b. bit 0 b || linkedTo W links k (rowBit W layer) (64 * i + b)) (λ b. linkedTo W links k (rowBit W layer) (64 * i + b)) (λ b l. ap (λ (t : Bool). t || linkedTo W links k (rowBit W layer) (64 * i + b)) (bit-of-zero b))
+
+    again : (hops : List ℕ) → hopSet W k (rowBit W layer) (hopSet W k (rowBit W layer) hops) ≡ hopSet W k (rowBit W layer) hops
+    again hops = hop-both W links k (rowBit W layer) (rowBit W layer) hops ∙ hop-ext W links k (λ u. rowBit W layer u || rowBit W layer u) (rowBit W layer) hops (λ u l. twice (rowBit W layer u))
       where
-        go : (u < at) ⊎ (at ≤ u) → (ltb u at && rowBit W layer u) ≡ rowBit W layer u
-        go (inl l) = rw (lt-ltb u at l)
-        go (inr l) = rw (none u l, le-ltb u at l)
+        twice : (b : Bool) → (b || b) ≡ b
+        twice true = refl
+        twice false = refl
 
-    reached-all : (v : ℕ) → reachedBelow at v ≡ reaches W links layer v
-    unfolding reachedBelow reaches
-    reached-all v = same-test (reachedBelow at v) (reaches W links layer v) to from
+    module _ {next₀ hops₀ next hops : List ℕ} (j : ℕ) (got : Four) (hops′ : List ℕ) (I : FoursVisited next₀ hops₀ next hops j)
+        (e : reached got hops′ ≡ reachSet W links k j (rowBit W layer) (reached noWords hops)) where
+      hops-set : hops′ ≡ hopSet W k (rowBit W layer) hops
+      unfolding reachSet
+      hops-set = ap (λ (r : Reached). r .hops) e
+
+      hops-now : hops′ ≡ hopSet W k (rowBit W layer) hops₀
+      hops-now = hops-set ∙ go (eq-or-ne j 0)
+        where
+          go : (j ≡ 0) ⊎ (j ≢ 0) → hopSet W k (rowBit W layer) hops ≡ hopSet W k (rowBit W layer) hops₀
+          go (inl z) = ap (hopSet W k (rowBit W layer)) (I .hops-first z)
+          go (inr z) = ap (hopSet W k (rowBit W layer)) (I .hops-then (omega (arith, z))) ∙ again hops₀
+
+      pub fours-next : (n₁ n₂ n₃ n₄ : List ℕ) → W ≤ length next₀ → n₁ ≡ putWord W j (got .a) next → n₂ ≡ putWord W (j + 1) (got .b) n₁ → n₃ ≡ putWord W (j + 2) (got .c) n₂ → n₄ ≡ putWord W (j + 3) (got .d) n₃
+          → length n₄ ≡ length next → length hops′ ≡ length hops → FoursVisited next₀ hops₀ n₄ hops′ (j + 4)
+      unfolding reachSet
+      fours-next n₁ n₂ n₃ n₄ m p q r s ln lh = record {
+        next-is =
+            put-next f (j + 3) (j + 4) (got .d) next₀ n₃ n₄ (omega arith) m
+            (put-next f (j + 2) (j + 3) (got .c) next₀ n₂ n₃ (omega arith) m
+            (put-next f (j + 1) (j + 2) (got .b) next₀ n₁ n₂ (omega arith) m
+            (put-next f j (j + 1) (got .a) next₀ next n₁ (omega arith) m (I .next-is) (stored j (got .a) (ap (λ (x : Reached). x .four .a) e)) p)
+            (stored (j + 1) (got .b) (ap (λ (x : Reached). x .four .b) e)) q)
+            (stored (j + 2) (got .c) (ap (λ (x : Reached). x .four .c) e)) r)
+            (stored (j + 3) (got .d) (ap (λ (x : Reached). x .four .d) e)) s;
+        hops-first = λ z. absurd (lt-irrefl 0 (omega arith));
+        hops-then = λ l. hops-now;
+        next-length = ln ∙ I .next-length;
+        hops-length = lh ∙ I .hops-length;
+      }
+        where
+          f : ℕ → Bool
+          f = reaches W links layer
+
+    -- no word is left
+    pub fours-end : {next₀ hops₀ next hops : List ℕ} (j : ℕ) → FoursVisited next₀ hops₀ next hops j → 0 < W → W ≤ j → visited next hops ≡ visitOf W links layer k (visited next₀ hops₀)
+    unfolding visitOf hopSet
+    fours-end {next₀} {hops₀} j I h l = ap₂ visited (I .next-is ∙ ap (λ (c : ℕ). overwrite (encodeRow c (reaches W links layer)) next₀) (whole (le-ltb j W l))) (I .hops-then (omega arith))
       where
-        to : reachedBelow at v ≡ true → reaches W links layer v ≡ true
-        to h =
-            let y = any-elim (λ u. ltb u at && (rowBit W layer u && tableBit W links u v)) (range (64 * W)) h in
-            any-intro (λ u. rowBit W layer u && tableBit W links u v) (range (64 * W)) (y .1) (and-true (ltb (y .0) at) _ (y .2) .1)
-
-        from : reaches W links layer v ≡ true → reachedBelow at v ≡ true
-        from h =
-            let y = any-elim (λ u. rowBit W layer u && tableBit W links u v) (range (64 * W)) h in
-            let z = and-true (rowBit W layer (y .0)) (tableBit W links (y .0) v) (y .2) in
-            any-intro (λ u. ltb u at && (rowBit W layer u && tableBit W links u v)) (range (64 * W)) (y .1)
-            (and-intro (and-true (ltb (y .0) at) (rowBit W layer (y .0)) (all-below (y .0) ∙ z .0) .0) (y .2))
-
-    hop-all : (hops : List ℕ) (v : ℕ) → hopBelow hops at v ≡ cond (rowBit W layer v) k (getD hops v 0)
-    unfolding hopBelow
-    hop-all hops v = ap (λ (b : Bool). cond b k (getD hops v 0)) (all-below v)
-
-    pub visit-end : {next₀ hops₀ next hops : List ℕ} (entry : List ℕ) → Visiting next₀ hops₀ next hops at → next₀ ≡ overwrite (encodeRow W (λ v. false)) entry
-        → visited next hops ≡ visitOf W links layer k (visited entry hops₀)
-    unfolding visitOf
-    visit-end {next₀} {hops₀} {next} {hops} entry I e =
-        ap₂ visited
-        (I .next-is ∙ ap (overwrite (encodeRow W (reachedBelow at))) e ∙ row-over W (reachedBelow at) (λ v. false) entry
-        ∙ ap (λ (r : List ℕ). overwrite r entry) (encode-row-ext W (reachedBelow at) (reaches W links layer) (λ v m. reached-all v)))
-        (I .hops-is ∙ ap (λ (r : List ℕ). overwrite r hops₀) (fill-ext (hopBelow hops₀ at) (λ v. cond (rowBit W layer v) k (getD hops₀ v 0)) (64 * W) (λ v m. hop-all hops₀ v)))
+        whole : ltb j W ≡ false → upTo j ≡ W
+        whole e = rw e

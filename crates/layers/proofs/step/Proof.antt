@@ -1,4 +1,4 @@
--- `layers::step` meets its contract: next holds the fresh codes (Stepping.antt), and goes into the other row where there are any.
+-- `layers::step` meets its contract: next holds the fresh codes (Stepping.antt), and is passed on where there are any.
 -- Assumes nothing.
 use Rattle.layers.proofs.Stepping.{step-none, step-more}
 use borrow.Author.Needs.{needs}
@@ -8,11 +8,8 @@ use Rattle.layers.proofs.step.Tie as tie
 visit-requires : tie.Need-visit-requires
 visit-requires c κs = search needs
 
-remove-row-requires : tie.Need-remove-row-requires
-remove-row-requires c κs = search needs
-
-is-empty-requires : tie.Need-is-empty-requires
-is-empty-requires c κs = search needs
+keep-unseen-requires : tie.Need-keep-unseen-requires
+keep-unseen-requires c κs = search needs
 
 same-length : tie.Need-same-length
 same-length c = search needs
@@ -25,13 +22,11 @@ same-length-3 c = search needs
 
 returns : tie.Need-returns
 returns c =
-    step-none _ _ _ _ _ _ _ _ _ _ (c .before .before .before .before .before .before .before .before .before .before .before .before .visit .ensures) (c .before .before .before .before .before .remove-row .ensures) _ _ (c .before .is-empty .ensures) (c .if1 .taken)
+    let kept = c .before .before .before in
+    step-none _ _ _ _ _ _ _ _ _ _ _ (kept .before .before .before .before .before .before .before .visit .ensures) (kept .keep-unseen .ensures) _ (c .if1 .taken)
 
-copy-requires : tie.Need-copy-requires
-copy-requires c κs = search needs
-
-add-row-requires : tie.Need-add-row-requires
-add-row-requires c κs = search needs
+pass-on-requires : tie.Need-pass-on-requires
+pass-on-requires c κs = search needs
 
 same-length-4 : tie.Need-same-length-4
 same-length-4 c = search needs
@@ -47,22 +42,21 @@ same-length-7 c = search needs
 
 returns-2 : tie.Need-returns-2
 returns-2 c =
-    step-more _ _ _ _ _ _ _ _ _ _ (c .before .before .before .before .before .before .before .before .before .before .before .before .before .before .before .before .before .before .before .before .before .before .visit .ensures) (c .before .before .before .before .before .before .before .before .before .before .before .before .before .before .before .remove-row .ensures) _ _ _ _ (c .before .before .before .before .before .before .before .before .before .before .before .is-empty .ensures) (c .before .before .before .before .before .before .before .before .before .before .if1 .left)
-    (c .before .before .before .before .before .before .before .copy .ensures) (c .before .before .add-row .ensures)
+    let left = c .before .before .before .before .before .before .before .before in
+    let kept = left .before .before .before in
+    step-more _ _ _ _ _ _ _ _ _ _ _ (kept .before .before .before .before .before .before .before .visit .ensures) (kept .keep-unseen .ensures) _ _ _ (left .if1 .left) (c .before .before .before .before .pass-on .ensures)
 
 pub step-spec : {M : Type 1} → statement M
 step-spec =
     tie.close
     (tie.spec
     visit-requires
-    remove-row-requires
-    is-empty-requires
+    keep-unseen-requires
     same-length
     same-length-2
     same-length-3
     returns
-    copy-requires
-    add-row-requires
+    pass-on-requires
     same-length-4
     same-length-5
     same-length-6
