@@ -4,3 +4,5 @@ pub mod Ranks
 pub mod Relaxing
 -- the pick of the next reference: one more at the end, the members of a row, the greatest rank
 pub mod Picking
+-- the marks of a call that searched from one depot alone
+pub mod Once

@@ -30,7 +30,8 @@ use Rattle.rounds.specs.Workspace.{lastRow}
 use Rattle.rounds.proofs.Holding.{leaves-over}
 use Rattle.rounds.proofs.Pairing.{own-pairs, settle-is}
 use Rattle.figures.specs.Figured.{Figured, figured, figuredBy, changeAs, IsFigurable}
-use Rattle.figures.specs.Steps.{Marked, marking, markOnce, Joined, joined, joinOf, IsSearched, IsWhole}
+use Rattle.bounds.specs.Once.{Marked, marking}
+use Rattle.figures.specs.Steps.{markOnce, Joined, joined, joinOf, IsSearched, IsWhole}
 use Rattle.figures.proofs.Once.{once-leaves}
 use Rattle.figures.proofs.Dropping.{left-is, candidate-is, none-left, some-left}
 use Rattle.figures.proofs.Shrinking.{figured-over}

@@ -3,14 +3,12 @@ use mathlib.Core.Path.{_≡_, refl, sym, ap, ap₂, _∙_}
 use mathlib.Core.Logic.{_⊎_, inl, inr}
 use mathlib.Core.Bool.{Bool, true, false, cond}
 use mathlib.Core.List.{List, []}
-use Prim.Native.Nat.{ℕ, _%_, _<_}
+use Prim.Native.Nat.{ℕ, _%_}
 use lib.Dec.{T, eqb}
-use lib.ListN.{set}
 use borrow.Author.Tests.{eqb-true, eq-eqb, ne-eqb}
-use Rattle.lists.specs.Lists.{range, mapl, lastOr, overwrite}
+use Rattle.lists.specs.Lists.{range, lastOr, overwrite}
 use Rattle.lists.proofs.Tests.{look, t→true}
 use Rattle.lists.proofs.Fills.{fill-ext}
-use Rattle.lists.proofs.Buffers.{fill-put}
 use Rattle.graph.specs.Network.{Network}
 use Rattle.graph.specs.Distance.{unreached}
 use Rattle.graph.specs.Chart.{Pairs, chart, ecc, countPairs}
@@ -22,22 +20,8 @@ use Rattle.map.specs.Memory.{Shape, places, base}
 use Rattle.pairs.specs.Pairs.{Tally, tally, tallyOf, settleOf}
 use Rattle.rounds.specs.Leaves.{Lent, lent, ran, ranBy, roundsLeave, searchAfter}
 use Rattle.rounds.specs.Workspace.{lastRow}
-use Rattle.figures.specs.Steps.{Marked, marking, markOnce, Joined, joined, joinOf}
-
--- ---- the marks
-
--- a table filled with y, and x at a
-pub fill-once : (n a x y : ℕ) (t t₁ : List ℕ) → a < n → t₁ ≡ overwrite (mapl (λ v. y) (range n)) t
-    → set t₁ a x ≡ overwrite (mapl (λ v. cond (eqb v a) x y) (range n)) t
-fill-once n a x y t t₁ l e =
-    ap (λ (s : List ℕ). set s a x) e
-    ∙ fill-put (λ v. y) (λ v. cond (eqb v a) x y) n t a x l (ap (λ (b : Bool). cond b x y) (sym (eq-eqb a a refl)))
-    (λ k m q. ap (λ (b : Bool). cond b x y) (sym (ne-eqb k a q)))
-
-pub mark-is : (a e : ℕ) (M : Marked) (b s : List ℕ) → a < 256 → b ≡ overwrite (mapl (λ v. unreached) (range 256)) (M .bounds)
-    → s ≡ overwrite (mapl (λ v. 257) (range 256)) (M .skips) → marking (set b a e) (set s a 256) ≡ markOnce base a e M
-unfolding markOnce
-mark-is a e M b s l p q = ap₂ marking (fill-once 256 a e unreached (M .bounds) b l p) (fill-once 256 a 256 257 (M .skips) s l q)
+use Rattle.bounds.specs.Once.{Marked, marking, markOnce as marksOnce}
+use Rattle.figures.specs.Steps.{markOnce, Joined, joined, joinOf}
 
 -- ---- the last layer's row
 
@@ -78,7 +62,7 @@ module _ (K : Shape) (G : Network) (a : ℕ) (o : T (G .isOpen a)) where
   pub once-leaves : (c : ℕ) (Q : Pairs) (B : Lent) (p : List ℕ) (n : ℕ) (m : Marked) → tally p n ≡ tallyOf (K .words) Q (B .pairs) → m ≡ markOnce K a e (marking (B .bounds) (B .skips))
       → B .searched ≡ searchLeaves (K .words) G a (B .searched)
       → ran (lent p (B .searched) (m .bounds) (m .skips)) c n 1 ≡ ranBy K G (searchedOnce (chart G) a c Q) B
-  unfolding ranBy roundsLeave searchedOnce searchAfter lastOr markOnce tallyOf
+  unfolding ranBy roundsLeave searchedOnce searchAfter lastOr marksOnce tallyOf
   once-leaves c Q B p n m t h s =
       ap₂ (λ (x : Tally) (y : Marked). ran (lent (x .pairs) (B .searched) (y .bounds) (y .skips)) c (x .count) 1) t h
       ∙ ap (λ (T : Tables). ran (lent (tallyOf (K .words) Q (B .pairs) .pairs) T (markOnce K a e (marking (B .bounds) (B .skips)) .bounds) (markOnce K a e (marking (B .bounds) (B .skips)) .skips)) c (tallyOf (K .words) Q (B .pairs) .count) 1) s

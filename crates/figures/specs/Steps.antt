@@ -2,36 +2,24 @@
 -- answers by Figured.antt.
 -- Assumes nothing.
 use mathlib.Core.Path.{_≡_}
-use mathlib.Core.Bool.{cond}
 use mathlib.Core.List.{List}
 use Prim.Native.Nat.{ℕ, _≤_}
-use lib.Dec.{T, eqb}
+use lib.Dec.{T}
 use lib.ListN.{length}
-use Rattle.lists.specs.Lists.{range, mapl, overwrite}
-use Rattle.graph.specs.Distance.{unreached}
 use Rattle.graph.specs.Chart.{chart, ecc}
 use Rattle.graph.specs.Correct.{IsNet}
 use Rattle.rows.specs.Rows.{tableBit}
 use Rattle.layers.specs.Layers.{Tables, searchLeaves}
 use Rattle.map.specs.Memory.{Shape, places, tableWords, networkOf}
 use Rattle.pairs.specs.Pairs.{Tally, settleOf}
+use Rattle.bounds.specs.Once.{Marked, markOnce as marksOnce}
 use Rattle.rounds.specs.Leaves.{Lent}
 use Rattle.rounds.specs.Workspace.{lastRow}
 
 -- ---- the marks of a call that searched from a alone, with eccentricity e
 
-pub record Marked : Type 0 where
-  pub bounds : List ℕ
-  pub skips : List ℕ
-
-abbrev pub marking : List ℕ → List ℕ → Marked
-marking b s = record { bounds = b; skips = s }
-
-unfoldable pub markOnce : Shape → ℕ → ℕ → Marked → Marked
-markOnce K a e M =
-    marking
-    (overwrite (mapl (λ v. cond (eqb v a) e unreached) (range (places K))) (M .bounds))
-    (overwrite (mapl (λ v. cond (eqb v a) (K .searchedMark) (K .otherMark)) (range (places K))) (M .skips))
+abbrev pub markOnce : Shape → ℕ → ℕ → Marked → Marked
+markOnce K a e M = marksOnce (K .words) (K .searchedMark) (K .otherMark) a e M
 
 -- ---- the pairs and marks of such a call, D being the stored chain
 

@@ -10,7 +10,8 @@ ghost use Rattle.pairs.specs.Pairs.{tally, settleOf, Counted};
 ghost use Rattle.rounds.specs.Leaves.{lent, ran, ranBy};
 ghost use Rattle.rounds.specs.Workspace.{lastRow};
 ghost use Rattle.figures.specs.Figured.{figured, figuredBy, IsFigurable};
-ghost use Rattle.figures.specs.Steps.{marking, markOnce, joined, joinOf, IsSearched, IsWhole, AreOpen};
+ghost use Rattle.bounds.specs.Once.{marking};
+ghost use Rattle.figures.specs.Steps.{joined, joinOf, IsSearched, IsWhole, AreOpen};
 use outcome::Change;
 use rounds::Tally;
 
@@ -23,17 +24,6 @@ pub struct Figures {
 }
 
 // ---- a call that searched from a alone
-
-// Its marks: a with its eccentricity e, no other depot.
-fn mark_once(bounds: &mut [u16], skips: &mut [u16], a: usize, e: u16)
-    requires { ⌜ (256 ≤ length (now bounds)) × (256 ≤ length (now skips)) × (a < 256) ⌝ }
-    ensures { λ r. ⌜ marking (now (bounds .exit)) (now (skips .exit)) ≡ markOnce base a e (marking (now (bounds .entry)) (now (skips .entry))) ⌝ }
-{
-    layers::fill(bounds, 256, 65535);
-    layers::fill(skips, 256, 257);
-    bounds[a] = e;
-    skips[a] = 256;
-}
 
 // The pairs after it, whose last layer stands in the row of the eccentricity's parity.
 fn settle_own(
@@ -70,7 +60,7 @@ fn join(
     ensures { λ n. ⌜ joined (tally (now (pairs .exit)) n) (marking (now (bounds .exit)) (now (skips .exit))) ≡ joinOf base a e chain (tables [] (now (even .entry)) (now (odd .entry))) (joined (tally (now (pairs .entry)) count) (marking (now (bounds .entry)) (now (skips .entry)))) ⌝ }
 {
     let sum = settle_own(pairs, even, odd, a, e, chain, count);
-    mark_once(bounds, skips, a, e);
+    bounds::mark_once(bounds, skips, 4, a, e, 256, 257);
     sum
 }
 
@@ -174,7 +164,7 @@ fn settle_low(
         };
     }
     if left.count != 0 {
-        mark_once(bounds, skips, a, e);
+        bounds::mark_once(bounds, skips, 4, a, e, 256, 257);
         return Figures {
             change: Change::Kept,
             chain: chain,

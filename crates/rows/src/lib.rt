@@ -1,7 +1,7 @@
 // Sets of numbers below 64 * words as rows of words, and tables of such rows; a row may stand in a longer buffer.
 // What a function ensures of a row or table that it changes is one equation, so that callers rewrite by it.
 ghost use mathlib.Core.Path.{_≡_};
-ghost use mathlib.Core.Bool.{true, false, not, _&&_, _||_};
+ghost use mathlib.Core.Bool.{true, false, not};
 ghost use Prim.Native.Nat.{_+_, _*_, _^_, _<_, _≤_};
 ghost use lib.Dec.{eqb};
 ghost use lib.ListN.{length, getD};
@@ -27,16 +27,6 @@ pub fn row_set(t: &mut [u64], words: usize, u: usize, v: usize)
     let i = words * u + v / 64;
     let w = t[i];
     t[i] = words::with_bit(w, v % 64);
-}
-
-// Takes v out of row u.
-pub fn row_clear(t: &mut [u64], words: usize, u: usize, v: usize)
-    requires { ⌜ InTable words (now t) u v ⌝ }
-    ensures { λ r. ⌜ now (t .exit) ≡ putBit words u v false (now (t .entry)) ⌝ }
-{
-    let i = words * u + v / 64;
-    let w = t[i];
-    t[i] = words::without_bit(w, v % 64);
 }
 
 // ---- the members of a row
@@ -111,43 +101,6 @@ pub fn clear(row: &mut [u64], words: usize)
     let mut j = 0;
     while j < words {
         row[j] = 0;
-        j += 1;
-    }
-}
-
-// Makes a row's members those of another.
-pub fn copy(to: &mut [u64], from: &[u64], words: usize)
-    requires { ⌜ (words ≤ length (now to)) × (words ≤ length (now from)) ⌝ }
-    ensures { λ r. ⌜ now (to .exit) ≡ overwrite (encodeRow words (rowBit words (now (from .entry)))) (now (to .entry)) ⌝ }
-{
-    let mut j = 0;
-    while j < words {
-        to[j] = from[j];
-        j += 1;
-    }
-}
-
-// Adds the members of row u of a table to a row: the union.
-pub fn add_row(row: &mut [u64], t: &[u64], words: usize, u: usize)
-    requires { ⌜ (words ≤ length (now row)) × (words * u + words ≤ length (now t)) × (u < 64 * words) ⌝ }
-    ensures { λ r. ⌜ now (row .exit) ≡ overwrite (encodeRow words (λ v. rowBit words (now (row .entry)) v || tableBit words (now (t .entry)) u v)) (now (row .entry)) ⌝ }
-{
-    let base = words * u;
-    let mut j = 0;
-    while j < words {
-        row[j] = row[j] | t[base + j];
-        j += 1;
-    }
-}
-
-// Takes the members of another row out of a row: the difference.
-pub fn remove_row(row: &mut [u64], other: &[u64], words: usize)
-    requires { ⌜ (words ≤ length (now row)) × (words ≤ length (now other)) ⌝ }
-    ensures { λ r. ⌜ now (row .exit) ≡ overwrite (encodeRow words (λ v. rowBit words (now (row .entry)) v && not (rowBit words (now (other .entry)) v))) (now (row .entry)) ⌝ }
-{
-    let mut j = 0;
-    while j < words {
-        row[j] = row[j] & !other[j];
         j += 1;
     }
 }

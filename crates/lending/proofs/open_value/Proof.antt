@@ -1,4 +1,4 @@
--- `opening::open_value` meets its contract: a walk of its MIR, by hand (made by genopen.py). The record's borrow is opened, the record is copied out and handed to `open` by value, with each `&mut` slice at its own lifetime, share and name;
+-- `lending::open_value` meets its contract: a walk of its MIR, by hand (made by genopen.py). The record's borrow is opened, the record is copied out and handed to `open` by value, with each `&mut` slice at its own lifetime, share and name;
 -- the record that `open` returned is stored in the cell, and the borrow is closed at it. All that the proof knows of `open` is that it meets its contract.
 -- Assumes nothing.
 use mathlib.Core.Path.{_≡_, refl, ap}
@@ -45,27 +45,27 @@ use denote.Triple.Table.{entered, cited}
 use denote.Triple.Walked.{says, Stays, stay-none, stay-none-slice, gave-slice, walkOf, goes-none, goes-none-slice, goes-gave-slice, Walks, ends-at, walked, walk-meets}
 use denote.Signature.{plain}
 use Rattle.map.specs.declared.Record.{Record}
 use Rattle.opening.specs.declared.Opened.{Opened}
 use Rattle.opening.specs.declared.Report.{Report}
 use Rattle.layers.specs.Layers.{tables as searchTables}
 use Rattle.map.specs.Memory.{base as baseShape}
 use Rattle.rounds.specs.Leaves.{lent as lentTables}
 use Rattle.opening.specs.OpenCall.{leftOf, openCall}
 use Rattle.opening.specs.Steps.{noticeOf}
 use Rattle.map.proofs.Record as RT
 use Rattle.map.proofs.Record.Laws as RL
 use Rattle.opening.proofs.Opened as OT
 use Rattle.opening.proofs.Opened.Laws as OL
 use Rattle.opening.proofs.Report as VT
 use Rattle.opening.proofs.Report.Laws as VL
-use Rattle.opening.proofs.open as callee
-use Rattle.opening.proofs.open.Symbol as callee-def
-use Rattle.opening.proofs.open.Symbol.{name as #opening·open}
-use Rattle.opening.proofs.open.Met as callee-thm
-use Rattle.opening.proofs.open_value.Key.{name as #opening·open-value}
-use Rattle.opening.proofs.open_value as self
-use Rattle.opening.proofs.open_value.Statement as stated
-use Rattle.opening.proofs.open_value.Code as code
+use Rattle.lending.proofs.open as callee
+use Rattle.lending.proofs.open.Symbol as callee-def
+use Rattle.lending.proofs.open.Symbol.{name as #lending·open}
+use Rattle.lending.proofs.open.Met as callee-thm
+use Rattle.lending.proofs.open_value.Key.{name as #lending·open-value}
+use Rattle.lending.proofs.open_value as self
+use Rattle.lending.proofs.open_value.Statement as stated
+use Rattle.lending.proofs.open_value.Code as code
 
 abbrev stayed : Stays (self.ended .signature .params) (self.ended .kept)
 stayed = (stay-none (λ _. RT.the-row) yes, (gave-slice (0 ∷ []) tt (plain (λ _. u64)), (gave-slice (1 ∷ []) tt (plain (λ _. u64)), (gave-slice (2 ∷ []) tt (plain (λ _. u16)), (gave-slice (3 ∷ []) tt (plain (λ _. u16)), (gave-slice (4 ∷ []) tt (plain (λ _. u16)), (gave-slice (5 ∷ []) tt (plain (λ _. u64)), (gave-slice (6 ∷ []) tt (plain (λ _. u64)), (stay-none (λ _. u8) yes, (stay-none-slice (7 ∷ []) tt (plain (λ _. u8)) yes, tt))))))))))
@@ -185,7 +185,7 @@ module _ {M : Type 1} (𝓤 : URA M) (H : Heap 𝓤) (A : Atoms 𝓤) (W : Given
       suffices ! _ (ends-at 𝓤 H A self.ended stayed (self.clauses 𝓤 H A at-mem run) W (((κ1, (κ2, (κ3, (κ4, (κ5, (κ6, (κ7, (κ9, tt)))))))), (q1, (q2, (q3, (q4, (q5, (q6, (q7, (q9, tt)))))))), bounds, a, at), tt) (made-val (made r z0)) (made r z0) (tt, (z1, (z2, (z3, (z4, (z5, (z6, (z7, (tt, (tt, tt)))))))))) (tt, (l1, (l2, (l3, (l4, (l5, (l6, (l7, (tt, (tt, tt))))))))))) $ says ! (e) $
       frame ! $ nothing ! $ move ! (8 ∷ 0 ∷ []) $ fjoin ! $ owned ! u8 (Is u8) (uint-makes 𝓤 H A W w8) x8 _ (refl, x8-fits) $ move ! (0 ∷ 1 ∷ []) $ fjoin ! $ move ! (7 ∷ 0 ∷ []) $ fjoin ! $ move ! (6 ∷ 0 ∷ []) $ fjoin ! $ move ! (5 ∷ 0 ∷ []) $ fjoin ! $ move ! (4 ∷ 0 ∷ []) $ fjoin ! $ move ! (3 ∷ 0 ∷ []) $ fjoin ! $ move ! (2 ∷ 0 ∷ []) $ fjoin ! $ move ! (1 ∷ 0 ∷ []) $ fjoin ! $ owned ! R (Is R) (LL.makes RT.the-type RL.the-plain 𝓤 H A) h _ g $ fjoin ! $ owned ! OT.the-row (Is OT.the-row) (LL.makes OT.the-type OL.the-plain 𝓤 H A) (made r z0) _ is $ move ! (1 ∷ 0 ∷ []) $ done !
 
-  module _ (C : Calls 𝓤 H) (Λ : Loops 𝓤 H) (fm : FmC 𝓤 H (W .laws) C) (known : Triple 𝓤 (C #opening·open) (Open 𝓤 H A at-mem run)) where
+  module _ (C : Calls 𝓤 H) (Λ : Loops 𝓤 H) (fm : FmC 𝓤 H (W .laws) C) (known : Triple 𝓤 (C #lending·open) (Open 𝓤 H A at-mem run)) where
     walk : Is R h (vals h) → Room u64 (length x1) → Room u64 (length x2) → Room u16 (length x3) → Room u16 (length x4) → Room u16 (length x5) → Room u64 (length x6) → Room u64 (length x7) → Room u8 (length x9) → ent 𝓤 (onEntry 𝓤 H A self.signature (κ1, (κ2, (κ3, (κ4, (κ5, (κ6, (κ7, (κ9, tt)))))))) (q1, (q2, (q3, (q4, (q5, (q6, (q7, (q9, tt)))))))) a at) (WpFn 𝓤 H C Λ code.function (rec-val h ∷ s1 ∷ s2 ∷ s3 ∷ s4 ∷ s5 ∷ s6 ∷ s7 ∷ vint w8 x8 ∷ s9 ∷ []) Post)
     walk g room1 room2 room3 room4 room5 room6 room7 room9 =
         qed W ((‵ (flft κ1 q1) ⊛ ‵ (flft κ2 q2) ⊛ ‵ (flft κ3 q3) ⊛ ‵ (flft κ4 q4) ⊛ ‵ (flft κ5 q5) ⊛ ‵ (flft κ6 q6) ⊛ ‵ (flft κ7 q7) ⊛ ‵ (flft κ9 q9) ⊛ ‵ ftrue) ∷ ‵ (owns (R ∷ MutSlice (named 0) κ1 u64 ∷ MutSlice (named 1) κ2 u64 ∷ MutSlice (named 2) κ3 u16 ∷ MutSlice (named 3) κ4 u16 ∷ MutSlice (named 4) κ5 u16 ∷ MutSlice (named 5) κ6 u64 ∷ MutSlice (named 6) κ7 u64 ∷ u8 ∷ ShrSlice (named 7) κ9 u8 ∷ []) a at) ∷ []) ∵ enter ! C Λ code.function (rec-val h ∷ s1 ∷ s2 ∷ s3 ∷ s4 ∷ s5 ∷ s6 ∷ s7 ∷ vint w8 x8 ∷ s9 ∷ []) _ $
@@ -226,11 +226,11 @@ module _ {M : Type 1} (𝓤 : URA M) (H : Heap 𝓤) (A : Atoms 𝓤) (W : Given
         keep ! (1 ∷ 12 ∷ 11 ∷ 10 ∷ 9 ∷ 8 ∷ 7 ∷ 6 ∷ 13 ∷ []) $ by ! (exits g r (zs .0) (zs .1 .0) (zs .1 .1 .0) (zs .1 .1 .1 .0) (zs .1 .1 .1 .1 .0) (zs .1 .1 .1 .1 .1 .0) (zs .1 .1 .1 .1 .1 .1 .0) (zs .1 .1 .1 .1 .1 .1 .1 .0) e lz1 lz2 lz3 lz4 lz5 lz6 lz7 (LL.owes OT.the-type OL.the-laws (made r (zs .0)) (isr, (isz, tt)))))))))))))))))))))))))))))))))))))))))))))))))
 
 module _ {M : Type 1} (𝓤 : URA M) (H : Heap 𝓤) (A : Atoms 𝓤) (W : Given 𝓤 H A) (mem : Memory → SProp 𝓤) (run : Routine → Fun 𝓤) where
-  self-walks : (C : Calls 𝓤 H) (Λ : Loops 𝓤 H) → FmC 𝓤 H (W .laws) C → Triple 𝓤 (C #opening·open) (Open 𝓤 H A mem run) → Walks 𝓤 H A self.ended stayed (WpFn 𝓤 H C Λ code.function) (self.clauses 𝓤 H A mem run)
+  self-walks : (C : Calls 𝓤 H) (Λ : Loops 𝓤 H) → FmC 𝓤 H (W .laws) C → Triple 𝓤 (C #lending·open) (Open 𝓤 H A mem run) → Walks 𝓤 H A self.ended stayed (WpFn 𝓤 H C Λ code.function) (self.clauses 𝓤 H A mem run)
   self-walks C Λ fm known = walked 𝓤 H A self.ended stayed (self.clauses 𝓤 H A mem run) (WpFn 𝓤 H C Λ code.function) (λ κs. (vals, (slice-vals, (slice-vals, (slice-vals, (slice-vals, (slice-vals, (slice-vals, (slice-vals, (uint-vals w8, (slice-vals, tt))))))))))) (λ κs. (LL.tells RT.the-type RL.the-laws, (mut-slice-tells (named 0) (κs .0) u64, (mut-slice-tells (named 1) (κs .1 .0) u64, (mut-slice-tells (named 2) (κs .1 .1 .0) u16, (mut-slice-tells (named 3) (κs .1 .1 .1 .0) u16, (mut-slice-tells (named 4) (κs .1 .1 .1 .1 .0) u16, (mut-slice-tells (named 5) (κs .1 .1 .1 .1 .1 .0) u64, (mut-slice-tells (named 6) (κs .1 .1 .1 .1 .1 .1 .0) u64, (uint-tells w8, (shr-slice-tells (named 7) (κs .1 .1 .1 .1 .1 .1 .1 .0) u8, tt)))))))))))
       (λ κs qs bounds a g are. via 𝓤 _ (fst∗ 𝓤 _ (emp 𝓤)) (walk 𝓤 H A W mem run (κs .0) (κs .1 .0) (κs .1 .1 .0) (κs .1 .1 .1 .0) (κs .1 .1 .1 .1 .0) (κs .1 .1 .1 .1 .1 .0) (κs .1 .1 .1 .1 .1 .1 .0) (κs .1 .1 .1 .1 .1 .1 .1 .0) bounds (qs .0) (qs .1 .0) (qs .1 .1 .0) (qs .1 .1 .1 .0) (qs .1 .1 .1 .1 .0) (qs .1 .1 .1 .1 .1 .0) (qs .1 .1 .1 .1 .1 .1 .0) (qs .1 .1 .1 .1 .1 .1 .1 .0) (a .0) (a .1 .0 .ptr .0) (a .1 .0 .ptr .1) (a .1 .0 .name) (a .1 .0 .now) (a .1 .1 .0 .ptr .0) (a .1 .1 .0 .ptr .1) (a .1 .1 .0 .name) (a .1 .1 .0 .now) (a .1 .1 .1 .0 .ptr .0) (a .1 .1 .1 .0 .ptr .1) (a .1 .1 .1 .0 .name) (a .1 .1 .1 .0 .now) (a .1 .1 .1 .1 .0 .ptr .0) (a .1 .1 .1 .1 .0 .ptr .1) (a .1 .1 .1 .1 .0 .name) (a .1 .1 .1 .1 .0 .now) (a .1 .1 .1 .1 .1 .0 .ptr .0) (a .1 .1 .1 .1 .1 .0 .ptr .1) (a .1 .1 .1 .1 .1 .0 .name) (a .1 .1 .1 .1 .1 .0 .now) (a .1 .1 .1 .1 .1 .1 .0 .ptr .0) (a .1 .1 .1 .1 .1 .1 .0 .ptr .1) (a .1 .1 .1 .1 .1 .1 .0 .name) (a .1 .1 .1 .1 .1 .1 .0 .now) (a .1 .1 .1 .1 .1 .1 .1 .0 .ptr .0) (a .1 .1 .1 .1 .1 .1 .1 .0 .ptr .1) (a .1 .1 .1 .1 .1 .1 .1 .0 .name) (a .1 .1 .1 .1 .1 .1 .1 .0 .now) (a .1 .1 .1 .1 .1 .1 .1 .1 .0) (are .1 .1 .1 .1 .1 .1 .1 .1 .0 .1) (a .1 .1 .1 .1 .1 .1 .1 .1 .1 .0 .ptr .0) (a .1 .1 .1 .1 .1 .1 .1 .1 .1 .0 .ptr .1) (a .1 .1 .1 .1 .1 .1 .1 .1 .1 .0 .name) (a .1 .1 .1 .1 .1 .1 .1 .1 .1 .0 .now) C Λ fm known (are .0) (are .1 .0 .0 .1) (are .1 .1 .0 .0 .1) (are .1 .1 .1 .0 .0 .1) (are .1 .1 .1 .1 .0 .0 .1) (are .1 .1 .1 .1 .1 .0 .0 .1) (are .1 .1 .1 .1 .1 .1 .0 .0 .1) (are .1 .1 .1 .1 .1 .1 .1 .0 .0 .1) (are .1 .1 .1 .1 .1 .1 .1 .1 .1 .0 .0 .1)))
 
-self-meets : {M : Type 1} (𝓤 : URA M) (H : Heap 𝓤) (A : Atoms 𝓤) → Given 𝓤 H A → (mem : Memory → SProp 𝓤) (run : Routine → Fun 𝓤) (𝓣 : Tables 𝓤 H) → Triple 𝓤 (𝓣 .C #opening·open) (Open 𝓤 H A mem run)
+self-meets : {M : Type 1} (𝓤 : URA M) (H : Heap 𝓤) (A : Atoms 𝓤) → Given 𝓤 H A → (mem : Memory → SProp 𝓤) (run : Routine → Fun 𝓤) (𝓣 : Tables 𝓤 H) → Triple 𝓤 (𝓣 .C #lending·open) (Open 𝓤 H A mem run)
     → Meets 𝓤 H A self.signature (WpFn 𝓤 H (𝓣 .C) (𝓣 .Λ) code.function) (self.spec 𝓤 H A mem run)
 self-meets 𝓤 H A W mem run 𝓣 known =
     walk-meets 𝓤 H A self.ended stayed W (goes-none 𝓤 H A W 8 (λ _. RT.the-row) yes (λ κs x f. refl), (goes-gave-slice 𝓤 H A W 8 0 tt (plain (λ _. u64)), (goes-gave-slice 𝓤 H A W 8 1 tt (plain (λ _. u64)), (goes-gave-slice 𝓤 H A W 8 2 tt (plain (λ _. u16)), (goes-gave-slice 𝓤 H A W 8 3 tt (plain (λ _. u16)), (goes-gave-slice 𝓤 H A W 8 4 tt (plain (λ _. u16)), (goes-gave-slice 𝓤 H A W 8 5 tt (plain (λ _. u64)), (goes-gave-slice 𝓤 H A W 8 6 tt (plain (λ _. u64)), (goes-none 𝓤 H A W 8 (λ _. u8) yes (λ κs x f. refl), (goes-none-slice 𝓤 H A W 8 (7 ∷ []) tt (plain (λ _. u8)) yes, tt)))))))))) (self.clauses 𝓤 H A mem run)
@@ -240,6 +240,6 @@ pub open-value-spec : {M : Type 1} → stated.statement M
 unfolding code.routine tablesOf
 open-value-spec 𝓤 H 𝓜 𝓖 𝓡 =
     entered 𝓤 H (tripleOf 𝓤 H (𝓖 .A) self.signature (self.spec 𝓤 H (𝓖 .A) (𝓜 .mem) (𝓡 .run)))
-    (tables 𝓤 H 𝓜 𝓡 code.env .C) (tables 𝓤 H 𝓜 𝓡 code.env .Λ) #opening·open-value code.function (code.unfolded 𝓤 H 𝓜 𝓡)
+    (tables 𝓤 H 𝓜 𝓡 code.env .C) (tables 𝓤 H 𝓜 𝓡 code.env .Λ) #lending·open-value code.function (code.unfolded 𝓤 H 𝓜 𝓡)
     (self-meets 𝓤 H (𝓖 .A) (givenOf 𝓤 H 𝓜 𝓖) (𝓜 .mem) (𝓡 .run) (tablesOf 𝓤 H 𝓜 (tables 𝓤 H 𝓜 𝓡 code.env))
-    (cited 𝓤 H (Open 𝓤 H (𝓖 .A) (𝓜 .mem) (𝓡 .run)) 𝓜 𝓡 code.env #opening·open callee-def.routine code.calls-opening·open (callee-thm.met 𝓤 H 𝓜 𝓖 𝓡)))
+    (cited 𝓤 H (Open 𝓤 H (𝓖 .A) (𝓜 .mem) (𝓡 .run)) 𝓜 𝓡 code.env #lending·open callee-def.routine code.calls-lending·open (callee-thm.met 𝓤 H 𝓜 𝓖 𝓡)))

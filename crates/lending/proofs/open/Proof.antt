@@ -1,4 +1,4 @@
--- `opening::open` meets its contract: a walk of its MIR, by hand (made by genopen.py). The record's borrow is opened, the record is copied out and handed to `open_step` by value, with each `&mut` slice at its own lifetime, share and name;
+-- `lending::open` meets its contract: a walk of its MIR, by hand (made by genopen.py). The record's borrow is opened, the record is copied out and handed to `open_step` by value, with each `&mut` slice at its own lifetime, share and name;
 -- the record that `open_step` returned is stored in the cell, and the borrow is closed at it. All that the proof knows of `open_step` is that it meets its contract.
 -- Assumes nothing.
 use mathlib.Core.Path.{_≡_, refl, ap}
@@ -43,27 +43,27 @@ use denote.Triple.Table.{entered, cited}
 use denote.Triple.Walked.{says, Stays, stay-ref, stay-none, stay-none-slice, gave-slice, walkOf, goes-ref, goes-none, goes-none-slice, goes-gave-slice, Walks, ends-at, walked, walk-meets}
 use denote.Signature.{plain}
 use Rattle.map.specs.declared.Record.{Record}
 use Rattle.opening.specs.declared.Opened.{Opened}
 use Rattle.opening.specs.declared.Report.{Report}
 use Rattle.layers.specs.Layers.{tables as searchTables}
 use Rattle.map.specs.Memory.{base as baseShape}
 use Rattle.rounds.specs.Leaves.{lent as lentTables}
 use Rattle.opening.specs.OpenCall.{openLeft, openCall}
 use Rattle.opening.specs.Steps.{noticeOf}
 use Rattle.map.proofs.Record as RT
 use Rattle.map.proofs.Record.Laws as RL
 use Rattle.opening.proofs.Opened as OT
 use Rattle.opening.proofs.Opened.Laws as OL
 use Rattle.opening.proofs.Report as VT
 use Rattle.opening.proofs.Report.Laws as VL
 use Rattle.opening.proofs.open_step as callee
 use Rattle.opening.proofs.open_step.Symbol as callee-def
 use Rattle.opening.proofs.open_step.Symbol.{name as #opening·open-step}
 use Rattle.opening.proofs.open_step.Met as callee-thm
-use Rattle.opening.proofs.open.Key.{name as #opening·open}
-use Rattle.opening.proofs.open as self
-use Rattle.opening.proofs.open.Statement as stated
-use Rattle.opening.proofs.open.Code as code
+use Rattle.lending.proofs.open.Key.{name as #lending·open}
+use Rattle.lending.proofs.open as self
+use Rattle.lending.proofs.open.Statement as stated
+use Rattle.lending.proofs.open.Code as code
 
 abbrev stayed : Stays (self.ended .signature .params) (self.ended .kept)
 stayed = (stay-ref (0 ∷ []) tt (plain (λ _. RT.the-row)), (gave-slice (1 ∷ []) tt (plain (λ _. u64)), (gave-slice (2 ∷ []) tt (plain (λ _. u64)), (gave-slice (3 ∷ []) tt (plain (λ _. u16)), (gave-slice (4 ∷ []) tt (plain (λ _. u16)), (gave-slice (5 ∷ []) tt (plain (λ _. u16)), (gave-slice (6 ∷ []) tt (plain (λ _. u64)), (gave-slice (7 ∷ []) tt (plain (λ _. u64)), (stay-none (λ _. u8) yes, (stay-none-slice (8 ∷ []) tt (plain (λ _. u8)) yes, tt))))))))))
@@ -220,6 +220,6 @@ pub open-spec : {M : Type 1} → stated.statement M
 unfolding code.routine tablesOf
 open-spec 𝓤 H 𝓜 𝓖 𝓡 =
     entered 𝓤 H (tripleOf 𝓤 H (𝓖 .A) self.signature (self.spec 𝓤 H (𝓖 .A) (𝓜 .mem) (𝓡 .run)))
-    (tables 𝓤 H 𝓜 𝓡 code.env .C) (tables 𝓤 H 𝓜 𝓡 code.env .Λ) #opening·open code.function (code.unfolded 𝓤 H 𝓜 𝓡)
+    (tables 𝓤 H 𝓜 𝓡 code.env .C) (tables 𝓤 H 𝓜 𝓡 code.env .Λ) #lending·open code.function (code.unfolded 𝓤 H 𝓜 𝓡)
     (self-meets 𝓤 H (𝓖 .A) (givenOf 𝓤 H 𝓜 𝓖) (𝓜 .mem) (𝓡 .run) (tablesOf 𝓤 H 𝓜 (tables 𝓤 H 𝓜 𝓡 code.env))
     (cited 𝓤 H (Step 𝓤 H (𝓖 .A) (𝓜 .mem) (𝓡 .run)) 𝓜 𝓡 code.env #opening·open-step callee-def.routine code.calls-opening·open-step (callee-thm.met 𝓤 H 𝓜 𝓖 𝓡)))

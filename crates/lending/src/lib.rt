@@ -1,0 +1,73 @@
+// The opening on a record that is lent by `&mut`, as document 01 names it: a thin function over the step by value, whose proof is a walk of its
+// code by hand.
+ghost use mathlib.Core.Path.{_≡_};
+ghost use Rattle.layers.specs.Layers.{tables};
+ghost use Rattle.map.specs.Memory.{base};
+ghost use Rattle.rounds.specs.Leaves.{lent};
+ghost use Rattle.opening.specs.OpenCall.{leftOf, openLeft, openCall};
+ghost use Rattle.opening.specs.Steps.{noticeOf};
+use map::Record;
+use opening::Opened;
+use opening::Report;
+
+// The opening of a depot on a record that is lent: "The record of a line is lent to the opening call and brought up to date there."
+pub fn open(
+    rec: &mut Record,
+    links: &mut [u64],
+    pairs: &mut [u64],
+    hops: &mut [u16],
+    bounds: &mut [u16],
+    skips: &mut [u16],
+    even: &mut [u64],
+    odd: &mut [u64],
+    code: u8,
+    neighbours: &[u8],
+) -> Report
+    ensures { λ r. ⌜ leftOf r (now (rec .exit)) (now (links .exit)) (lent (now (pairs .exit)) (tables (now (hops .exit)) (now (even .exit)) (now (odd .exit))) (now (bounds .exit)) (now (skips .exit))) ≡ openCall base (now (rec .entry)) (now (links .entry)) (lent (now (pairs .entry)) (tables (now (hops .entry)) (now (even .entry)) (now (odd .entry))) (now (bounds .entry)) (now (skips .entry))) (noticeOf code (now (neighbours .entry))) ⌝ }
+{
+    let got = opening::open_step(
+        *rec,
+        links,
+        pairs,
+        hops,
+        bounds,
+        skips,
+        even,
+        odd,
+        code,
+        neighbours,
+    );
+    *rec = got.after;
+    got.report
+}
+
+// The way by value through `open`, for callers that keep the record in a variable.
+pub fn open_value(
+    rec: Record,
+    links: &mut [u64],
+    pairs: &mut [u64],
+    hops: &mut [u16],
+    bounds: &mut [u16],
+    skips: &mut [u16],
+    even: &mut [u64],
+    odd: &mut [u64],
+    code: u8,
+    neighbours: &[u8],
+) -> Opened
+    ensures { λ r. ⌜ openLeft r (now (links .exit)) (lent (now (pairs .exit)) (tables (now (hops .exit)) (now (even .exit)) (now (odd .exit))) (now (bounds .exit)) (now (skips .exit))) ≡ openCall base rec (now (links .entry)) (lent (now (pairs .entry)) (tables (now (hops .entry)) (now (even .entry)) (now (odd .entry))) (now (bounds .entry)) (now (skips .entry))) (noticeOf code (now (neighbours .entry))) ⌝ }
+{
+    let mut own = rec;
+    let report = open(
+        &mut own,
+        links,
+        pairs,
+        hops,
+        bounds,
+        skips,
+        even,
+        odd,
+        code,
+        neighbours,
+    );
+    Opened { report, after: own }
+}
