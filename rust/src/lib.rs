@@ -26,6 +26,7 @@
 #![deny(unsafe_op_in_unsafe_fn)]
 
 #[allow(clippy::too_many_arguments)]
+mod c;
 mod ffi;
 mod map;
 pub mod notice;
