@@ -15,8 +15,9 @@
  * - The program is a 64-bit one for x86-64.
  *
  * HOW MEMORY IS LENT
- * A buffer is a pointer and its length in elements, in this order. Each buffer has a named size. A longer one is allowed: only its first part
- * is used, and the rest keeps its value. A shorter one is refused with 1, even where the call would not have filled it.
+ * A buffer is a pointer and its length in elements, in this order. Most buffers have a named size. A longer one is allowed: only its first part
+ * is used, and the rest keeps its value. A shorter one is refused with 1, even where the call would not have filled it. `neighbours`, `input`,
+ * `piece` and the frame that is written as a line have no named size; the `out` of a stream is used as far as it goes.
  *
  * REFUSALS
  * A refused call answers a number from 1 to 9: the first of its own that applies, in rising order. It changes nothing that was lent, scratch
@@ -52,9 +53,9 @@ extern "C" {
 
 /* ---- marks in the tables */
 
-#define ZORPEDI_FAR 65535     /* hop table: a closed code. Bound table: a depot neither searched nor skipped */
+#define ZORPEDI_FAR 65535     /* hop table: a closed code. Bound table: a code neither searched nor skipped, closed ones included */
 #define ZORPEDI_SEARCHED 256  /* skip table: a searched depot; its bound is its eccentricity */
-#define ZORPEDI_UNMARKED 257  /* skip table: neither searched nor skipped. 0 to 255: skipped, by this reference */
+#define ZORPEDI_UNMARKED 257  /* skip table: a code neither searched nor skipped, closed ones included. 0 to 255: skipped, by this reference */
 
 /* ---- the numbers that a call answers */
 
@@ -70,9 +71,9 @@ enum zorpedi_answer {
     ZORPEDI_UNKNOWN = 8,  /* unknown: a neighbour is closed, the new code itself included */
     ZORPEDI_GARBLED = 9,  /* garbled: no 0A in the first 517 bytes, another character than 0-9 A-F, wrong digit count, or kind not 01; for
                              the writer, a frame with a wrong kind or length */
-    ZORPEDI_GREW = 71,    /* 'G', zorpedi_open only: accepted, and the longest chain is greater than before */
-    ZORPEDI_KEPT = 75,    /* 'K', zorpedi_open only: accepted, and it is the same */
-    ZORPEDI_SHRANK = 83   /* 'S', zorpedi_open only: accepted, and it is smaller */
+    ZORPEDI_GREW = 71,    /* 'G', grew, zorpedi_open only: accepted, and the longest chain is greater than before */
+    ZORPEDI_KEPT = 75,    /* 'K', kept, zorpedi_open only: accepted, and it is the same */
+    ZORPEDI_SHRANK = 83   /* 'S', shrank, zorpedi_open only: accepted, and it is neither; where the figures were true it is smaller */
 };
 
 /* ---- what the memory means
@@ -83,11 +84,12 @@ enum zorpedi_answer {
  *
  * Links are sound if the number open equals the ones in the open set, no row has a bit for a closed code or its own, closed codes have empty
  * rows, and bit v of row u equals bit u of row v. Figures are sound if every pair bit joins two open codes u < v, the pair count equals the
- * ones in the pair table, and the longest chain is at most 255. A record word beyond these is spoilt (2) in every call that looks at it: all
- * calls look at the open set and the number; an opening and the stream look at chain and pair count too.
+ * ones in the pair table, and the longest chain is at most 255. A record word beyond these is spoilt (2) in every call that looks at it: search,
+ * reckoning, opening and stream look at the open set and the number; opening and stream at chain and pair count too.
  *
- * The map of a program is the record, the link table and the pair table. All zero is the empty map. A map that only these calls have written
- * since it was emptied is never spoilt or apart.
+ * The map of a program is the record, the link table and the pair table. All zero is the empty map. A map that only zorpedi_open and the stream
+ * have written since it was emptied is never spoilt or apart, and its figures are true: those of its links. A reckoning leaves the links as they
+ * are and writes true figures.
  */
 
 /* ---- the map */
@@ -108,9 +110,10 @@ uint8_t zorpedi_search(uint16_t *hops, size_t hops_size, uint64_t *even, size_t 
 
 /* Reckons longest chain and farthest pairs afresh from the links; chain, pair count and pair table may hold anything before.
  * 0: record words 5 and 6 and the pair table are those of the links; *searches is the number of depots searched, the references. The next
- * reference is the remaining depot of highest degree, lowest code on a tie. After the search from a reference r each remaining depot v has
- * the bound e(r) + d(r,v) if that is below the bound it has, and leaves as skipped if its bound is below the longest chain found so far. For c
- * from 0 to 255: skips[c] is the earliest reference that gave the bound at which c was skipped (0 to 255), 256 if c was searched, else 257;
+ * reference is the remaining depot of highest degree, lowest code on a tie. After the search from a reference r: if e(r) is the longest chain
+ * found so far, and not 0, r with each depot at that distance joins the pairs; if it is greater, it is that chain, and the pairs are r's own. Then
+ * each remaining depot v has the bound e(r) + d(r,v) if that is below the bound it has, and leaves as skipped if its bound is below that chain.
+ * For c from 0 to 255: skips[c] is the earliest reference that gave the bound at which c was skipped (0 to 255), 256 if c was searched, else 257;
  * bounds[c] is that bound, the eccentricity if c was searched, else 65,535. hops, even and odd are as the last search leaves them (see
  * zorpedi_search), and unchanged if no depot is open.
  * Refused: 1 (record below 7, links or pairs below 1,024, hops, bounds or skips below 256, even or odd below 4), 2 (links only), 3. */
@@ -119,12 +122,14 @@ uint8_t zorpedi_reckon(uint64_t *record, size_t record_size, uint64_t *pairs, si
                        uint64_t *odd, size_t odd_size, uint16_t *searches, const uint64_t *links, size_t links_size);
 
 /* Opens the depot `code` beside `neighbours`.
- * 71 'G', 75 'K' or 83 'S': the code joins the open set, the links to its neighbours join the link table, and chain, pair count and pair
- * table are brought up to date; the answer compares the new chain with the old. *searches is the number of depots searched: 1 for 'G' and
- * 'K', at most the number open for 'S'. The new depot is searched first; with 'S' the rounds of zorpedi_reckon follow, from the greatest
- * distance that a stored pair still has. skips and bounds mark the depots of this call as zorpedi_reckon says, all 256 places of both; hops,
- * even and odd are as the last search leaves them. If the figures were those of the links, they are so again. If they were sound but false,
- * the same steps are taken on them.
+ * 71 'G', 75 'K' or 83 'S': the code joins the open set, the links to its neighbours join the link table, and the new depot a is searched from.
+ * Let D be the stored chain. If e(a) is above D: 'G', the chain is e(a) and the pairs are a with each depot at that distance. Else every stored
+ * pair (v,w) with d(v,a) + d(w,a) below D goes, and if e(a) is D, a joins in a pair with each other depot at that distance; if e(a) is D or a
+ * pair is left: 'K', and the chain stays. Else 'S': the rounds of zorpedi_reckon follow, without pairs, a being the first reference, and with the
+ * greatest, over the stored pairs, of the smaller of D and d(v,a) + d(w,a) as the chain found so far, 0 without pairs. The pair count is that of
+ * the pair table. *searches is the number of depots searched: 1 for 'G' and 'K', at most the number open for 'S'. skips and bounds mark the depots
+ * of this call as zorpedi_reckon says, all 256 places of both; hops, even and odd are as the last search leaves them. If the figures were true,
+ * they are so again, and the answer compares the new chain with the old. On sound but false figures the same steps are taken.
  * Refused: 1 (sizes as for zorpedi_reckon; the neighbours have none), 2 (links or figures), 3, 5, 6, 7, 8. */
 uint8_t zorpedi_open(uint64_t *record, size_t record_size, uint64_t *links, size_t links_size, uint64_t *pairs, size_t pairs_size,
                      uint16_t *hops, size_t hops_size, uint16_t *bounds, size_t bounds_size, uint16_t *skips, size_t skips_size,
@@ -164,9 +169,9 @@ uint8_t zorpedi_report(uint8_t *line, size_t line_size, size_t *length, uint32_t
 /* Feeds a piece of the input.
  * 0: the first *used bytes of the piece are used: each line that ends in them is answered, as zorpedi_read_notice and zorpedi_open answer, and
  * counted in *lines; its report stands in `out`; what follows the last of these lines is held in `line`. The first *written bytes of `out` are
- * the reports. It stops before a byte where fewer than 48 bytes of `out` are free, and after the line 1,000,000: what is not used is to be
- * fed again. Record, tables and rows are as the openings leave them, one after the other; bytes of `line` are overwritten from the
- * start of each line, the others stay.
+ * the reports. It stops before a byte where fewer than 48 bytes of `out` are free, and what is not used is to be fed again; after the line
+ * 1,000,000 nothing more is used. Record, tables and rows are as the openings leave them, one after the other; bytes of `line` are overwritten
+ * from the start of each line, the others stay.
  * Refused: 1 (sizes as for zorpedi_open; line below 517, out below 48, *held over 517), 2 (links or figures), 3.
  * The map is checked once in each call, so feed large pieces. */
 uint8_t zorpedi_feed(uint64_t *record, size_t record_size, uint64_t *links, size_t links_size, uint64_t *pairs, size_t pairs_size,

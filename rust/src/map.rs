@@ -10,7 +10,7 @@ pub enum Change {
     Grew,
     /// It is the same.
     Kept,
-    /// It is smaller.
+    /// Neither; it is smaller, unless the map was made by [`Map::from_parts`] with figures that were not true.
     Shrank,
 }
 

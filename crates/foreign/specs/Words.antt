@@ -15,6 +15,6 @@ wordsOf rec = rec .codes ++ (rec .number ∷ rec .chain ∷ rec .count ∷ [])
 
 -- ---- a step of the code: nobody has to believe it
 
--- The record at the widths of its fields. `clamped-open` and its neighbours (proofs/Clamps) say that no call can tell the difference.
+-- The record at the widths of its fields. `map-clamp` and `clamped-is` (proofs/Clamps) say that no call can tell the difference.
 unfoldable pub clampedOf : List ℕ → Record
 clampedOf words = record { codes = take 4 words; number = min (getD words 4 0) 65535; chain = min (getD words 5 0) 65535; count = min (getD words 6 0) 4294967295 }

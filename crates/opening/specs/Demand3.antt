@@ -1,6 +1,6 @@
 -- DEMAND 3, one statement over lists of opening calls from the empty map. `Demand3 base step` is document 01's, of a program whose opening call
 -- is `step`: the code's contract makes it `openCall base`, by one equation for result and every byte lent. That equation also fixes what these
--- four parts leave open: pick rule, references in order, bound, hop and layer tables, refused calls, words past the named sizes.
+-- four parts leave open: the order of the references, bound, hop and layer tables, refused calls, words past the named sizes.
 -- Assumes nothing.
 use mathlib.Core.Path.{_≡_}
 use mathlib.Core.Logic.{_↔_}
