@@ -80,7 +80,11 @@ pub fn notice_refusal(codes: &[u64], words: usize, code: u8, neighbours: &[u8]) 
 // Links a code with each neighbour, both ways.
 pub fn link_depot(links: &mut [u64], words: usize, code: u8, neighbours: &[u8])
     requires { ⌜ (4 ≤ words) × (words < 513) × (words * (64 * words) ≤ length (now links)) ⌝ }
-    ensures { λ r. ⌜ now (links .exit) ≡ overwrite (encodeTable words (λ u v. (eqb u code && memb v (now (neighbours .entry))) || (eqb v code && memb u (now (neighbours .entry))) || tableBit words (now (links .entry)) u v)) (now (links .entry)) ⌝ }
+    ensures { λ r.
+        let before = now (links .entry) in
+        let others = now (neighbours .entry) in
+        let table = encodeTable words (λ u v. (eqb u code && memb v others) || (eqb v code && memb u others) || tableBit words before u v) in
+        ⌜ now (links .exit) ≡ overwrite table before ⌝ }
 {
     let a = code as usize;
     let mut i: usize = 0;

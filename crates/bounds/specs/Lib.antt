@@ -2,3 +2,5 @@
 pub mod Bounds
 -- The marks of a call that searched from one depot alone.
 pub mod Once
+-- The slices of the marks as one value, for the contracts.
+pub mod Slices

@@ -7,7 +7,9 @@ ghost use Rattle.graph.specs.Rounds.{round, rounds, start};
 ghost use Rattle.layers.specs.Layers.{tables, searched, searchTable};
 ghost use Rattle.map.specs.Memory.{base, networkOf};
 ghost use Rattle.pairs.specs.Pairs.{tally, settleOf, Counted};
-ghost use Rattle.rounds.specs.Leaves.{lent, ran, ranBy};
+ghost use Rattle.rounds.specs.Leaves.{ran, ranBy};
+ghost use Rattle.layers.specs.Slices.{tablesBefore, tablesAfter};
+ghost use Rattle.rounds.specs.Slices.{lentAt, lentBefore, lentAfter};
 ghost use Rattle.rounds.specs.Workspace.{lastRow};
 ghost use Rattle.figures.specs.Figured.{figured, figuredBy, IsFigurable};
 ghost use Rattle.bounds.specs.Once.{marking};
@@ -35,8 +37,13 @@ fn settle_own(
     chain: u16,
     count: u32,
 ) -> u32
-    requires { ⌜ Counted 4 (now pairs) count × (4 ≤ length (now even)) × (4 ≤ length (now odd)) × (a < 256) ⌝ }
-    ensures { λ n. ⌜ tally (now (pairs .exit)) n ≡ settleOf 4 (lastRow e (tables [] (now (even .entry)) (now (odd .entry)))) a e chain (tally (now (pairs .entry)) count) ⌝ }
+    requires { ⌜ Counted 4 (now pairs) count
+        × (4 ≤ length (now even))
+        × (4 ≤ length (now odd))
+        × (a < 256) ⌝ }
+    ensures { λ n.
+        let row = lastRow e (tables [] (now (even .entry)) (now (odd .entry))) in
+        ⌜ tally (now (pairs .exit)) n ≡ settleOf 4 row a e chain (tally (now (pairs .entry)) count) ⌝ }
 {
     if e % 2 == 0 {
         return pairs::settle(pairs, even, 4, a, e, chain, count);
@@ -56,8 +63,17 @@ fn join(
     chain: u16,
     count: u32,
 ) -> u32
-    requires { ⌜ Counted 4 (now pairs) count × (256 ≤ length (now bounds)) × (256 ≤ length (now skips)) × (4 ≤ length (now even)) × (4 ≤ length (now odd)) × (a < 256) ⌝ }
-    ensures { λ n. ⌜ joined (tally (now (pairs .exit)) n) (marking (now (bounds .exit)) (now (skips .exit))) ≡ joinOf base a e chain (tables [] (now (even .entry)) (now (odd .entry))) (joined (tally (now (pairs .entry)) count) (marking (now (bounds .entry)) (now (skips .entry)))) ⌝ }
+    requires { ⌜ Counted 4 (now pairs) count
+        × (256 ≤ length (now bounds))
+        × (256 ≤ length (now skips))
+        × (4 ≤ length (now even))
+        × (4 ≤ length (now odd))
+        × (a < 256) ⌝ }
+    ensures { λ n.
+        let T = tables [] (now (even .entry)) (now (odd .entry)) in
+        let before = joined (tally (now (pairs .entry)) count) (marking (now (bounds .entry)) (now (skips .entry))) in
+        let after = joined (tally (now (pairs .exit)) n) (marking (now (bounds .exit)) (now (skips .exit))) in
+        ⌜ after ≡ joinOf base a e chain T before ⌝ }
 {
     let sum = settle_own(pairs, even, odd, a, e, chain, count);
     bounds::mark_once(bounds, skips, 4, a, e, 256, 257);
@@ -80,8 +96,17 @@ fn shrink(
     e: u16,
     way: u16,
 ) -> Tally
-    requires { ⌜ IsWhole base (now codes) (now links) (lent (now pairs) (tables (now hops) (now even) (now odd)) (now bounds) (now skips)) × IsSearched base (now codes) (now links) (lent (now pairs) (tables (now hops) (now even) (now odd)) (now bounds) (now skips)) a e × (a < 256) ⌝ }
-    ensures { λ t. ⌜ ran (lent (now (pairs .exit)) (tables (now (hops .exit)) (now (even .exit)) (now (odd .exit))) (now (bounds .exit)) (now (skips .exit))) (t .candidate) (t .count) (t .searches) ≡ ranBy base (networkOf 4 (now (codes .entry)) (now (links .entry))) (rounds (chart (networkOf 4 (now (codes .entry)) (now (links .entry)))) (length (chart (networkOf 4 (now (codes .entry)) (now (links .entry))) .depots)) (round (chart (networkOf 4 (now (codes .entry)) (now (links .entry)))) a (start way))) (lent (now (pairs .entry)) (tables (now (hops .entry)) (now (even .entry)) (now (odd .entry))) (now (bounds .entry)) (now (skips .entry))) ⌝ }
+    requires { let given = lentAt pairs hops bounds skips even odd in
+        ⌜ IsWhole base (now codes) (now links) given
+        × IsSearched base (now codes) (now links) given a e
+        × (a < 256) ⌝ }
+    ensures { λ t.
+        let before = lentBefore pairs hops bounds skips even odd in
+        let after = lentAfter pairs hops bounds skips even odd in
+        let G = networkOf 4 (now (codes .entry)) (now (links .entry)) in
+        let M = chart G in
+        ⌜ ran after (t .candidate) (t .count) (t .searches)
+        ≡ ranBy base G (rounds M (length (M .depots)) (round M a (start way))) before ⌝ }
 {
     let mut ranks = [0u16; 256];
     let mut seen = [0u64; 4];
@@ -128,8 +153,15 @@ fn shrink(
 
 // The search from a, on local memory for the codes seen and the next layer.
 fn search_once(hops: &mut [u16], even: &mut [u64], odd: &mut [u64], links: &[u64], a: usize) -> u16
-    requires { ⌜ (1024 ≤ length (now links)) × (256 ≤ length (now hops)) × (4 ≤ length (now even)) × (4 ≤ length (now odd)) × (a < 256) ⌝ }
-    ensures { λ r. ⌜ searched r (tables (now (hops .exit)) (now (even .exit)) (now (odd .exit))) ≡ searchTable 4 (now (links .entry)) a (tables (now (hops .entry)) (now (even .entry)) (now (odd .entry))) ⌝ }
+    requires { ⌜ (1024 ≤ length (now links))
+        × (256 ≤ length (now hops))
+        × (4 ≤ length (now even))
+        × (4 ≤ length (now odd))
+        × (a < 256) ⌝ }
+    ensures { λ r.
+        let before = tablesBefore hops even odd in
+        let after = tablesAfter hops even odd in
+        ⌜ searched r after ≡ searchTable 4 (now (links .entry)) a before ⌝ }
 {
     let mut seen = [0u64; 4];
     let mut next = [0u64; 4];
@@ -150,8 +182,17 @@ fn settle_low(
     e: u16,
     chain: u16,
 ) -> Figures
-    requires { ⌜ IsWhole base (now codes) (now links) (lent (now pairs) (tables (now hops) (now even) (now odd)) (now bounds) (now skips)) × AreOpen base (now codes) (now links) (now pairs) × IsSearched base (now codes) (now links) (lent (now pairs) (tables (now hops) (now even) (now odd)) (now bounds) (now skips)) a e × (a < 256) × (e ≤ chain) ⌝ }
-    ensures { λ r. ⌜ figured (r .change) (ran (lent (now (pairs .exit)) (tables (now (hops .exit)) (now (even .exit)) (now (odd .exit))) (now (bounds .exit)) (now (skips .exit))) (r .chain) (r .count) (r .searches)) ≡ figuredBy base (networkOf 4 (now (codes .entry)) (now (links .entry))) a chain (lent (now (pairs .entry)) (tables (now (hops .entry)) (now (even .entry)) (now (odd .entry))) (now (bounds .entry)) (now (skips .entry))) ⌝ }
+    requires { let given = lentAt pairs hops bounds skips even odd in
+        ⌜ IsWhole base (now codes) (now links) given
+        × AreOpen base (now codes) (now links) (now pairs)
+        × IsSearched base (now codes) (now links) given a e
+        × (a < 256)
+        × (e ≤ chain) ⌝ }
+    ensures { λ r.
+        let before = lentBefore pairs hops bounds skips even odd in
+        let after = lentAfter pairs hops bounds skips even odd in
+        let G = networkOf 4 (now (codes .entry)) (now (links .entry)) in
+        ⌜ figured (r .change) (ran after (r .chain) (r .count) (r .searches)) ≡ figuredBy base G a chain before ⌝ }
 {
     let left = pairs::drop_stale(pairs, &*hops, 4, chain);
     if e == chain {
@@ -208,8 +249,13 @@ pub fn refigure(
     chain: u16,
     count: u32,
 ) -> Figures
-    requires { ⌜ IsFigurable base (now codes) (now links) (lent (now pairs) (tables (now hops) (now even) (now odd)) (now bounds) (now skips)) a chain count × (a < 256) ⌝ }
-    ensures { λ r. ⌜ figured (r .change) (ran (lent (now (pairs .exit)) (tables (now (hops .exit)) (now (even .exit)) (now (odd .exit))) (now (bounds .exit)) (now (skips .exit))) (r .chain) (r .count) (r .searches)) ≡ figuredBy base (networkOf 4 (now (codes .entry)) (now (links .entry))) a chain (lent (now (pairs .entry)) (tables (now (hops .entry)) (now (even .entry)) (now (odd .entry))) (now (bounds .entry)) (now (skips .entry))) ⌝ }
+    requires { let given = lentAt pairs hops bounds skips even odd in
+        ⌜ IsFigurable base (now codes) (now links) given a chain count × (a < 256) ⌝ }
+    ensures { λ r.
+        let before = lentBefore pairs hops bounds skips even odd in
+        let after = lentAfter pairs hops bounds skips even odd in
+        let G = networkOf 4 (now (codes .entry)) (now (links .entry)) in
+        ⌜ figured (r .change) (ran after (r .chain) (r .count) (r .searches)) ≡ figuredBy base G a chain before ⌝ }
 {
     let e = search_once(hops, even, odd, links, a);
     if chain < e {

@@ -1,9 +1,6 @@
 // The program: notice lines from standard input, a report line for each to standard output. What a read brings is answered and written before
 // the next read, so that a person or a scanner on a pipe sees each report at once; a file goes through in large pieces.
-ghost use Prim.Native.Nat.{_≤_};
-ghost use lib.ListN.{length};
-ghost use Rattle.layers.specs.Layers.{tables};
-ghost use Rattle.rounds.specs.Leaves.{lent};
+ghost use Rattle.rounds.specs.Slices.{lentAt, lentAfter};
 ghost use Rattle.stream.specs.Feeding.{IsReady};
 use stream::Progress;
 
@@ -28,8 +25,8 @@ fn answer(
     out: &mut [u8],
     piece: &[u8],
 ) -> Answered
-    requires { ⌜ IsReady progress (now links) (lent (now pairs) (tables (now hops) (now even) (now odd)) (now bounds) (now skips)) (now line) ⌝ }
-    ensures { λ r. ⌜ IsReady (r .progress) (now (links .exit)) (lent (now (pairs .exit)) (tables (now (hops .exit)) (now (even .exit)) (now (odd .exit))) (now (bounds .exit)) (now (skips .exit))) (now (line .exit)) ⌝ }
+    requires { ⌜ IsReady progress (now links) (lentAt pairs hops bounds skips even odd) (now line) ⌝ }
+    ensures { λ r. ⌜ IsReady (r .progress) (now (links .exit)) (lentAfter pairs hops bounds skips even odd) (now (line .exit)) ⌝ }
 {
     let mut now = progress;
     let mut at: usize = 0;
@@ -85,8 +82,8 @@ fn answer_all(
     out: &mut [u8],
     input: &mut [u8],
 ) -> Answered
-    requires { ⌜ IsReady progress (now links) (lent (now pairs) (tables (now hops) (now even) (now odd)) (now bounds) (now skips)) (now line) ⌝ }
-    ensures { λ r. ⌜ IsReady (r .progress) (now (links .exit)) (lent (now (pairs .exit)) (tables (now (hops .exit)) (now (even .exit)) (now (odd .exit))) (now (bounds .exit)) (now (skips .exit))) (now (line .exit)) ⌝ }
+    requires { ⌜ IsReady progress (now links) (lentAt pairs hops bounds skips even odd) (now line) ⌝ }
+    ensures { λ r. ⌜ IsReady (r .progress) (now (links .exit)) (lentAfter pairs hops bounds skips even odd) (now (line .exit)) ⌝ }
 {
     let mut now = progress;
     let mut turns = u64::MAX;
@@ -137,7 +134,7 @@ fn end(
     out: &mut [u8],
     line: &[u8],
 )
-    requires { ⌜ IsReady progress (now links) (lent (now pairs) (tables (now hops) (now even) (now odd)) (now bounds) (now skips)) (now line) ⌝ }
+    requires { ⌜ IsReady progress (now links) (lentAt pairs hops bounds skips even odd) (now line) ⌝ }
 {
     let fed = stream::finish(
         progress,
@@ -169,7 +166,7 @@ fn follow(
     out: &mut [u8],
     input: &mut [u8],
 )
-    requires { ⌜ IsReady progress (now links) (lent (now pairs) (tables (now hops) (now even) (now odd)) (now bounds) (now skips)) (now line) ⌝ }
+    requires { ⌜ IsReady progress (now links) (lentAt pairs hops bounds skips even odd) (now line) ⌝ }
 {
     let answered = answer_all(
         progress,

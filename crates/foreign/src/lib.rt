@@ -111,7 +111,9 @@ pub fn step_refusal(
     out: usize,
     held: usize,
 ) -> u8
-    ensures { λ r. ⌜ r ≡ stepRefusal (now (words .entry)) (now (links .entry)) (now (pairs .entry)) (sizes (length (now (links .entry))) (length (now (pairs .entry))) hops bounds skips even odd) line out held ⌝ }
+    ensures { λ r.
+        let long = sizes (length (now (links .entry))) (length (now (pairs .entry))) hops bounds skips even odd in
+        ⌜ r ≡ stepRefusal (now (words .entry)) (now (links .entry)) (now (pairs .entry)) long line out held ⌝ }
 {
     if words.len() < 7 {
         return 1;

@@ -3,3 +3,5 @@
 pub mod Layers
 -- 2. the steps of the code's loop
 pub mod Steps
+-- 3. the slices of a search as one value, for the contracts
+pub mod Slices

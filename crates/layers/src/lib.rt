@@ -5,8 +5,10 @@ ghost use lib.ListN.{length};
 ghost use Rattle.lists.specs.Lists.{range, mapl, overwrite};
 ghost use Rattle.words.specs.Bits.{bit, wordOf};
 ghost use Rattle.rows.specs.Rows.{rowBit, tableBit};
-ghost use Rattle.layers.specs.Layers.{tables, searched, searchTable};
-ghost use Rattle.layers.specs.Steps.{inWord, AreWords, noWords, reached, reachSet, putWord, visited, visitOf, unseen, unseenOf, passed, passOn, stepped, stepOf, begun, beginOf, Room};
+ghost use Rattle.layers.specs.Layers.{searched, searchTable};
+ghost use Rattle.layers.specs.Slices.{tablesBefore, tablesAfter};
+ghost use Rattle.layers.specs.Steps.{Room, AreWords, inWord, noWords, reached, reachSet, putWord, visited, visitOf};
+ghost use Rattle.layers.specs.Steps.{unseen, unseenOf, passed, passOn, stepped, stepOf, begun, beginOf};
 
 // Puts x into the first n places of a table of numbers.
 pub fn fill(table: &mut [u16], n: usize, x: u16)
@@ -86,7 +88,10 @@ fn reach_layer(
     k: u16,
 ) -> Four
     requires { ⌜ Room words (now links) (now hops) × (words ≤ length (now layer)) × (j < words) ⌝ }
-    ensures { λ r. ⌜ reached r (now (hops .exit)) ≡ reachSet words (now (links .entry)) k j (rowBit words (now (layer .entry))) (reached noWords (now (hops .entry))) ⌝ }
+    ensures { λ r.
+        let before = reached noWords (now (hops .entry)) in
+        let members = rowBit words (now (layer .entry)) in
+        ⌜ reached r (now (hops .exit)) ≡ reachSet words (now (links .entry)) k j members before ⌝ }
 {
     let mut got = Four {
         a: 0,
@@ -116,7 +121,10 @@ fn put_word(row: &mut [u64], words: usize, j: usize, x: u64)
 // four is visited once; a longer one gets its hops again with each four.
 fn visit(next: &mut [u64], hops: &mut [u16], links: &[u64], layer: &[u64], words: usize, k: u16)
     requires { ⌜ Room words (now links) (now hops) × (words ≤ length (now next)) × (words ≤ length (now layer)) ⌝ }
-    ensures { λ r. ⌜ visited (now (next .exit)) (now (hops .exit)) ≡ visitOf words (now (links .entry)) (now (layer .entry)) k (visited (now (next .entry)) (now (hops .entry))) ⌝ }
+    ensures { λ r.
+        let before = visited (now (next .entry)) (now (hops .entry)) in
+        let after = visited (now (next .exit)) (now (hops .exit)) in
+        ⌜ after ≡ visitOf words (now (links .entry)) (now (layer .entry)) k before ⌝ }
 {
     let mut j = 0;
     while j < words {
@@ -171,8 +179,14 @@ fn step(
     words: usize,
     k: u16,
 ) -> bool
-    requires { ⌜ Room words (now links) (now hops) × (words ≤ length (now layer)) × (words ≤ length (now other)) × (words ≤ length (now seen)) × (words ≤ length (now next)) ⌝ }
-    ensures { λ r. ⌜ stepped r (now (hops .exit)) (now (other .exit)) (now (seen .exit)) ≡ stepOf words (now (links .entry)) (now (layer .entry)) k (now (hops .entry)) (now (other .entry)) (now (seen .entry)) ⌝ }
+    requires { ⌜ Room words (now links) (now hops)
+        × (words ≤ length (now layer))
+        × (words ≤ length (now other))
+        × (words ≤ length (now seen))
+        × (words ≤ length (now next)) ⌝ }
+    ensures { λ r.
+        ⌜ stepped r (now (hops .exit)) (now (other .exit)) (now (seen .exit))
+        ≡ stepOf words (now (links .entry)) (now (layer .entry)) k (now (hops .entry)) (now (other .entry)) (now (seen .entry)) ⌝ }
 {
     visit(next, hops, links, layer, words, k);
     if !keep_unseen(next, &*seen, words) {
@@ -191,8 +205,17 @@ fn begin(
     words: usize,
     start: usize,
 )
-    requires { ⌜ (0 < words) × (words < 513) × (64 * words ≤ length (now hops)) × (words ≤ length (now even)) × (words ≤ length (now odd)) × (words ≤ length (now seen)) × (start < 64 * words) ⌝ }
-    ensures { λ r. ⌜ begun (tables (now (hops .exit)) (now (even .exit)) (now (odd .exit))) (now (seen .exit)) ≡ beginOf words start (tables (now (hops .entry)) (now (even .entry)) (now (odd .entry))) (now (seen .entry)) ⌝ }
+    requires { ⌜ (0 < words)
+        × (words < 513)
+        × (64 * words ≤ length (now hops))
+        × (words ≤ length (now even))
+        × (words ≤ length (now odd))
+        × (words ≤ length (now seen))
+        × (start < 64 * words) ⌝ }
+    ensures { λ r.
+        let before = tablesBefore hops even odd in
+        let after = tablesAfter hops even odd in
+        ⌜ begun after (now (seen .exit)) ≡ beginOf words start before (now (seen .entry)) ⌝ }
 {
     fill(hops, 64 * words, 65535);
     rows::clear(even, words);
@@ -214,8 +237,16 @@ pub fn search_table(
     words: usize,
     start: usize,
 ) -> u16
-    requires { ⌜ Room words (now links) (now hops) × (words ≤ length (now even)) × (words ≤ length (now odd)) × (words ≤ length (now seen)) × (words ≤ length (now next)) × (start < 64 * words) ⌝ }
-    ensures { λ r. ⌜ searched r (tables (now (hops .exit)) (now (even .exit)) (now (odd .exit))) ≡ searchTable words (now (links .entry)) start (tables (now (hops .entry)) (now (even .entry)) (now (odd .entry))) ⌝ }
+    requires { ⌜ Room words (now links) (now hops)
+        × (words ≤ length (now even))
+        × (words ≤ length (now odd))
+        × (words ≤ length (now seen))
+        × (words ≤ length (now next))
+        × (start < 64 * words) ⌝ }
+    ensures { λ r.
+        let before = tablesBefore hops even odd in
+        let after = tablesAfter hops even odd in
+        ⌜ searched r after ≡ searchTable words (now (links .entry)) start before ⌝ }
 {
     begin(hops, even, odd, seen, words, start);
     let mut k: u16 = 0;

@@ -1,9 +1,8 @@
 // The opening on a record that is lent by `&mut`, as document 01 names it: a thin function over the step by value, whose proof is a walk of its
 // code by hand.
 ghost use mathlib.Core.Path.{_≡_};
-ghost use Rattle.layers.specs.Layers.{tables};
 ghost use Rattle.map.specs.Memory.{base};
-ghost use Rattle.rounds.specs.Leaves.{lent};
+ghost use Rattle.rounds.specs.Slices.{lentBefore, lentAfter};
 ghost use Rattle.opening.specs.OpenCall.{leftOf, openLeft, openCall};
 ghost use Rattle.opening.specs.Steps.{noticeOf};
 use map::Record;
@@ -23,7 +22,12 @@ pub fn open(
     code: u8,
     neighbours: &[u8],
 ) -> Report
-    ensures { λ r. ⌜ leftOf r (now (rec .exit)) (now (links .exit)) (lent (now (pairs .exit)) (tables (now (hops .exit)) (now (even .exit)) (now (odd .exit))) (now (bounds .exit)) (now (skips .exit))) ≡ openCall base (now (rec .entry)) (now (links .entry)) (lent (now (pairs .entry)) (tables (now (hops .entry)) (now (even .entry)) (now (odd .entry))) (now (bounds .entry)) (now (skips .entry))) (noticeOf code (now (neighbours .entry))) ⌝ }
+    ensures { λ r.
+        let before = lentBefore pairs hops bounds skips even odd in
+        let after = lentAfter pairs hops bounds skips even odd in
+        let notice = noticeOf code (now (neighbours .entry)) in
+        ⌜ leftOf r (now (rec .exit)) (now (links .exit)) after
+        ≡ openCall base (now (rec .entry)) (now (links .entry)) before notice ⌝ }
 {
     let got = opening::open_step(
         *rec,
@@ -54,7 +58,11 @@ pub fn open_value(
     code: u8,
     neighbours: &[u8],
 ) -> Opened
-    ensures { λ r. ⌜ openLeft r (now (links .exit)) (lent (now (pairs .exit)) (tables (now (hops .exit)) (now (even .exit)) (now (odd .exit))) (now (bounds .exit)) (now (skips .exit))) ≡ openCall base rec (now (links .entry)) (lent (now (pairs .entry)) (tables (now (hops .entry)) (now (even .entry)) (now (odd .entry))) (now (bounds .entry)) (now (skips .entry))) (noticeOf code (now (neighbours .entry))) ⌝ }
+    ensures { λ r.
+        let before = lentBefore pairs hops bounds skips even odd in
+        let after = lentAfter pairs hops bounds skips even odd in
+        let notice = noticeOf code (now (neighbours .entry)) in
+        ⌜ openLeft r (now (links .exit)) after ≡ openCall base rec (now (links .entry)) before notice ⌝ }
 {
     let mut own = rec;
     let report = open(

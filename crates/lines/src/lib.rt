@@ -60,7 +60,11 @@ pub fn hold_part(line: &mut [u8], piece: &[u8], from: usize, held: usize) -> Par
 // Writes the report of line `number` behind what is written, and answers the place behind it.
 pub fn put_report(out: &mut [u8], at: usize, number: u32, got: Opened) -> usize
     requires { ⌜ at + bufferLimit ≤ length (now out) ⌝ }
-    ensures { λ r. ⌜ (now (out .exit) ≡ pasted (reportLine (reportOf number got)) at (now (out .entry))) × (r ≡ at + length (reportLine (reportOf number got))) × (r ≤ length (now (out .exit))) ⌝ }
+    ensures { λ r.
+        let line = reportLine (reportOf number got) in
+        ⌜ (now (out .exit) ≡ pasted line at (now (out .entry)))
+        × (r ≡ at + length line)
+        × (r ≤ length (now (out .exit))) ⌝ }
 {
     let rec = got.after;
     let call = got.report;

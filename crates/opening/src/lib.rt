@@ -5,10 +5,9 @@ ghost use lib.Dec.{eqb};
 ghost use lib.ListN.{length};
 ghost use Rattle.lists.specs.Lists.{overwrite};
 ghost use Rattle.rows.specs.Rows.{rowBit, encodeRow};
-ghost use Rattle.layers.specs.Layers.{tables};
 ghost use Rattle.map.specs.Memory.{base};
-ghost use Rattle.rounds.specs.Leaves.{lent};
 ghost use Rattle.rounds.specs.Sizes.{sizes};
+ghost use Rattle.rounds.specs.Slices.{lentBefore, lentAfter, sizesAt};
 ghost use Rattle.opening.specs.OpenCall.{openRefusal, openLeft, openGiven, openCall};
 ghost use Rattle.opening.specs.Steps.{mapRefusal, noticeOf, refusedWith};
 use map::Record;
@@ -39,7 +38,9 @@ pub fn map_refusal(
     even: usize,
     odd: usize,
 ) -> u8
-    ensures { λ r. ⌜ r ≡ mapRefusal base rec (now (links .entry)) (now (pairs .entry)) (sizes (length (now (links .entry))) (length (now (pairs .entry))) hops bounds skips even odd) ⌝ }
+    ensures { λ r.
+        let long = sizes (length (now (links .entry))) (length (now (pairs .entry))) hops bounds skips even odd in
+        ⌜ r ≡ mapRefusal base rec (now (links .entry)) (now (pairs .entry)) long ⌝ }
 {
     if !reckon::are_long(links.len(), pairs.len(), hops, bounds, skips, even, odd) {
         return 1;
@@ -73,7 +74,9 @@ fn refused(rec: Record, number: u8) -> Opened
 // Puts the new code into the open set.
 fn put_code(codes: &mut [u64], code: u8)
     requires { ⌜ 4 ≤ length (now codes) ⌝ }
-    ensures { λ r. ⌜ now (codes .exit) ≡ overwrite (encodeRow 4 (λ v. eqb v code || rowBit 4 (now (codes .entry)) v)) (now (codes .entry)) ⌝ }
+    ensures { λ r.
+        let before = now (codes .entry) in
+        ⌜ now (codes .exit) ≡ overwrite (encodeRow 4 (λ v. eqb v code || rowBit 4 before v)) before ⌝ }
 {
     rows::row_set(codes, 4, 0, code as usize);
 }
@@ -91,8 +94,13 @@ fn open_map(
     code: u8,
     neighbours: &[u8],
 ) -> Opened
-    requires { ⌜ openRefusal base rec (now links) (now pairs) (sizes (length (now links)) (length (now pairs)) (length (now hops)) (length (now bounds)) (length (now skips)) (length (now even)) (length (now odd))) (noticeOf code (now neighbours)) ≡ 0 ⌝ }
-    ensures { λ r. ⌜ openLeft r (now (links .exit)) (lent (now (pairs .exit)) (tables (now (hops .exit)) (now (even .exit)) (now (odd .exit))) (now (bounds .exit)) (now (skips .exit))) ≡ openGiven 0 base rec (now (links .entry)) (lent (now (pairs .entry)) (tables (now (hops .entry)) (now (even .entry)) (now (odd .entry))) (now (bounds .entry)) (now (skips .entry))) (noticeOf code (now (neighbours .entry))) ⌝ }
+    requires { let long = sizesAt links pairs hops bounds skips even odd in
+        ⌜ openRefusal base rec (now links) (now pairs) long (noticeOf code (now neighbours)) ≡ 0 ⌝ }
+    ensures { λ r.
+        let before = lentBefore pairs hops bounds skips even odd in
+        let after = lentAfter pairs hops bounds skips even odd in
+        let notice = noticeOf code (now (neighbours .entry)) in
+        ⌜ openLeft r (now (links .exit)) after ≡ openGiven 0 base rec (now (links .entry)) before notice ⌝ }
 {
     admission::link_depot(links, 4, code, neighbours);
     let mut codes = rec.codes;
@@ -140,8 +148,13 @@ pub fn open_sound(
     code: u8,
     neighbours: &[u8],
 ) -> Opened
-    requires { ⌜ mapRefusal base rec (now links) (now pairs) (sizes (length (now links)) (length (now pairs)) (length (now hops)) (length (now bounds)) (length (now skips)) (length (now even)) (length (now odd))) ≡ 0 ⌝ }
-    ensures { λ r. ⌜ openLeft r (now (links .exit)) (lent (now (pairs .exit)) (tables (now (hops .exit)) (now (even .exit)) (now (odd .exit))) (now (bounds .exit)) (now (skips .exit))) ≡ openCall base rec (now (links .entry)) (lent (now (pairs .entry)) (tables (now (hops .entry)) (now (even .entry)) (now (odd .entry))) (now (bounds .entry)) (now (skips .entry))) (noticeOf code (now (neighbours .entry))) ⌝ }
+    requires { let long = sizesAt links pairs hops bounds skips even odd in
+        ⌜ mapRefusal base rec (now links) (now pairs) long ≡ 0 ⌝ }
+    ensures { λ r.
+        let before = lentBefore pairs hops bounds skips even odd in
+        let after = lentAfter pairs hops bounds skips even odd in
+        let notice = noticeOf code (now (neighbours .entry)) in
+        ⌜ openLeft r (now (links .exit)) after ≡ openCall base rec (now (links .entry)) before notice ⌝ }
 {
     let codes = rec.codes;
     let refusal = admission::notice_refusal(&codes, 4, code, neighbours);
@@ -176,7 +189,11 @@ pub fn open_step(
     code: u8,
     neighbours: &[u8],
 ) -> Opened
-    ensures { λ r. ⌜ openLeft r (now (links .exit)) (lent (now (pairs .exit)) (tables (now (hops .exit)) (now (even .exit)) (now (odd .exit))) (now (bounds .exit)) (now (skips .exit))) ≡ openCall base rec (now (links .entry)) (lent (now (pairs .entry)) (tables (now (hops .entry)) (now (even .entry)) (now (odd .entry))) (now (bounds .entry)) (now (skips .entry))) (noticeOf code (now (neighbours .entry))) ⌝ }
+    ensures { λ r.
+        let before = lentBefore pairs hops bounds skips even odd in
+        let after = lentAfter pairs hops bounds skips even odd in
+        let notice = noticeOf code (now (neighbours .entry)) in
+        ⌜ openLeft r (now (links .exit)) after ≡ openCall base rec (now (links .entry)) before notice ⌝ }
 {
     let refusal = map_refusal(
         rec,

@@ -7,12 +7,15 @@ ghost use lib.Dec.{eqb, ltb};
 ghost use lib.ListN.{length, getD};
 ghost use Rattle.words.specs.Bits.{bit, wordOf};
 ghost use Rattle.rows.specs.Rows.{tableBit};
-ghost use Rattle.pairs.specs.Pairs.{tally, tallyOf, pairsWith, inWord, settleOf, dropped, stayingBit, greatestBit, dropRowOf, dropOf, Counted, Reckoned, Bare};
+ghost use Rattle.pairs.specs.Pairs.{Counted, Reckoned, Bare, tally, tallyOf, pairsWith, inWord, settleOf};
+ghost use Rattle.pairs.specs.Pairs.{dropped, stayingBit, greatestBit, dropRowOf, dropOf};
 
 // Puts the pair low < high into the table, and answers how many pairs it then has.
 fn put_pair(pairs: &mut [u64], words: usize, low: usize, high: usize, count: u32) -> u32
     requires { ⌜ Counted words (now pairs) count × (low < 64 * words) × (high < 64 * words) ⌝ }
-    ensures { λ r. ⌜ tally (now (pairs .exit)) r ≡ tallyOf words (λ u v. tableBit words (now (pairs .entry)) u v || (eqb u low && eqb v high)) (now (pairs .entry)) ⌝ }
+    ensures { λ r.
+        let before = now (pairs .entry) in
+        ⌜ tally (now (pairs .exit)) r ≡ tallyOf words (λ u v. tableBit words before u v || (eqb u low && eqb v high)) before ⌝ }
 {
     if rows::row_test(&*pairs, words, low, high) {
         return count;
@@ -39,7 +42,9 @@ fn lower_part(x: u64, j: usize, high: usize) -> u64
 // Puts the pairs of low with the members of x, which is word j of a row, and answers how many pairs the table then has.
 fn put_upper(pairs: &mut [u64], words: usize, low: usize, j: usize, x: u64, count: u32) -> u32
     requires { ⌜ Counted words (now pairs) count × (low < 64 * words) × (j < words) ⌝ }
-    ensures { λ r. ⌜ tally (now (pairs .exit)) r ≡ tallyOf words (λ u v. tableBit words (now (pairs .entry)) u v || (eqb u low && inWord j x v)) (now (pairs .entry)) ⌝ }
+    ensures { λ r.
+        let before = now (pairs .entry) in
+        ⌜ tally (now (pairs .exit)) r ≡ tallyOf words (λ u v. tableBit words before u v || (eqb u low && inWord j x v)) before ⌝ }
 {
     let i = words * low + j;
     let old = pairs[i];
@@ -50,7 +55,9 @@ fn put_upper(pairs: &mut [u64], words: usize, low: usize, j: usize, x: u64, coun
 // Puts the pairs of the members of x, which is word j of a row, with high, and answers how many pairs the table then has.
 fn put_lower(pairs: &mut [u64], words: usize, j: usize, x: u64, high: usize, count: u32) -> u32
     requires { ⌜ Counted words (now pairs) count × (high < 64 * words) × (j < words) ⌝ }
-    ensures { λ r. ⌜ tally (now (pairs .exit)) r ≡ tallyOf words (λ u v. tableBit words (now (pairs .entry)) u v || (eqb v high && inWord j x u)) (now (pairs .entry)) ⌝ }
+    ensures { λ r.
+        let before = now (pairs .entry) in
+        ⌜ tally (now (pairs .exit)) r ≡ tallyOf words (λ u v. tableBit words before u v || (eqb v high && inWord j x u)) before ⌝ }
 {
     let mut sum = count;
     let mut left = x;
@@ -66,7 +73,10 @@ fn put_lower(pairs: &mut [u64], words: usize, j: usize, x: u64, high: usize, cou
 // Those above r stand in row r itself, and go in a word at a time; those below r each have a row of their own.
 pub fn add_pairs(pairs: &mut [u64], last: &[u64], words: usize, r: usize, count: u32) -> u32
     requires { ⌜ Counted words (now pairs) count × (words ≤ length (now last)) × (r < 64 * words) ⌝ }
-    ensures { λ n. ⌜ tally (now (pairs .exit)) n ≡ tallyOf words (λ u v. tableBit words (now (pairs .entry)) u v || pairsWith words (now (last .entry)) r u v) (now (pairs .entry)) ⌝ }
+    ensures { λ n.
+        let before = now (pairs .entry) in
+        ⌜ tally (now (pairs .exit)) n
+        ≡ tallyOf words (λ u v. tableBit words before u v || pairsWith words (now (last .entry)) r u v) before ⌝ }
 {
     let mut sum = count;
     let mut j = 0;

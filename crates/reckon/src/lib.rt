@@ -4,10 +4,10 @@ ghost use lib.ListN.{length};
 ghost use Rattle.graph.specs.Chart.{chart};
 ghost use Rattle.graph.specs.Rounds.{reckon};
 ghost use Rattle.graph.specs.Correct.{IsNet};
-ghost use Rattle.layers.specs.Layers.{tables};
 ghost use Rattle.map.specs.Memory.{base, networkOf};
-ghost use Rattle.rounds.specs.Leaves.{lent, ran, ranBy};
+ghost use Rattle.rounds.specs.Leaves.{ran, ranBy};
 ghost use Rattle.rounds.specs.Sizes.{sizes, longEnough};
+ghost use Rattle.rounds.specs.Slices.{lentBefore, lentAfter};
 ghost use Rattle.reckon.specs.ReckonCall.{reckonRefusal, reckonLeft, reckonCall};
 use map::Record;
 use rounds::Tally;
@@ -94,8 +94,20 @@ fn reckon_map(
     codes: &[u64],
     links: &[u64],
 ) -> Tally
-    requires { ⌜ (1024 ≤ length (now links)) × (1024 ≤ length (now pairs)) × (256 ≤ length (now hops)) × (256 ≤ length (now bounds)) × (256 ≤ length (now skips)) × (4 ≤ length (now even)) × (4 ≤ length (now odd)) × (4 ≤ length (now codes)) × IsNet (networkOf 4 (now codes) (now links)) ⌝ }
-    ensures { λ t. ⌜ ran (lent (now (pairs .exit)) (tables (now (hops .exit)) (now (even .exit)) (now (odd .exit))) (now (bounds .exit)) (now (skips .exit))) (t .candidate) (t .count) (t .searches) ≡ ranBy base (networkOf 4 (now (codes .entry)) (now (links .entry))) (reckon (chart (networkOf 4 (now (codes .entry)) (now (links .entry))))) (lent (now (pairs .entry)) (tables (now (hops .entry)) (now (even .entry)) (now (odd .entry))) (now (bounds .entry)) (now (skips .entry))) ⌝ }
+    requires { ⌜ (1024 ≤ length (now links))
+        × (1024 ≤ length (now pairs))
+        × (256 ≤ length (now hops))
+        × (256 ≤ length (now bounds))
+        × (256 ≤ length (now skips))
+        × (4 ≤ length (now even))
+        × (4 ≤ length (now odd))
+        × (4 ≤ length (now codes))
+        × IsNet (networkOf 4 (now codes) (now links)) ⌝ }
+    ensures { λ t.
+        let before = lentBefore pairs hops bounds skips even odd in
+        let after = lentAfter pairs hops bounds skips even odd in
+        let G = networkOf 4 (now (codes .entry)) (now (links .entry)) in
+        ⌜ ran after (t .candidate) (t .count) (t .searches) ≡ ranBy base G (reckon (chart G)) before ⌝ }
 {
     let mut ranks = [0u16; 256];
     let mut seen = [0u64; 4];
@@ -134,7 +146,10 @@ pub fn reckon_all(
     rec: Record,
     links: &[u64],
 ) -> Reckoned
-    ensures { λ r. ⌜ reckonLeft r (lent (now (pairs .exit)) (tables (now (hops .exit)) (now (even .exit)) (now (odd .exit))) (now (bounds .exit)) (now (skips .exit))) ≡ reckonCall base rec (now (links .entry)) (lent (now (pairs .entry)) (tables (now (hops .entry)) (now (even .entry)) (now (odd .entry))) (now (bounds .entry)) (now (skips .entry))) ⌝ }
+    ensures { λ r.
+        let before = lentBefore pairs hops bounds skips even odd in
+        let after = lentAfter pairs hops bounds skips even odd in
+        ⌜ reckonLeft r after ≡ reckonCall base rec (now (links .entry)) before ⌝ }
 {
     let refusal = reckon_refusal(
         rec,

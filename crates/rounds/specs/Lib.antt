@@ -5,3 +5,5 @@ pub mod Leaves
 pub mod Sizes
 -- 3. the steps of the code's rounds, over lists of words and numbers
 pub mod Workspace
+-- 4. the lent slices as one value, for the contracts
+pub mod Slices

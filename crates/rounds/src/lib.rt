@@ -6,8 +6,11 @@ ghost use lib.Dec.{ltb};
 ghost use lib.ListN.{length};
 ghost use Rattle.layers.specs.Layers.{tables};
 ghost use Rattle.pairs.specs.Pairs.{tally, settleOf, Counted};
-ghost use Rattle.bounds.specs.Bounds.{marks, waitingOf, AreRanks, AreThinned, Fits};
-ghost use Rattle.rounds.specs.Workspace.{lastRow, absorbed, absorbing, workspace, roundOf, runOf, begun, beginOf, Room};
+ghost use Rattle.bounds.specs.Bounds.{AreRanks, AreThinned, Fits};
+ghost use Rattle.rounds.specs.Workspace.{lastRow, absorbed, absorbing, roundOf, runOf, begun, beginOf, Room};
+ghost use Rattle.layers.specs.Slices.{tablesBefore};
+ghost use Rattle.bounds.specs.Slices.{marksBefore, marksAfter};
+ghost use Rattle.rounds.specs.Slices.{workspaceBefore, workspaceAfter};
 use rows::Next;
 
 // ---- one round
@@ -33,8 +36,13 @@ fn settle_by(
     candidate: u16,
     count: u32,
 ) -> u32
-    requires { ⌜ Counted words (now pairs) count × (words ≤ length (now even)) × (words ≤ length (now odd)) × (r < 64 * words) ⌝ }
-    ensures { λ n. ⌜ tally (now (pairs .exit)) n ≡ settleOf words (lastRow e (tables [] (now (even .entry)) (now (odd .entry)))) r e candidate (tally (now (pairs .entry)) count) ⌝ }
+    requires { ⌜ Counted words (now pairs) count
+        × (words ≤ length (now even))
+        × (words ≤ length (now odd))
+        × (r < 64 * words) ⌝ }
+    ensures { λ n.
+        let row = lastRow e (tables [] (now (even .entry)) (now (odd .entry))) in
+        ⌜ tally (now (pairs .exit)) n ≡ settleOf words row r e candidate (tally (now (pairs .entry)) count) ⌝ }
 {
     if e % 2 == 0 {
         return pairs::settle(pairs, even, words, r, e, candidate, count);
@@ -65,8 +73,18 @@ pub fn absorb(
     candidate: u16,
     count: u32,
 ) -> Tally
-    requires { ⌜ Counted words (now pairs) count × Fits words (now bounds) (now skips) (now ranks) × (64 * words ≤ length (now hops)) × (words ≤ length (now even)) × (words ≤ length (now odd)) × (r < 64 * words) ⌝ }
-    ensures { λ t. ⌜ (absorbed (tally (now (pairs .exit)) (t .count)) (marks (now (bounds .exit)) (now (skips .exit)) (waitingOf words (now (ranks .exit)))) (t .candidate) ≡ absorbing words mark r e (tables (now (hops .entry)) (now (even .entry)) (now (odd .entry))) (absorbed (tally (now (pairs .entry)) count) (marks (now (bounds .entry)) (now (skips .entry)) (waitingOf words (now (ranks .entry)))) candidate)) × AreThinned words (now (ranks .entry)) (now (ranks .exit)) ⌝ }
+    requires { ⌜ Counted words (now pairs) count
+        × Fits words (now bounds) (now skips) (now ranks)
+        × (64 * words ≤ length (now hops))
+        × (words ≤ length (now even))
+        × (words ≤ length (now odd))
+        × (r < 64 * words) ⌝ }
+    ensures { λ t.
+        let T = tablesBefore hops even odd in
+        let before = absorbed (tally (now (pairs .entry)) count) (marksBefore words bounds skips ranks) candidate in
+        let after = absorbed (tally (now (pairs .exit)) (t .count)) (marksAfter words bounds skips ranks) (t .candidate) in
+        ⌜ (after ≡ absorbing words mark r e T before)
+        × AreThinned words (now (ranks .entry)) (now (ranks .exit)) ⌝ }
 {
     let sum = settle_by(pairs, even, odd, words, r, e, candidate, count);
     let c = raise(candidate, e);
@@ -96,8 +114,16 @@ fn round(
     r: usize,
     before: Tally,
 ) -> Tally
-    requires { ⌜ Room words (now links) (now hops) (now even) (now odd) (now seen) (now next) × Counted words (now pairs) (before .count) × Fits words (now bounds) (now skips) (now ranks) × (r < 64 * words) × (before .searches < 65535) ⌝ }
-    ensures { λ t. ⌜ (workspace (tables (now (hops .exit)) (now (even .exit)) (now (odd .exit))) (tally (now (pairs .exit)) (t .count)) (marks (now (bounds .exit)) (now (skips .exit)) (waitingOf words (now (ranks .exit)))) (t .candidate) (t .searches) ≡ roundOf words (now (links .entry)) mark r (workspace (tables (now (hops .entry)) (now (even .entry)) (now (odd .entry))) (tally (now (pairs .entry)) (before .count)) (marks (now (bounds .entry)) (now (skips .entry)) (waitingOf words (now (ranks .entry)))) (before .candidate) (before .searches))) × AreThinned words (now (ranks .entry)) (now (ranks .exit)) ⌝ }
+    requires { ⌜ Room words (now links) (now hops) (now even) (now odd) (now seen) (now next)
+        × Counted words (now pairs) (before .count)
+        × Fits words (now bounds) (now skips) (now ranks)
+        × (r < 64 * words)
+        × (before .searches < 65535) ⌝ }
+    ensures { λ t.
+        let entry = workspaceBefore words hops even odd pairs bounds skips ranks (before .candidate) (before .count) (before .searches) in
+        let exit = workspaceAfter words hops even odd pairs bounds skips ranks (t .candidate) (t .count) (t .searches) in
+        ⌜ (exit ≡ roundOf words (now (links .entry)) mark r entry)
+        × AreThinned words (now (ranks .entry)) (now (ranks .exit)) ⌝ }
 {
     let e = layers::search_table(hops, even, odd, seen, next, links, words, r);
     let got = absorb(
@@ -140,8 +166,15 @@ pub fn run_rounds(
     mark: u16,
     before: Tally,
 ) -> Tally
-    requires { ⌜ Room words (now links) (now hops) (now even) (now odd) (now seen) (now next) × Counted words (now pairs) (before .count) × Fits words (now bounds) (now skips) (now ranks) × AreRanks words (now links) (now ranks) × (before .searches < 2) ⌝ }
-    ensures { λ t. ⌜ workspace (tables (now (hops .exit)) (now (even .exit)) (now (odd .exit))) (tally (now (pairs .exit)) (t .count)) (marks (now (bounds .exit)) (now (skips .exit)) (waitingOf words (now (ranks .exit)))) (t .candidate) (t .searches) ≡ runOf words (now (links .entry)) mark (64 * words) (workspace (tables (now (hops .entry)) (now (even .entry)) (now (odd .entry))) (tally (now (pairs .entry)) (before .count)) (marks (now (bounds .entry)) (now (skips .entry)) (waitingOf words (now (ranks .entry)))) (before .candidate) (before .searches)) ⌝ }
+    requires { ⌜ Room words (now links) (now hops) (now even) (now odd) (now seen) (now next)
+        × Counted words (now pairs) (before .count)
+        × Fits words (now bounds) (now skips) (now ranks)
+        × AreRanks words (now links) (now ranks)
+        × (before .searches < 2) ⌝ }
+    ensures { λ t.
+        let entry = workspaceBefore words hops even odd pairs bounds skips ranks (before .candidate) (before .count) (before .searches) in
+        let exit = workspaceAfter words hops even odd pairs bounds skips ranks (t .candidate) (t .count) (t .searches) in
+        ⌜ exit ≡ runOf words (now (links .entry)) mark (64 * words) entry ⌝ }
 {
     let mut now = before;
     loop {
@@ -180,8 +213,15 @@ pub fn begin(
     words: usize,
     other: u16,
 )
-    requires { ⌜ Fits words (now bounds) (now skips) (now ranks) × (words * (64 * words) ≤ length (now pairs)) × (words ≤ length (now codes)) × (words * (64 * words) ≤ length (now links)) ⌝ }
-    ensures { λ x. ⌜ (begun (now (pairs .exit)) (marks (now (bounds .exit)) (now (skips .exit)) (waitingOf words (now (ranks .exit)))) ≡ beginOf words other (now (codes .entry)) (begun (now (pairs .entry)) (marks (now (bounds .entry)) (now (skips .entry)) (waitingOf words (now (ranks .entry)))))) × AreRanks words (now (links .entry)) (now (ranks .exit)) ⌝ }
+    requires { ⌜ Fits words (now bounds) (now skips) (now ranks)
+        × (words * (64 * words) ≤ length (now pairs))
+        × (words ≤ length (now codes))
+        × (words * (64 * words) ≤ length (now links)) ⌝ }
+    ensures { λ x.
+        let before = begun (now (pairs .entry)) (marksBefore words bounds skips ranks) in
+        let after = begun (now (pairs .exit)) (marksAfter words bounds skips ranks) in
+        ⌜ (after ≡ beginOf words other (now (codes .entry)) before)
+        × AreRanks words (now (links .entry)) (now (ranks .exit)) ⌝ }
 {
     rows::clear(pairs, words * (64 * words));
     layers::fill(bounds, 64 * words, 65535);

@@ -8,7 +8,7 @@ ghost use Rattle.lists.specs.Lists.{range, allb};
 ghost use Rattle.graph.specs.Network.{IsSound};
 ghost use Rattle.graph.specs.Distance.{unreached, connected};
 ghost use Rattle.rows.specs.Rows.{rowBit};
-ghost use Rattle.layers.specs.Layers.{tables};
+ghost use Rattle.layers.specs.Slices.{tablesAt, tablesBefore, tablesAfter};
 ghost use Rattle.map.specs.Memory.{base, networkOf};
 ghost use Rattle.map.specs.Sound.{IsLent};
 ghost use Rattle.search.specs.SearchCall.{searchRefusal, searchLeft, searchCall, lastLayer, rowsLeft, rowsOf};
@@ -61,7 +61,13 @@ pub fn is_connected(
     codes: &[u64],
     words: usize,
 ) -> bool
-    requires { ⌜ IsLent words (now links) (now codes) × (64 * words ≤ length (now hops)) × (words ≤ length (now even)) × (words ≤ length (now odd)) × (words ≤ length (now seen)) × (words ≤ length (now next)) × IsSound (networkOf words (now codes) (now links)) ⌝ }
+    requires { ⌜ IsLent words (now links) (now codes)
+        × (64 * words ≤ length (now hops))
+        × (words ≤ length (now even))
+        × (words ≤ length (now odd))
+        × (words ≤ length (now seen))
+        × (words ≤ length (now next))
+        × IsSound (networkOf words (now codes) (now links)) ⌝ }
     ensures { λ r. ⌜ r ≡ connected (networkOf words (now (codes .entry)) (now (links .entry))) ⌝ }
 {
     let lowest = rows::next_member(codes, words, 0);
@@ -135,7 +141,10 @@ pub fn search_from(
     links: &[u64],
     code: u8,
 ) -> Found
-    ensures { λ r. ⌜ searchLeft r (tables (now (hops .exit)) (now (even .exit)) (now (odd .exit))) ≡ searchCall base rec (now (links .entry)) (tables (now (hops .entry)) (now (even .entry)) (now (odd .entry))) code ⌝ }
+    ensures { λ r.
+        let before = tablesBefore hops even odd in
+        let after = tablesAfter hops even odd in
+        ⌜ searchLeft r after ≡ searchCall base rec (now (links .entry)) before code ⌝ }
 {
     let refusal = search_refusal(rec, links, hops.len(), even.len(), odd.len(), code);
     if refusal != 0 {
@@ -184,7 +193,10 @@ pub fn search_rows<'a>(
     links: &[u64],
     code: u8,
 ) -> [&'a [u64]; 3]
-    ensures { λ r. ⌜ rowsLeft (map now r) (now (hops .exit)) (now (refusal .exit)) (now (ecc .exit)) ≡ rowsOf 4 (searchCall base rec (now (links .entry)) (tables (now (hops .entry)) (now (even .entry)) (now (odd .entry))) code) (now (ecc .entry)) ⌝ }
+    ensures { λ r.
+        let before = tablesAt (hops .entry) (even .entry) (odd .entry) in
+        let found = searchCall base rec (now (links .entry)) before code in
+        ⌜ rowsLeft (map now r) (now (hops .exit)) (now (refusal .exit)) (now (ecc .exit)) ≡ rowsOf 4 found (now (ecc .entry)) ⌝ }
 {
     let found = search_from(hops, &mut *even, &mut *odd, rec, links, code);
     let first = &even[..];

@@ -2,10 +2,8 @@
 ghost use mathlib.Core.Path.{_≡_};
 ghost use Prim.Native.Nat.{_+_, _≤_, _<_};
 ghost use lib.ListN.{length};
-ghost use Rattle.layers.specs.Layers.{tables};
 ghost use Rattle.map.specs.Memory.{base, tableWords};
-ghost use Rattle.rounds.specs.Leaves.{lent};
-ghost use Rattle.rounds.specs.Sizes.{sizes};
+ghost use Rattle.rounds.specs.Slices.{lentAt, lentBefore, lentAfter, sizesAt};
 ghost use Rattle.notice.specs.Lines.{readLine};
 ghost use Rattle.report.specs.Line.{bufferLimit};
 ghost use Rattle.opening.specs.OpenCall.{openLeft};
@@ -77,8 +75,12 @@ fn answer_line(
     odd: &mut [u64],
     text: &[u8],
 ) -> Opened
-    requires { ⌜ mapRefusal base rec (now links) (now pairs) (sizes (length (now links)) (length (now pairs)) (length (now hops)) (length (now bounds)) (length (now skips)) (length (now even)) (length (now odd))) ≡ 0 ⌝ }
-    ensures { λ r. ⌜ openLeft r (now (links .exit)) (lent (now (pairs .exit)) (tables (now (hops .exit)) (now (even .exit)) (now (odd .exit))) (now (bounds .exit)) (now (skips .exit))) ≡ answerTo (readLine (now (text .entry))) rec (now (links .entry)) (lent (now (pairs .entry)) (tables (now (hops .entry)) (now (even .entry)) (now (odd .entry))) (now (bounds .entry)) (now (skips .entry))) ⌝ }
+    requires { let long = sizesAt links pairs hops bounds skips even odd in
+        ⌜ mapRefusal base rec (now links) (now pairs) long ≡ 0 ⌝ }
+    ensures { λ r.
+        let before = lentBefore pairs hops bounds skips even odd in
+        let after = lentAfter pairs hops bounds skips even odd in
+        ⌜ openLeft r (now (links .exit)) after ≡ answerTo (readLine (now (text .entry))) rec (now (links .entry)) before ⌝ }
 {
     let mut frame = [0u8; 258];
     let got = notice::read_notice(text, &mut frame);
@@ -115,8 +117,18 @@ fn take_line(
     out: &mut [u8],
     line: &[u8],
 ) -> Fed
-    requires { ⌜ (mapRefusal base (fed .progress .rec) (now links) (now pairs) (sizes (length (now links)) (length (now pairs)) (length (now hops)) (length (now bounds)) (length (now skips)) (length (now even)) (length (now odd))) ≡ 0) × (fed .progress .held ≤ length (now line)) × (fed .progress .lines < linesLimit) × (fed .written + bufferLimit ≤ length (now out)) ⌝ }
-    ensures { λ r. ⌜ (feeding r (now (links .exit)) (lent (now (pairs .exit)) (tables (now (hops .exit)) (now (even .exit)) (now (odd .exit))) (now (bounds .exit)) (now (skips .exit))) (now (line .entry)) (now (out .exit)) ≡ tookLine (feeding fed (now (links .entry)) (lent (now (pairs .entry)) (tables (now (hops .entry)) (now (even .entry)) (now (odd .entry))) (now (bounds .entry)) (now (skips .entry))) (now (line .entry)) (now (out .entry)))) × (r .written ≤ length (now (out .exit))) ⌝ }
+    requires { let long = sizesAt links pairs hops bounds skips even odd in
+        ⌜ (mapRefusal base (fed .progress .rec) (now links) (now pairs) long ≡ 0)
+        × (fed .progress .held ≤ length (now line))
+        × (fed .progress .lines < linesLimit)
+        × (fed .written + bufferLimit ≤ length (now out)) ⌝ }
+    ensures { λ r.
+        let before = lentBefore pairs hops bounds skips even odd in
+        let after = lentAfter pairs hops bounds skips even odd in
+        let entry = feeding fed (now (links .entry)) before (now (line .entry)) (now (out .entry)) in
+        let exit = feeding r (now (links .exit)) after (now (line .entry)) (now (out .exit)) in
+        ⌜ (exit ≡ tookLine entry)
+        × (r .written ≤ length (now (out .exit))) ⌝ }
 {
     let before = fed.progress;
     let held = before.held;
@@ -164,8 +176,15 @@ pub fn feed(
     out: &mut [u8],
     piece: &[u8],
 ) -> Fed
-    requires { ⌜ IsReady progress (now links) (lent (now pairs) (tables (now hops) (now even) (now odd)) (now bounds) (now skips)) (now line) ⌝ }
-    ensures { λ r. ⌜ (feeding r (now (links .exit)) (lent (now (pairs .exit)) (tables (now (hops .exit)) (now (even .exit)) (now (odd .exit))) (now (bounds .exit)) (now (skips .exit))) (now (line .exit)) (now (out .exit)) ≡ feedCall progress (now (links .entry)) (lent (now (pairs .entry)) (tables (now (hops .entry)) (now (even .entry)) (now (odd .entry))) (now (bounds .entry)) (now (skips .entry))) (now (line .entry)) (now (out .entry)) (now (piece .entry))) × IsReady (r .progress) (now (links .exit)) (lent (now (pairs .exit)) (tables (now (hops .exit)) (now (even .exit)) (now (odd .exit))) (now (bounds .exit)) (now (skips .exit))) (now (line .exit)) × (r .used ≤ length (now (piece .entry))) × (r .written ≤ length (now (out .exit))) ⌝ }
+    requires { ⌜ IsReady progress (now links) (lentAt pairs hops bounds skips even odd) (now line) ⌝ }
+    ensures { λ r.
+        let before = lentBefore pairs hops bounds skips even odd in
+        let after = lentAfter pairs hops bounds skips even odd in
+        let exit = feeding r (now (links .exit)) after (now (line .exit)) (now (out .exit)) in
+        ⌜ (exit ≡ feedCall progress (now (links .entry)) before (now (line .entry)) (now (out .entry)) (now (piece .entry)))
+        × IsReady (r .progress) (now (links .exit)) after (now (line .exit))
+        × (r .used ≤ length (now (piece .entry)))
+        × (r .written ≤ length (now (out .exit))) ⌝ }
 {
     let mut now = Fed {
         progress: progress,
@@ -221,8 +240,13 @@ pub fn finish(
     line: &[u8],
     out: &mut [u8],
 ) -> Fed
-    requires { ⌜ IsReady progress (now links) (lent (now pairs) (tables (now hops) (now even) (now odd)) (now bounds) (now skips)) (now line) ⌝ }
-    ensures { λ r. ⌜ (feeding r (now (links .exit)) (lent (now (pairs .exit)) (tables (now (hops .exit)) (now (even .exit)) (now (odd .exit))) (now (bounds .exit)) (now (skips .exit))) (now (line .entry)) (now (out .exit)) ≡ finishCall progress (now (links .entry)) (lent (now (pairs .entry)) (tables (now (hops .entry)) (now (even .entry)) (now (odd .entry))) (now (bounds .entry)) (now (skips .entry))) (now (line .entry)) (now (out .entry))) × (r .written ≤ length (now (out .exit))) ⌝ }
+    requires { ⌜ IsReady progress (now links) (lentAt pairs hops bounds skips even odd) (now line) ⌝ }
+    ensures { λ r.
+        let before = lentBefore pairs hops bounds skips even odd in
+        let after = lentAfter pairs hops bounds skips even odd in
+        let exit = feeding r (now (links .exit)) after (now (line .entry)) (now (out .exit)) in
+        ⌜ (exit ≡ finishCall progress (now (links .entry)) before (now (line .entry)) (now (out .entry)))
+        × (r .written ≤ length (now (out .exit))) ⌝ }
 {
     let fed = Fed {
         progress: progress,

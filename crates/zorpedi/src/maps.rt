@@ -1,7 +1,7 @@
 // The calls on one map.
 ghost use mathlib.Core.Path.{_≡_};
-ghost use Rattle.layers.specs.Layers.{tables};
-ghost use Rattle.rounds.specs.Leaves.{lent};
+ghost use Rattle.layers.specs.Slices.{tablesBefore, tablesAfter};
+ghost use Rattle.rounds.specs.Slices.{lentBefore, lentAfter};
 ghost use Rattle.opening.specs.Steps.{noticeOf};
 ghost use Rattle.zorpedi.specs.Outs.{emptyOut, emptiedOut, searchOut, searchedOut, reckonOut, reckonedOut, openOut, openedOut};
 use map::Emptying;
@@ -12,7 +12,9 @@ use search::Found;
 // Empties a map. 0; or 1 (short).
 #[no_mangle]
 pub extern "C" fn zorpedi_empty(words: &mut [u64], links: &mut [u64], pairs: &mut [u64]) -> u8
-    ensures { λ r. ⌜ emptiedOut r (now (words .exit)) (now (links .exit)) (now (pairs .exit)) ≡ emptyOut (now (words .entry)) (now (links .entry)) (now (pairs .entry)) ⌝ }
+    ensures { λ r.
+        ⌜ emptiedOut r (now (words .exit)) (now (links .exit)) (now (pairs .exit))
+        ≡ emptyOut (now (words .entry)) (now (links .entry)) (now (pairs .entry)) ⌝ }
 {
     if words.len() < 7 {
         return 1;
@@ -41,7 +43,11 @@ pub extern "C" fn zorpedi_search(
     links: &[u64],
     code: u8,
 ) -> u8
-    ensures { λ r. ⌜ searchedOut r (now (eccentricity .exit)) (tables (now (hops .exit)) (now (even .exit)) (now (odd .exit))) ≡ searchOut (now (words .entry)) (now (links .entry)) (tables (now (hops .entry)) (now (even .entry)) (now (odd .entry))) (now (eccentricity .entry)) code ⌝ }
+    ensures { λ r.
+        let before = tablesBefore hops even odd in
+        let after = tablesAfter hops even odd in
+        ⌜ searchedOut r (now (eccentricity .exit)) after
+        ≡ searchOut (now (words .entry)) (now (links .entry)) before (now (eccentricity .entry)) code ⌝ }
 {
     if words.len() < 7 {
         return 1;
@@ -70,7 +76,11 @@ pub extern "C" fn zorpedi_reckon(
     searches: &mut u16,
     links: &[u64],
 ) -> u8
-    ensures { λ r. ⌜ reckonedOut r (now (words .exit)) (now (searches .exit)) (lent (now (pairs .exit)) (tables (now (hops .exit)) (now (even .exit)) (now (odd .exit))) (now (bounds .exit)) (now (skips .exit))) ≡ reckonOut (now (words .entry)) (now (links .entry)) (lent (now (pairs .entry)) (tables (now (hops .entry)) (now (even .entry)) (now (odd .entry))) (now (bounds .entry)) (now (skips .entry))) (now (searches .entry)) ⌝ }
+    ensures { λ r.
+        let before = lentBefore pairs hops bounds skips even odd in
+        let after = lentAfter pairs hops bounds skips even odd in
+        ⌜ reckonedOut r (now (words .exit)) (now (searches .exit)) after
+        ≡ reckonOut (now (words .entry)) (now (links .entry)) before (now (searches .entry)) ⌝ }
 {
     if words.len() < 7 {
         return 1;
@@ -104,7 +114,12 @@ pub extern "C" fn zorpedi_open(
     code: u8,
     neighbours: &[u8],
 ) -> u8
-    ensures { λ r. ⌜ openedOut r (now (words .exit)) (now (searches .exit)) (now (links .exit)) (lent (now (pairs .exit)) (tables (now (hops .exit)) (now (even .exit)) (now (odd .exit))) (now (bounds .exit)) (now (skips .exit))) ≡ openOut (now (words .entry)) (now (links .entry)) (lent (now (pairs .entry)) (tables (now (hops .entry)) (now (even .entry)) (now (odd .entry))) (now (bounds .entry)) (now (skips .entry))) (noticeOf code (now (neighbours .entry))) (now (searches .entry)) ⌝ }
+    ensures { λ r.
+        let before = lentBefore pairs hops bounds skips even odd in
+        let after = lentAfter pairs hops bounds skips even odd in
+        let notice = noticeOf code (now (neighbours .entry)) in
+        ⌜ openedOut r (now (words .exit)) (now (searches .exit)) (now (links .exit)) after
+        ≡ openOut (now (words .entry)) (now (links .entry)) before notice (now (searches .entry)) ⌝ }
 {
     if words.len() < 7 {
         return 1;

@@ -1,7 +1,6 @@
 // The step of the stream.
 ghost use mathlib.Core.Path.{_≡_};
-ghost use Rattle.layers.specs.Layers.{tables};
-ghost use Rattle.rounds.specs.Leaves.{lent};
+ghost use Rattle.rounds.specs.Slices.{lentBefore, lentAfter};
 ghost use Rattle.zorpedi.specs.Feeds.{fedOut, feedOut, finishOut};
 use stream::Progress;
 
@@ -25,7 +24,14 @@ pub extern "C" fn zorpedi_feed(
     written: &mut usize,
     piece: &[u8],
 ) -> u8
-    ensures { λ r. ⌜ fedOut r (now (words .exit)) (now (lines .exit)) (now (held .exit)) (now (used .exit)) (now (written .exit)) (now (links .exit)) (lent (now (pairs .exit)) (tables (now (hops .exit)) (now (even .exit)) (now (odd .exit))) (now (bounds .exit)) (now (skips .exit))) (now (line .exit)) (now (out .exit)) ≡ feedOut (fedOut 0 (now (words .entry)) (now (lines .entry)) (now (held .entry)) (now (used .entry)) (now (written .entry)) (now (links .entry)) (lent (now (pairs .entry)) (tables (now (hops .entry)) (now (even .entry)) (now (odd .entry))) (now (bounds .entry)) (now (skips .entry))) (now (line .entry)) (now (out .entry))) (now (piece .entry)) ⌝ }
+    ensures { λ r.
+        let before = lentBefore pairs hops bounds skips even odd in
+        let after = lentAfter pairs hops bounds skips even odd in
+        let entry = fedOut 0 (now (words .entry)) (now (lines .entry)) (now (held .entry)) (now (used .entry)) (now (written .entry))
+        (now (links .entry)) before (now (line .entry)) (now (out .entry)) in
+        let exit = fedOut r (now (words .exit)) (now (lines .exit)) (now (held .exit)) (now (used .exit)) (now (written .exit))
+        (now (links .exit)) after (now (line .exit)) (now (out .exit)) in
+        ⌜ exit ≡ feedOut entry (now (piece .entry)) ⌝ }
 {
     let refusal = foreign::step_refusal(
         &*words,
@@ -89,7 +95,14 @@ pub extern "C" fn zorpedi_finish(
     held: &mut usize,
     written: &mut usize,
 ) -> u8
-    ensures { λ r. ⌜ fedOut r (now (words .exit)) (now (lines .exit)) (now (held .exit)) 0 (now (written .exit)) (now (links .exit)) (lent (now (pairs .exit)) (tables (now (hops .exit)) (now (even .exit)) (now (odd .exit))) (now (bounds .exit)) (now (skips .exit))) (now (line .entry)) (now (out .exit)) ≡ finishOut (fedOut 0 (now (words .entry)) (now (lines .entry)) (now (held .entry)) 0 (now (written .entry)) (now (links .entry)) (lent (now (pairs .entry)) (tables (now (hops .entry)) (now (even .entry)) (now (odd .entry))) (now (bounds .entry)) (now (skips .entry))) (now (line .entry)) (now (out .entry))) ⌝ }
+    ensures { λ r.
+        let before = lentBefore pairs hops bounds skips even odd in
+        let after = lentAfter pairs hops bounds skips even odd in
+        let entry = fedOut 0 (now (words .entry)) (now (lines .entry)) (now (held .entry)) 0 (now (written .entry))
+        (now (links .entry)) before (now (line .entry)) (now (out .entry)) in
+        let exit = fedOut r (now (words .exit)) (now (lines .exit)) (now (held .exit)) 0 (now (written .exit))
+        (now (links .exit)) after (now (line .entry)) (now (out .exit)) in
+        ⌜ exit ≡ finishOut entry ⌝ }
 {
     let refusal = foreign::step_refusal(
         &*words,

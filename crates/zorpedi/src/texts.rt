@@ -14,7 +14,9 @@ pub extern "C" fn zorpedi_read_notice(
     length: &mut usize,
     used: &mut usize,
 ) -> u8
-    ensures { λ r. ⌜ lineOut r (now (length .exit)) (now (used .exit)) (now (frame .exit)) ≡ readOut (now (input .entry)) (now (frame .entry)) (now (length .entry)) (now (used .entry)) ⌝ }
+    ensures { λ r.
+        ⌜ lineOut r (now (length .exit)) (now (used .exit)) (now (frame .exit))
+        ≡ readOut (now (input .entry)) (now (frame .entry)) (now (length .entry)) (now (used .entry)) ⌝ }
 {
     let got = notice::read_notice(input, frame);
     match got {
@@ -54,7 +56,9 @@ pub extern "C" fn zorpedi_report(
     pairs: u32,
     searches: u16,
 ) -> u8
-    ensures { λ r. ⌜ lineOut r (now (length .exit)) 0 (now (line .exit)) ≡ reportOut (reportFields number answer depots chain pairs searches) (now (line .entry)) (now (length .entry)) ⌝ }
+    ensures { λ r.
+        let fields = reportFields number answer depots chain pairs searches in
+        ⌜ lineOut r (now (length .exit)) 0 (now (line .exit)) ≡ reportOut fields (now (line .entry)) (now (length .entry)) ⌝ }
 {
     let outcome = foreign::outcome_of(answer);
     let fields = Report {

@@ -21,31 +21,36 @@ abbrev μ-loop : tie.MeasureT-loop
 loop-holds : tie.Need-loop-holds Inv-loop μ-loop
 loop-holds c k l = absurd (omega arith)
 
-shared-slice-read-v : tie.Need-shared-slice-read-v Inv-loop μ-loop
-shared-slice-read-v c = search needs
-
 cast-v : tie.Need-cast-v Inv-loop μ-loop
-cast-v c = omega (arith, c .shared-slice-known3 .given (c .before .before .loop .i))
+cast-v c =
+    let at-loop : tie.At-loop Inv-loop μ-loop = search in
+    omega (arith, c .shared-slice-known3 .given (at-loop .loop .i))
 
 is-open-requires : tie.Need-is-open-requires Inv-loop μ-loop
-is-open-requires c κs = (c .before .before .before .before .before .pre .2, omega (arith, c .shared-slice-known3 .given (c .before .before .loop .i), c .before .before .before .before .before .pre .0))
+is-open-requires c κs =
+    let at-loop : tie.At-loop Inv-loop μ-loop = search in
+    let start : tie.Start Inv-loop μ-loop = search in
+    (start .pre .2, omega (arith, c .shared-slice-known3 .given (at-loop .loop .i), start .pre .0))
 
 returns : tie.Need-returns Inv-loop μ-loop
-returns c = sym (listed-fault _ _ _ (c .before .before .before .loop-test .taken) (test-failed (c .before .is-open .ensures) (c .if1 .taken)))
-
-add-i : tie.Need-add-i Inv-loop μ-loop
-add-i c = search needs
-
-loop-less : tie.Need-loop-less Inv-loop μ-loop
-loop-less c = search needs
+returns c =
+    let after-is-open : tie.After-is-open Inv-loop μ-loop = search in
+    let in-loop : tie.In-loop Inv-loop μ-loop = search in
+    sym (listed-fault _ _ _ (in-loop .loop-test .taken) (test-failed (after-is-open .is-open .ensures) (c .if1 .taken)))
 
 loop-again : tie.Need-loop-again Inv-loop μ-loop
 loop-again c =
-    let a = c .before .before .before .before .before .before .before .args in
-    listed-more (rowBit (a .words) (a .codes .now)) (a .neighbours .now) _ (c .before .before .before .before .loop .inv) (test-passed (c .before .is-open .ensures) (c .if1 .left))
+    let after-is-open : tie.After-is-open Inv-loop μ-loop = search in
+    let at-loop : tie.At-loop Inv-loop μ-loop = search in
+    let start : tie.Start Inv-loop μ-loop = search in
+    let a = start .args in
+    listed-more (rowBit (a .words) (a .codes .now)) (a .neighbours .now) _ (at-loop .loop .inv)
+    (test-passed (after-is-open .is-open .ensures) (c .if1 .left))
 
 returns-2 : tie.Need-returns-2 Inv-loop μ-loop
-returns-2 c = sym (listed-end _ _ _ (c .before .loop .inv) (c .loop-test .left))
+returns-2 c =
+    let at-loop : tie.At-loop Inv-loop μ-loop = search in
+    sym (listed-end _ _ _ (at-loop .loop .inv) (c .loop-test .left))
 
 pub all-open-spec : {M : Type 1} → statement M
 all-open-spec =
@@ -54,11 +59,11 @@ all-open-spec =
     Inv-loop
     μ-loop
     loop-holds
-    shared-slice-read-v
+    (λ c. search needs)  -- shared-slice-read-v
     cast-v
     is-open-requires
     returns
-    add-i
-    loop-less
+    (λ c. search needs)  -- add-i
+    (λ c. search needs)  -- loop-less
     loop-again
     returns-2)

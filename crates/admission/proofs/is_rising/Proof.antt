@@ -18,29 +18,22 @@ abbrev μ-loop : tie.MeasureT-loop
 loop-holds : tie.Need-loop-holds Inv-loop μ-loop
 loop-holds c = (omega arith, λ k l. absurd (omega arith))
 
-shared-slice-read-if1 : tie.Need-shared-slice-read-if1 Inv-loop μ-loop
-shared-slice-read-if1 c = search needs
-
-sub-if1 : tie.Need-sub-if1 Inv-loop μ-loop
-sub-if1 c = search needs
-
-shared-slice-read-if1-2 : tie.Need-shared-slice-read-if1-2 Inv-loop μ-loop
-shared-slice-read-if1-2 c = search needs
-
 returns : tie.Need-returns Inv-loop μ-loop
-returns c = sym (fault-before _ _ (c .before .before .before .before .loop .inv .0) (c .before .before .before .loop-test .taken) (c .if1 .taken))
-
-add-i : tie.Need-add-i Inv-loop μ-loop
-add-i c = search needs
-
-loop-less : tie.Need-loop-less Inv-loop μ-loop
-loop-less c = search needs
+returns c =
+    let in-loop : tie.In-loop Inv-loop μ-loop = search in
+    let at-loop : tie.At-loop Inv-loop μ-loop = search in
+    sym (fault-before _ _ (at-loop .loop .inv .0) (in-loop .loop-test .taken) (c .if1 .taken))
 
 loop-again : tie.Need-loop-again Inv-loop μ-loop
-loop-again c = (omega arith, risen-more (c .before .before .before .before .before .args .neighbours .now) _ (c .before .before .before .before .loop .inv .1) (c .if1 .left))
+loop-again c =
+    let at-loop : tie.At-loop Inv-loop μ-loop = search in
+    let start : tie.Start Inv-loop μ-loop = search in
+    (omega arith, risen-more (start .args .neighbours .now) _ (at-loop .loop .inv .1) (c .if1 .left))
 
 returns-2 : tie.Need-returns-2 Inv-loop μ-loop
-returns-2 c = sym (risen-all _ _ (c .before .loop .inv .1) (c .loop-test .left))
+returns-2 c =
+    let at-loop : tie.At-loop Inv-loop μ-loop = search in
+    sym (risen-all _ _ (at-loop .loop .inv .1) (c .loop-test .left))
 
 pub is-rising-spec : {M : Type 1} → statement M
 is-rising-spec =
@@ -49,11 +42,11 @@ is-rising-spec =
     Inv-loop
     μ-loop
     loop-holds
-    shared-slice-read-if1
-    sub-if1
-    shared-slice-read-if1-2
+    (λ c. search needs)  -- shared-slice-read-if1
+    (λ c. search needs)  -- sub-if1
+    (λ c. search needs)  -- shared-slice-read-if1-2
     returns
-    add-i
-    loop-less
+    (λ c. search needs)  -- add-i
+    (λ c. search needs)  -- loop-less
     loop-again
     returns-2)

@@ -16,51 +16,59 @@ abbrev μ-loop : tie.MeasureT-loop
 μ-loop links₀ words code neighbours a i₀ links i = length neighbours - i
 
 loop-holds : tie.Need-loop-holds Inv-loop μ-loop
-loop-holds c = (refl, linked-start _ _ (c .before .before .args .neighbours .now) _ (c .before .before .pre .2) (λ i l. c .before .slice-known .given i .fits))
-
-shared-slice-read-v : tie.Need-shared-slice-read-v Inv-loop μ-loop
-shared-slice-read-v c = search needs
+loop-holds c =
+    let after-slice-known : tie.After-slice-known Inv-loop μ-loop = search in
+    let start : tie.Start Inv-loop μ-loop = search in
+    (refl, linked-start _ _ (start .args .neighbours .now) _ (start .pre .2) (λ i l. after-slice-known .slice-known .given i .fits))
 
 cast-v : tie.Need-cast-v Inv-loop μ-loop
-cast-v c = omega (arith, c .shared-slice-known2 .given (c .before .before .loop .i))
+cast-v c =
+    let at-loop : tie.At-loop Inv-loop μ-loop = search in
+    omega (arith, c .shared-slice-known2 .given (at-loop .loop .i))
 
 row-set-requires : tie.Need-row-set-requires Inv-loop μ-loop
 row-set-requires c κs =
-    let s = c .before .before .before .before .before .before in
-    let l = c .before .before .before .loop in
-    let v = c .before .shared-slice-known2 .given (l .i) in
-    in-table _ _ _ _ _ (s .pre .2) (l .inv .0) (omega (arith, s .pre .0, s .fits .code .fits, v)) (omega (arith, s .pre .0, s .fits .code .fits, v))
+    let after-shared-slice-known2 : tie.After-shared-slice-known2 Inv-loop μ-loop = search in
+    let at-loop : tie.At-loop Inv-loop μ-loop = search in
+    let start : tie.Start Inv-loop μ-loop = search in
+    let l = at-loop .loop in
+    let v = after-shared-slice-known2 .shared-slice-known2 .given (l .i) in
+    in-table _ _ _ _ _ (start .pre .2) (l .inv .0) (omega (arith, start .pre .0, start .fits .code .fits, v))
+    (omega (arith, start .pre .0, start .fits .code .fits, v))
 
 row-set-requires-2 : tie.Need-row-set-requires-2 Inv-loop μ-loop
 row-set-requires-2 c κs =
-    let s = c .before .before .before .before .before .before .before .before .before .before in
-    let l = c .before .before .before .before .before .before .before .loop in
-    let v = c .before .before .before .before .before .shared-slice-known2 .given (l .i) in
-    in-table _ _ _ _ _ (s .pre .2) (c .before .before .before .row-set .kept .0 ∙ l .inv .0) (omega (arith, s .pre .0, s .fits .code .fits, v)) (omega (arith, s .pre .0, s .fits .code .fits, v))
-
-add-i : tie.Need-add-i Inv-loop μ-loop
-add-i c = search needs
-
-loop-less : tie.Need-loop-less Inv-loop μ-loop
-loop-less c = search needs
+    let after-row-set : tie.After-row-set Inv-loop μ-loop = search in
+    let after-shared-slice-known2 : tie.After-shared-slice-known2 Inv-loop μ-loop = search in
+    let at-loop : tie.At-loop Inv-loop μ-loop = search in
+    let start : tie.Start Inv-loop μ-loop = search in
+    let l = at-loop .loop in
+    let v = after-shared-slice-known2 .shared-slice-known2 .given (l .i) in
+    in-table _ _ _ _ _ (start .pre .2) (after-row-set .row-set .kept .0 ∙ l .inv .0)
+    (omega (arith, start .pre .0, start .fits .code .fits, v)) (omega (arith, start .pre .0, start .fits .code .fits, v))
 
 loop-again : tie.Need-loop-again Inv-loop μ-loop
 loop-again c =
-    let s = c .before .before .before .before .before .before .before .before .before .before .before .before .before in
-    let l = c .before .before .before .before .before .before .before .before .before .before .loop in
-    let there = c .before .before .before .before .before .before .row-set in
-    let back = c .before .before .row-set2 in (
+    let after-row-set2 : tie.After-row-set2 Inv-loop μ-loop = search in
+    let after-row-set : tie.After-row-set Inv-loop μ-loop = search in
+    let after-shared-slice-known2 : tie.After-shared-slice-known2 Inv-loop μ-loop = search in
+    let in-loop : tie.In-loop Inv-loop μ-loop = search in
+    let at-loop : tie.At-loop Inv-loop μ-loop = search in
+    let start : tie.Start Inv-loop μ-loop = search in
+    let l = at-loop .loop in
+    let there = after-row-set .row-set in
+    let back = after-row-set2 .row-set2 in (
       back .kept .0 ∙ there .kept .0 ∙ l .inv .0,
-      linked-turn (s .args .words) (s .args .code) (s .args .neighbours .now) (s .args .links .now) (l .i) (l .inv .1) (there .ensures) (back .ensures)
-          (c .before .before .before .before .before .before .before .before .before .loop-test .taken) (omega (arith, s .pre .0, s .fits .code .fits))
-          (omega (arith, s .pre .0, c .before .before .before .before .before .before .before .before .shared-slice-known2 .given (l .i))),
+      linked-turn (start .args .words) (start .args .code) (start .args .neighbours .now) (start .args .links .now) (l .i) (l .inv .1)
+          (there .ensures) (back .ensures)
+          (in-loop .loop-test .taken) (omega (arith, start .pre .0, start .fits .code .fits))
+          (omega (arith, start .pre .0, after-shared-slice-known2 .shared-slice-known2 .given (l .i))),
     )
 
-same-length : tie.Need-same-length Inv-loop μ-loop
-same-length c = search needs
-
 returns : tie.Need-returns Inv-loop μ-loop
-returns c = linked-end _ _ _ _ _ _ (c .before .loop .inv .1) (c .loop-test .left)
+returns c =
+    let at-loop : tie.At-loop Inv-loop μ-loop = search in
+    linked-end _ _ _ _ _ _ (at-loop .loop .inv .1) (c .loop-test .left)
 
 pub link-depot-spec : {M : Type 1} → statement M
 link-depot-spec =
@@ -69,12 +77,12 @@ link-depot-spec =
     Inv-loop
     μ-loop
     loop-holds
-    shared-slice-read-v
+    (λ c. search needs)  -- shared-slice-read-v
     cast-v
     row-set-requires
     row-set-requires-2
-    add-i
-    loop-less
+    (λ c. search needs)  -- add-i
+    (λ c. search needs)  -- loop-less
     loop-again
-    same-length
+    (λ c. search needs)  -- same-length
     returns)

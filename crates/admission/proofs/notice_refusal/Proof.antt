@@ -9,31 +9,58 @@ use Rattle.admission.proofs.notice_refusal.Statement.{statement}
 use Rattle.admission.proofs.notice_refusal.Tie as tie
 
 is-open-requires : tie.Need-is-open-requires
-is-open-requires c κs = (c .before .before .pre .2, omega (arith, c .before .before .pre .0, c .before .before .fits .code .fits))
+is-open-requires c κs =
+    let start : tie.Start = search in
+    (start .pre .2, omega (arith, start .pre .0, start .fits .code .fits))
 
 returns : tie.Need-returns
-returns c = refused-taken _ _ _ _ (sym (c .before .is-open .ensures) ∙ c .if1 .taken)
-
-is-lonely-requires : tie.Need-is-lonely-requires
-is-lonely-requires c κs = search needs
+returns c =
+    let after-is-open : tie.After-is-open = search in
+    refused-taken _ _ _ _ (sym (after-is-open .is-open .ensures) ∙ c .if1 .taken)
 
 returns-2 : tie.Need-returns-2
-returns-2 c = refused-lonely _ _ _ _ (sym (c .before .before .before .is-open .ensures) ∙ c .before .before .if1 .left) (sym (c .before .is-lonely .ensures) ∙ c .if2 .taken)
-
-is-rising-requires : tie.Need-is-rising-requires
-is-rising-requires c κs = search needs
+returns-2 c =
+    let after-is-lonely : tie.After-is-lonely = search in
+    let else1 : tie.Else1 = search in
+    let after-is-open : tie.After-is-open = search in
+    refused-lonely _ _ _ _ (sym (after-is-open .is-open .ensures) ∙ else1 .if1 .left)
+    (sym (after-is-lonely .is-lonely .ensures) ∙ c .if2 .taken)
 
 returns-3 : tie.Need-returns-3
-returns-3 c = refused-unsorted _ _ _ _ (sym (c .before .before .before .before .before .is-open .ensures) ∙ c .before .before .before .before .if1 .left) (sym (c .before .before .before .is-lonely .ensures) ∙ c .before .before .if2 .left) (test-failed (c .before .is-rising .ensures) (c .if3 .taken))
-
-all-open-requires : tie.Need-all-open-requires
-all-open-requires c κs = search needs
+returns-3 c =
+    let after-is-rising : tie.After-is-rising = search in
+    let else2 : tie.Else2 = search in
+    let after-is-lonely : tie.After-is-lonely = search in
+    let else1 : tie.Else1 = search in
+    let after-is-open : tie.After-is-open = search in
+    refused-unsorted _ _ _ _ (sym (after-is-open .is-open .ensures) ∙ else1 .if1 .left)
+    (sym (after-is-lonely .is-lonely .ensures) ∙ else2 .if2 .left) (test-failed (after-is-rising .is-rising .ensures) (c .if3 .taken))
 
 returns-4 : tie.Need-returns-4
-returns-4 c = refused-unknown _ _ _ _ (sym (c .before .before .before .before .before .before .before .is-open .ensures) ∙ c .before .before .before .before .before .before .if1 .left) (sym (c .before .before .before .before .before .is-lonely .ensures) ∙ c .before .before .before .before .if2 .left) (test-passed (c .before .before .before .is-rising .ensures) (c .before .before .if3 .left)) (test-failed (c .before .all-open .ensures) (c .if4 .taken))
+returns-4 c =
+    let after-all-open : tie.After-all-open = search in
+    let else3 : tie.Else3 = search in
+    let after-is-rising : tie.After-is-rising = search in
+    let else2 : tie.Else2 = search in
+    let after-is-lonely : tie.After-is-lonely = search in
+    let else1 : tie.Else1 = search in
+    let after-is-open : tie.After-is-open = search in
+    refused-unknown _ _ _ _ (sym (after-is-open .is-open .ensures) ∙ else1 .if1 .left)
+    (sym (after-is-lonely .is-lonely .ensures) ∙ else2 .if2 .left)
+    (test-passed (after-is-rising .is-rising .ensures) (else3 .if3 .left)) (test-failed (after-all-open .all-open .ensures) (c .if4 .taken))
 
 returns-5 : tie.Need-returns-5
-returns-5 c = refused-never _ _ _ _ (sym (c .before .before .before .before .before .before .before .is-open .ensures) ∙ c .before .before .before .before .before .before .if1 .left) (sym (c .before .before .before .before .before .is-lonely .ensures) ∙ c .before .before .before .before .if2 .left) (test-passed (c .before .before .before .is-rising .ensures) (c .before .before .if3 .left)) (test-passed (c .before .all-open .ensures) (c .if4 .left))
+returns-5 c =
+    let after-all-open : tie.After-all-open = search in
+    let else3 : tie.Else3 = search in
+    let after-is-rising : tie.After-is-rising = search in
+    let else2 : tie.Else2 = search in
+    let after-is-lonely : tie.After-is-lonely = search in
+    let else1 : tie.Else1 = search in
+    let after-is-open : tie.After-is-open = search in
+    refused-never _ _ _ _ (sym (after-is-open .is-open .ensures) ∙ else1 .if1 .left)
+    (sym (after-is-lonely .is-lonely .ensures) ∙ else2 .if2 .left)
+    (test-passed (after-is-rising .is-rising .ensures) (else3 .if3 .left)) (test-passed (after-all-open .all-open .ensures) (c .if4 .left))
 
 pub notice-refusal-spec : {M : Type 1} → statement M
 notice-refusal-spec =
@@ -41,10 +68,10 @@ notice-refusal-spec =
     (tie.spec
     is-open-requires
     returns
-    is-lonely-requires
+    (λ c. search needs)  -- is-lonely-requires
     returns-2
-    is-rising-requires
+    (λ c. search needs)  -- is-rising-requires
     returns-3
-    all-open-requires
+    (λ c. search needs)  -- all-open-requires
     returns-4
     returns-5)

@@ -16,83 +16,21 @@ abbrev μ-loop : tie.MeasureT-loop
 loop-holds : tie.Need-loop-holds Inv-loop μ-loop
 loop-holds c = relax-none _ _ _ _ _ _ _ _
 
-mul-loop : tie.Need-mul-loop Inv-loop μ-loop
-mul-loop c = search needs
-
-mul-rank : tie.Need-mul-rank Inv-loop μ-loop
-mul-rank c = search needs
-
-slice-read-rank : tie.Need-slice-read-rank Inv-loop μ-loop
-slice-read-rank c = search needs
-
-mul-old : tie.Need-mul-old Inv-loop μ-loop
-mul-old c = search needs
-
-slice-read-old : tie.Need-slice-read-old Inv-loop μ-loop
-slice-read-old c = search needs
-
-mul-gap : tie.Need-mul-gap Inv-loop μ-loop
-mul-gap c = search needs
-
-shared-slice-read-gap : tie.Need-shared-slice-read-gap Inv-loop μ-loop
-shared-slice-read-gap c = search needs
-
-gap-requires : tie.Need-gap-requires Inv-loop μ-loop
-gap-requires c κs = search needs
-
-sub-b : tie.Need-sub-b Inv-loop μ-loop
-sub-b c = search needs
-
-mul-bounds : tie.Need-mul-bounds Inv-loop μ-loop
-mul-bounds c = search needs
-
-slice-write-bounds : tie.Need-slice-write-bounds Inv-loop μ-loop
-slice-write-bounds c = search needs
-
-mul-skip-taken : tie.Need-mul-skip-taken Inv-loop μ-loop
-mul-skip-taken c = search needs
-
-slice-read-skip-taken : tie.Need-slice-read-skip-taken Inv-loop μ-loop
-slice-read-skip-taken c = search needs
-
-skip-taken-requires : tie.Need-skip-taken-requires Inv-loop μ-loop
-skip-taken-requires c κs = search needs
-
-mul-skips : tie.Need-mul-skips Inv-loop μ-loop
-mul-skips c = search needs
-
-slice-write-skips : tie.Need-slice-write-skips Inv-loop μ-loop
-slice-write-skips c = search needs
-
-rank-left-requires : tie.Need-rank-left-requires Inv-loop μ-loop
-rank-left-requires c κs = search needs
-
-mul-ranks : tie.Need-mul-ranks Inv-loop μ-loop
-mul-ranks c = search needs
-
-slice-write-ranks : tie.Need-slice-write-ranks Inv-loop μ-loop
-slice-write-ranks c = search needs
-
-add-v : tie.Need-add-v Inv-loop μ-loop
-add-v c = search needs
-
-loop-less : tie.Need-loop-less Inv-loop μ-loop
-loop-less c = search needs
-
 loop-again : tie.Need-loop-again Inv-loop μ-loop
-loop-again c = relax-more _ _ _ _ _ _ _ _ _ _ _ _ (c .before .before .before .before .before .before .before .before .loop .inv) _ _ _ (c .before .before .before .gap .ensures .0) (c .before .skip-taken .ensures) (c .rank-left .ensures) (c .before .before .before .before .before .before .before .loop-test .taken) (omega arith) (omega arith) (omega arith)
-
-same-length : tie.Need-same-length Inv-loop μ-loop
-same-length c = search needs
-
-same-length-2 : tie.Need-same-length-2 Inv-loop μ-loop
-same-length-2 c = search needs
-
-same-length-3 : tie.Need-same-length-3 Inv-loop μ-loop
-same-length-3 c = search needs
+loop-again c =
+    let after-skip-taken : tie.After-skip-taken Inv-loop μ-loop = search in
+    let after-gap : tie.After-gap Inv-loop μ-loop = search in
+    let in-loop : tie.In-loop Inv-loop μ-loop = search in
+    let at-loop : tie.At-loop Inv-loop μ-loop = search in
+    relax-more _ _ _ _ _ _ _ _ _ _ _ _ (at-loop .loop .inv) _ _ _ (after-gap .gap .ensures .0) (after-skip-taken .skip-taken .ensures)
+    (c .rank-left .ensures) (in-loop .loop-test .taken) (omega arith) (omega arith) (omega arith)
 
 returns : tie.Need-returns Inv-loop μ-loop
-returns c = (relax-end _ _ _ _ _ _ _ _ _ _ _ _ (c .before .loop .inv) (c .loop-test .left), relax-thinned _ _ _ _ _ _ _ _ _ _ _ _ (c .before .loop .inv) (c .loop-test .left))
+returns c =
+    let at-loop : tie.At-loop Inv-loop μ-loop = search in (
+      relax-end _ _ _ _ _ _ _ _ _ _ _ _ (at-loop .loop .inv) (c .loop-test .left),
+      relax-thinned _ _ _ _ _ _ _ _ _ _ _ _ (at-loop .loop .inv) (c .loop-test .left),
+    )
 
 pub relax-spec : {M : Type 1} → statement M
 relax-spec =
@@ -101,29 +39,29 @@ relax-spec =
     Inv-loop
     μ-loop
     loop-holds
-    mul-loop
-    mul-rank
-    slice-read-rank
-    mul-old
-    slice-read-old
-    mul-gap
-    shared-slice-read-gap
-    gap-requires
-    sub-b
-    mul-bounds
-    slice-write-bounds
-    mul-skip-taken
-    slice-read-skip-taken
-    skip-taken-requires
-    mul-skips
-    slice-write-skips
-    rank-left-requires
-    mul-ranks
-    slice-write-ranks
-    add-v
-    loop-less
+    (λ c. search needs)  -- mul-loop
+    (λ c. search needs)  -- mul-rank
+    (λ c. search needs)  -- slice-read-rank
+    (λ c. search needs)  -- mul-old
+    (λ c. search needs)  -- slice-read-old
+    (λ c. search needs)  -- mul-gap
+    (λ c. search needs)  -- shared-slice-read-gap
+    (λ c. search needs)  -- gap-requires
+    (λ c. search needs)  -- sub-b
+    (λ c. search needs)  -- mul-bounds
+    (λ c. search needs)  -- slice-write-bounds
+    (λ c. search needs)  -- mul-skip-taken
+    (λ c. search needs)  -- slice-read-skip-taken
+    (λ c. search needs)  -- skip-taken-requires
+    (λ c. search needs)  -- mul-skips
+    (λ c. search needs)  -- slice-write-skips
+    (λ c. search needs)  -- rank-left-requires
+    (λ c. search needs)  -- mul-ranks
+    (λ c. search needs)  -- slice-write-ranks
+    (λ c. search needs)  -- add-v
+    (λ c. search needs)  -- loop-less
     loop-again
-    same-length
-    same-length-2
-    same-length-3
+    (λ c. search needs)  -- same-length
+    (λ c. search needs)  -- same-length-2
+    (λ c. search needs)  -- same-length-3
     returns)

@@ -5,10 +5,18 @@ use Rattle.bounds.proofs.skip_taken.Statement.{statement}
 use Rattle.bounds.proofs.skip_taken.Tie as tie
 
 returns : tie.Need-returns
-returns c = rw (lt-ltb 0 (c .before .args .below) (c .if1 .taken))
+returns c =
+    let start : tie.Start = search in
+    rw (lt-ltb 0 (start .args .below) (c .if1 .taken))
 
 returns-2 : tie.Need-returns-2
-returns-2 c = rw (le-ltb 0 (c .before .args .below) (c .if1 .left))
+returns-2 c =
+    let start : tie.Start = search in
+    rw (le-ltb 0 (start .args .below) (c .if1 .left))
 
 pub skip-taken-spec : {M : Type 1} → statement M
-skip-taken-spec = tie.close (tie.spec returns returns-2)
+skip-taken-spec =
+    tie.close
+    (tie.spec
+    returns
+    returns-2)

@@ -5,82 +5,66 @@ use borrow.Author.Needs.{needs}
 use Rattle.figures.proofs.refigure.Statement.{statement}
 use Rattle.figures.proofs.refigure.Tie as tie
 
-search-once-requires : tie.Need-search-once-requires
-search-once-requires c κs = search needs
+-- the way back, from each call to the one before it
+abbrev before-settle-low : tie.After-settle-low → tie.After-search-once
+before-settle-low c = search
 
-join-requires : tie.Need-join-requires
-join-requires c κs = search needs
+abbrev before-join : tie.After-join → tie.After-search-once
+before-join c = search
 
-same-length : tie.Need-same-length
-same-length c = search needs
+abbrev before-search-once : tie.After-search-once → tie.Start
+before-search-once c = search
 
-same-length-2 : tie.Need-same-length-2
-same-length-2 c = search needs
-
-same-length-3 : tie.Need-same-length-3
-same-length-3 c = search needs
-
-same-length-4 : tie.Need-same-length-4
-same-length-4 c = search needs
-
-same-length-5 : tie.Need-same-length-5
-same-length-5 c = search needs
-
-same-length-6 : tie.Need-same-length-6
-same-length-6 c = search needs
+ruleset back = (before-settle-low, before-join, before-search-once)
 
 returns : tie.Need-returns
 returns c =
-    let pre = c .before .before .before .before .before .before .before .before .before .before .before .before .before .before .before .before .before .before .before .before .before .before .before .before .before .before .before .before .before .before .before .pre in
-    figured-first _ _ _ _ _ _ _ _ _ _ _ (pre .0 .net) (pre .0 .present) (c .before .before .before .before .before .before .before .before .before .before .before .before .before .before .before .before .before .before .before .search-once .ensures) (grew-is _ _ _ _ _ _ (search-stands _ _ _ _ _ _ _ _ _ (pre .0 .net) (pre .0 .present) (c .before .before .before .before .before .before .before .before .before .before .before .before .before .before .before .before .before .before .before .search-once .ensures)) (c .before .before .before .before .before .before .before .before .before .before .before .before .if1 .taken) _ _ _ _ (c .before .before .before .before .before .before .join .ensures))
+    let after-join : tie.After-join = search back in
+    let then1 : tie.Then1 = search back in
+    let after-search-once : tie.After-search-once = search back in
+    let start : tie.Start = search back in
+    let pre = start .pre in
+    let stands = search-stands _ _ _ _ _ _ _ _ _ (pre .0 .net) (pre .0 .present) (after-search-once .search-once .ensures) in
+    figured-first _ _ _ _ _ _ _ _ _ _ _ (pre .0 .net) (pre .0 .present) (after-search-once .search-once .ensures)
+    (grew-is _ _ _ _ _ _ stands (then1 .if1 .taken) _ _ _ _ (after-join .join .ensures))
 
 settle-low-requires : tie.Need-settle-low-requires
 settle-low-requires c κs =
-    let pre = c .before .before .before .before .before .before .before .before .before .before .before .before .before .before .before .before .before .before .before .before .before .before .before .before .before .pre in
-    let k = c .before .before .before .before .before .before .before .before .before .before .before .before .before .search-once .kept in
-    (whole-first _ _ _ _ _ _ _ _ _ _ (pre .0) (k .0) (k .1 .0) (k .1 .1 .0), record { ends = pre .0 .ends }, search-stands _ _ _ _ _ _ _ _ _ (pre .0 .net) (pre .0 .present) (c .before .before .before .before .before .before .before .before .before .before .before .before .before .search-once .ensures), pre .1, c .before .before .before .before .before .before .if1 .left)
-
-same-length-7 : tie.Need-same-length-7
-same-length-7 c = search needs
-
-same-length-8 : tie.Need-same-length-8
-same-length-8 c = search needs
-
-same-length-9 : tie.Need-same-length-9
-same-length-9 c = search needs
-
-same-length-10 : tie.Need-same-length-10
-same-length-10 c = search needs
-
-same-length-11 : tie.Need-same-length-11
-same-length-11 c = search needs
-
-same-length-12 : tie.Need-same-length-12
-same-length-12 c = search needs
+    let after-search-once : tie.After-search-once = search back in
+    let start : tie.Start = search back in
+    let pre = start .pre in (
+      search (whole-first, needs),
+      search needs,
+      search-stands _ _ _ _ _ _ _ _ _ (pre .0 .net) (pre .0 .present) (after-search-once .search-once .ensures),
+      search needs,
+      search needs,
+    )
 
 returns-2 : tie.Need-returns-2
 returns-2 c =
-    let pre = c .before .before .before .before .before .before .before .before .before .before .before .before .before .before .before .before .before .before .before .before .before .before .before .before .before .before .before .before .before .before .before .before .before .before .before .before .before .before .pre in
-    figured-first _ _ _ _ _ _ _ _ _ _ _ (pre .0 .net) (pre .0 .present) (c .before .before .before .before .before .before .before .before .before .before .before .before .before .before .before .before .before .before .before .before .before .before .before .before .before .before .search-once .ensures) (c .before .before .before .before .before .before .before .before .before .before .before .before .settle-low .ensures)
+    let after-settle-low : tie.After-settle-low = search back in
+    let after-search-once : tie.After-search-once = search back in
+    let start : tie.Start = search back in
+    search (figured-first, needs)
 
 pub refigure-spec : {M : Type 1} → statement M
 refigure-spec =
     tie.close
     (tie.spec
-    search-once-requires
-    join-requires
-    same-length
-    same-length-2
-    same-length-3
-    same-length-4
-    same-length-5
-    same-length-6
+    (λ c. search needs)  -- search-once-requires
+    (λ c. search needs)  -- join-requires
+    (λ c. search needs)  -- same-length
+    (λ c. search needs)  -- same-length-2
+    (λ c. search needs)  -- same-length-3
+    (λ c. search needs)  -- same-length-4
+    (λ c. search needs)  -- same-length-5
+    (λ c. search needs)  -- same-length-6
     returns
     settle-low-requires
-    same-length-7
-    same-length-8
-    same-length-9
-    same-length-10
-    same-length-11
-    same-length-12
+    (λ c. search needs)  -- same-length-7
+    (λ c. search needs)  -- same-length-8
+    (λ c. search needs)  -- same-length-9
+    (λ c. search needs)  -- same-length-10
+    (λ c. search needs)  -- same-length-11
+    (λ c. search needs)  -- same-length-12
     returns-2)

@@ -7,109 +7,104 @@ use borrow.Author.Needs.{needs}
 use Rattle.figures.proofs.settle_low.Statement.{statement}
 use Rattle.figures.proofs.settle_low.Tie as tie
 
-drop-stale-requires : tie.Need-drop-stale-requires
-drop-stale-requires c κs = search needs
+-- the way back, from each call to the one before it
+abbrev before-shrink : tie.After-shrink → tie.After-drop-stale
+before-shrink c = search
+
+abbrev before-join : tie.After-join → tie.After-drop-stale
+before-join c = search
+
+abbrev before-mark-once : tie.After-mark-once → tie.After-drop-stale
+before-mark-once c = search
+
+abbrev before-drop-stale : tie.After-drop-stale → tie.Start
+before-drop-stale c = search
+
+ruleset back = (before-shrink, before-join, before-mark-once, before-drop-stale)
 
 join-requires : tie.Need-join-requires
-join-requires c κs =
-    let pre = c .before .before .before .before .before .before .before .before .before .before .before .before .before .before .before .before .before .before .before .pre in
-    (drop-counted _ _ _ _ (c .before .before .before .before .before .before .before .before .drop-stale .ensures) (record { positive = omega arith; most = omega arith; table = pre .0 .pairTable; hopped = pre .0 .hopPlaces }), pre .0 .boundPlaces, pre .0 .skipPlaces, pre .0 .evenRow, pre .0 .oddRow, pre .3)
-
-same-length : tie.Need-same-length
-same-length c = search needs
-
-same-length-2 : tie.Need-same-length-2
-same-length-2 c = search needs
-
-same-length-3 : tie.Need-same-length-3
-same-length-3 c = search needs
-
-same-length-4 : tie.Need-same-length-4
-same-length-4 c = search needs
-
-same-length-5 : tie.Need-same-length-5
-same-length-5 c = search needs
-
-same-length-6 : tie.Need-same-length-6
-same-length-6 c = search needs
+join-requires c κs = (
+  search (drop-counted, needs),
+  search needs,
+  search needs,
+  search needs,
+  search needs,
+  search needs,
+)
 
 returns : tie.Need-returns
 returns c =
-    let pre = c .before .before .before .before .before .before .before .before .before .before .before .before .before .before .before .before .before .before .before .before .before .before .before .before .before .before .pre in
-    equal-is _ _ _ _ _ _ (pre .2) (pre .1 .ends) (pre .4) _ _ _ (c .before .before .before .before .before .before .before .before .before .before .before .before .before .before .before .drop-stale .ensures) (c .before .before .before .before .before .before .before .before .before .before .before .before .if1 .taken) _ _ _ (c .before .before .before .before .before .before .join .ensures)
-
-mark-once-requires : tie.Need-mark-once-requires
-mark-once-requires c κs = search needs
-
-same-length-7 : tie.Need-same-length-7
-same-length-7 c = search needs
-
-same-length-8 : tie.Need-same-length-8
-same-length-8 c = search needs
-
-same-length-9 : tie.Need-same-length-9
-same-length-9 c = search needs
-
-same-length-10 : tie.Need-same-length-10
-same-length-10 c = search needs
+    let after-join : tie.After-join = search back in
+    let then1 : tie.Then1 = search back in
+    let after-drop-stale : tie.After-drop-stale = search back in
+    let start : tie.Start = search back in
+    let pre = start .pre in
+    equal-is _ _ _ _ _ _ (pre .2) (pre .1 .ends) (pre .4) _ _ _ (after-drop-stale .drop-stale .ensures) (then1 .if1 .taken) _ _ _
+    (after-join .join .ensures)
 
 returns-2 : tie.Need-returns-2
 returns-2 c =
-    let pre = c .before .before .before .before .before .before .before .before .before .before .before .before .before .before .before .before .before .before .before .before .before .before .before .pre in
-    kept-is _ _ _ _ _ _ (pre .2) (pre .1 .ends) (pre .4) _ _ _ (c .before .before .before .before .before .before .before .before .before .before .before .before .drop-stale .ensures) (c .before .before .before .before .before .before .before .before .before .if1 .left) (c .before .before .before .before .before .before .before .if2 .taken) _ (c .before .before .before .before .mark-once .ensures)
+    let after-mark-once : tie.After-mark-once = search back in
+    let then2 : tie.Then2 = search back in
+    let else1 : tie.Else1 = search back in
+    let after-drop-stale : tie.After-drop-stale = search back in
+    let start : tie.Start = search back in
+    let pre = start .pre in
+    kept-is _ _ _ _ _ _ (pre .2) (pre .1 .ends) (pre .4) _ _ _ (after-drop-stale .drop-stale .ensures) (else1 .if1 .left)
+    (then2 .if2 .taken) _ (after-mark-once .mark-once .ensures)
 
 shrink-requires : tie.Need-shrink-requires
 shrink-requires c κs =
-    let pre = c .before .before .before .before .before .before .before .before .before .before .before .before .before .before .before .before .before .before .before .before .before .before .pre in
-    (record { table = pre .0 .table; pairTable = omega (arith, pre .0 .pairTable, c .before .before .before .before .before .before .before .before .before .before .before .drop-stale .kept .0); hopPlaces = pre .0 .hopPlaces; evenRow = pre .0 .evenRow; oddRow = pre .0 .oddRow; boundPlaces = pre .0 .boundPlaces; skipPlaces = pre .0 .skipPlaces; codeRow = pre .0 .codeRow }, record { net = pre .2 .net; present = pre .2 .present; depth = pre .2 .depth; stands = pre .2 .stands }, pre .3)
-
-same-length-11 : tie.Need-same-length-11
-same-length-11 c = search needs
-
-same-length-12 : tie.Need-same-length-12
-same-length-12 c = search needs
-
-same-length-13 : tie.Need-same-length-13
-same-length-13 c = search needs
-
-same-length-14 : tie.Need-same-length-14
-same-length-14 c = search needs
-
-same-length-15 : tie.Need-same-length-15
-same-length-15 c = search needs
-
-same-length-16 : tie.Need-same-length-16
-same-length-16 c = search needs
+    let after-drop-stale : tie.After-drop-stale = search back in
+    let start : tie.Start = search back in
+    let pre = start .pre in (
+      record {
+        table = pre .0 .table;
+        pairTable = omega (arith, pre .0 .pairTable, after-drop-stale .drop-stale .kept .0);
+        hopPlaces = pre .0 .hopPlaces;
+        evenRow = pre .0 .evenRow;
+        oddRow = pre .0 .oddRow;
+        boundPlaces = pre .0 .boundPlaces;
+        skipPlaces = pre .0 .skipPlaces;
+        codeRow = pre .0 .codeRow;
+      },
+      record { net = pre .2 .net; present = pre .2 .present; depth = pre .2 .depth; stands = pre .2 .stands },
+      pre .3,
+    )
 
 returns-3 : tie.Need-returns-3
 returns-3 c =
-    let pre = c .before .before .before .before .before .before .before .before .before .before .before .before .before .before .before .before .before .before .before .before .before .before .before .before .before .before .before .before .before .before .before .before .before .before .before .pre in
-    shrank-is _ _ _ _ _ _ (pre .2) (pre .1 .ends) (pre .4) _ _ _ (c .before .before .before .before .before .before .before .before .before .before .before .before .before .before .before .before .before .before .before .before .before .before .before .before .drop-stale .ensures) (c .before .before .before .before .before .before .before .before .before .before .before .before .before .before .before .before .before .before .before .before .before .if1 .left) (c .before .before .before .before .before .before .before .before .before .before .before .before .before .before .before .before .before .before .before .if2 .left) _ (c .before .before .before .before .before .before .before .before .before .before .before .before .shrink .ensures)
+    let after-shrink : tie.After-shrink = search back in
+    let else2 : tie.Else2 = search back in
+    let else1 : tie.Else1 = search back in
+    let after-drop-stale : tie.After-drop-stale = search back in
+    let start : tie.Start = search back in
+    search (shrank-is, needs)
 
 pub settle-low-spec : {M : Type 1} → statement M
 settle-low-spec =
     tie.close
     (tie.spec
-    drop-stale-requires
+    (λ c. search needs)  -- drop-stale-requires
     join-requires
-    same-length
-    same-length-2
-    same-length-3
-    same-length-4
-    same-length-5
-    same-length-6
+    (λ c. search needs)  -- same-length
+    (λ c. search needs)  -- same-length-2
+    (λ c. search needs)  -- same-length-3
+    (λ c. search needs)  -- same-length-4
+    (λ c. search needs)  -- same-length-5
+    (λ c. search needs)  -- same-length-6
     returns
-    mark-once-requires
-    same-length-7
-    same-length-8
-    same-length-9
-    same-length-10
+    (λ c. search needs)  -- mark-once-requires
+    (λ c. search needs)  -- same-length-7
+    (λ c. search needs)  -- same-length-8
+    (λ c. search needs)  -- same-length-9
+    (λ c. search needs)  -- same-length-10
     returns-2
     shrink-requires
-    same-length-11
-    same-length-12
-    same-length-13
-    same-length-14
-    same-length-15
-    same-length-16
+    (λ c. search needs)  -- same-length-11
+    (λ c. search needs)  -- same-length-12
+    (λ c. search needs)  -- same-length-13
+    (λ c. search needs)  -- same-length-14
+    (λ c. search needs)  -- same-length-15
+    (λ c. search needs)  -- same-length-16
     returns-3)

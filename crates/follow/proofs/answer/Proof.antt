@@ -29,173 +29,182 @@ abbrev μ-loop : tie.MeasureT-loop
 μ-loop links₀ pairs₀ hops₀ bounds₀ skips₀ even₀ odd₀ line₀ out₀ piece now₀ at₀ links pairs hops bounds skips even odd line out now at =
     length piece - at
 
--- src/main.rt:36:5
+-- the way back, from each call to the one before it
+abbrev before-feed : tie.After-feed Inv-loop μ-loop → tie.In-loop Inv-loop μ-loop
+before-feed c = search
+
+abbrev before-in-loop : tie.In-loop Inv-loop μ-loop → tie.At-loop Inv-loop μ-loop
+before-in-loop c = search
+
+abbrev before-at-loop : tie.At-loop Inv-loop μ-loop → tie.Start Inv-loop μ-loop
+before-at-loop c = search
+
+ruleset back = (before-feed, before-in-loop, before-at-loop)
+
 loop-holds : tie.Need-loop-holds Inv-loop μ-loop
-loop-holds c = (c .before .before .before .before .before .before .before .before .before .before .pre, refl, refl, refl, refl, refl, refl, refl, refl, refl, zero-le)
+loop-holds c =
+    let start : tie.Start Inv-loop μ-loop = search back in
+    (start .pre, refl, refl, refl, refl, refl, refl, refl, refl, refl, zero-le)
 
--- src/main.rt:48:13
-sub-feed : tie.Need-sub-feed Inv-loop μ-loop
-sub-feed c = search needs
-
--- src/main.rt:48:13
-part-feed-start : tie.Need-part-feed-start Inv-loop μ-loop
-part-feed-start c = search needs
-
--- src/main.rt:48:13
-part-feed-end : tie.Need-part-feed-end Inv-loop μ-loop
-part-feed-end c = search needs
-
--- src/main.rt:37:13
-feed-requires : tie.Need-feed-requires Inv-loop μ-loop
-feed-requires c κs = search needs
-
--- src/main.rt:53:30
-slice-reshare-prefix-write-all : tie.Need-slice-reshare-prefix-write-all Inv-loop μ-loop
-slice-reshare-prefix-write-all c = search needs
-
--- src/main.rt:53:30
 slice-aggregate-write-all : tie.Need-slice-aggregate-write-all Inv-loop μ-loop
-slice-aggregate-write-all c = sym (length-take-le _ _ (c .before .before .before .before .before .before .before .before .before .before .before .before .before .before .before .before .before .before .before .before .feed .ensures .3))
+slice-aggregate-write-all c =
+    let after-feed : tie.After-feed Inv-loop μ-loop = search back in
+    sym (length-take-le _ _ (after-feed .feed .ensures .3))
 
--- src/main.rt:53:13
-write-all-requires : tie.Need-write-all-requires Inv-loop μ-loop
-write-all-requires c κs = search needs
-
--- src/main.rt:54:13
 same-length : tie.Need-same-length Inv-loop μ-loop
-same-length c = c .before .before .before .before .before .before .before .before .before .before .before .before .before .before .before .before .before .before .before .before .before .before .feed .kept .1 .0 ∙ c .before .before .before .before .before .before .before .before .before .before .before .before .before .before .before .before .before .before .before .before .before .before .before .before .before .before .before .before .before .before .before .before .before .before .loop .inv .1
+same-length c =
+    let after-feed : tie.After-feed Inv-loop μ-loop = search back in
+    let at-loop : tie.At-loop Inv-loop μ-loop = search back in
+    after-feed .feed .kept .1 .0 ∙ at-loop .loop .inv .1
 
--- src/main.rt:54:13
 same-length-2 : tie.Need-same-length-2 Inv-loop μ-loop
-same-length-2 c = c .before .before .before .before .before .before .before .before .before .before .before .before .before .before .before .before .before .before .before .before .before .before .feed .kept .1 .1 .0 ∙ c .before .before .before .before .before .before .before .before .before .before .before .before .before .before .before .before .before .before .before .before .before .before .before .before .before .before .before .before .before .before .before .before .before .before .loop .inv .2
+same-length-2 c =
+    let after-feed : tie.After-feed Inv-loop μ-loop = search back in
+    let at-loop : tie.At-loop Inv-loop μ-loop = search back in
+    after-feed .feed .kept .1 .1 .0 ∙ at-loop .loop .inv .2
 
--- src/main.rt:54:13
 same-length-3 : tie.Need-same-length-3 Inv-loop μ-loop
-same-length-3 c = c .before .before .before .before .before .before .before .before .before .before .before .before .before .before .before .before .before .before .before .before .before .before .feed .kept .1 .1 .1 .0 ∙ c .before .before .before .before .before .before .before .before .before .before .before .before .before .before .before .before .before .before .before .before .before .before .before .before .before .before .before .before .before .before .before .before .before .before .loop .inv .3
+same-length-3 c =
+    let after-feed : tie.After-feed Inv-loop μ-loop = search back in
+    let at-loop : tie.At-loop Inv-loop μ-loop = search back in
+    after-feed .feed .kept .1 .1 .1 .0 ∙ at-loop .loop .inv .3
 
--- src/main.rt:54:13
 same-length-4 : tie.Need-same-length-4 Inv-loop μ-loop
-same-length-4 c = c .before .before .before .before .before .before .before .before .before .before .before .before .before .before .before .before .before .before .before .before .before .before .feed .kept .1 .1 .1 .1 .0 ∙ c .before .before .before .before .before .before .before .before .before .before .before .before .before .before .before .before .before .before .before .before .before .before .before .before .before .before .before .before .before .before .before .before .before .before .loop .inv .4
+same-length-4 c =
+    let after-feed : tie.After-feed Inv-loop μ-loop = search back in
+    let at-loop : tie.At-loop Inv-loop μ-loop = search back in
+    after-feed .feed .kept .1 .1 .1 .1 .0 ∙ at-loop .loop .inv .4
 
--- src/main.rt:54:13
 same-length-5 : tie.Need-same-length-5 Inv-loop μ-loop
-same-length-5 c = c .before .before .before .before .before .before .before .before .before .before .before .before .before .before .before .before .before .before .before .before .before .before .feed .kept .1 .1 .1 .1 .1 .0 ∙ c .before .before .before .before .before .before .before .before .before .before .before .before .before .before .before .before .before .before .before .before .before .before .before .before .before .before .before .before .before .before .before .before .before .before .loop .inv .5
+same-length-5 c =
+    let after-feed : tie.After-feed Inv-loop μ-loop = search back in
+    let at-loop : tie.At-loop Inv-loop μ-loop = search back in
+    after-feed .feed .kept .1 .1 .1 .1 .1 .0 ∙ at-loop .loop .inv .5
 
--- src/main.rt:54:13
 same-length-6 : tie.Need-same-length-6 Inv-loop μ-loop
-same-length-6 c = c .before .before .before .before .before .before .before .before .before .before .before .before .before .before .before .before .before .before .before .before .before .before .feed .kept .1 .1 .1 .1 .1 .1 .0 ∙ c .before .before .before .before .before .before .before .before .before .before .before .before .before .before .before .before .before .before .before .before .before .before .before .before .before .before .before .before .before .before .before .before .before .before .loop .inv .6
+same-length-6 c =
+    let after-feed : tie.After-feed Inv-loop μ-loop = search back in
+    let at-loop : tie.At-loop Inv-loop μ-loop = search back in
+    after-feed .feed .kept .1 .1 .1 .1 .1 .1 .0 ∙ at-loop .loop .inv .6
 
--- src/main.rt:54:13
 same-length-7 : tie.Need-same-length-7 Inv-loop μ-loop
-same-length-7 c = c .before .before .before .before .before .before .before .before .before .before .before .before .before .before .before .before .before .before .before .before .before .before .feed .kept .1 .1 .1 .1 .1 .1 .1 .0 ∙ c .before .before .before .before .before .before .before .before .before .before .before .before .before .before .before .before .before .before .before .before .before .before .before .before .before .before .before .before .before .before .before .before .before .before .loop .inv .7
+same-length-7 c =
+    let after-feed : tie.After-feed Inv-loop μ-loop = search back in
+    let at-loop : tie.At-loop Inv-loop μ-loop = search back in
+    after-feed .feed .kept .1 .1 .1 .1 .1 .1 .1 .0 ∙ at-loop .loop .inv .7
 
--- src/main.rt:54:13
 same-length-8 : tie.Need-same-length-8 Inv-loop μ-loop
-same-length-8 c = c .before .before .before .before .before .before .before .before .before .before .before .before .before .before .before .before .before .before .before .before .before .before .feed .kept .1 .1 .1 .1 .1 .1 .1 .1 .0 ∙ c .before .before .before .before .before .before .before .before .before .before .before .before .before .before .before .before .before .before .before .before .before .before .before .before .before .before .before .before .before .before .before .before .before .before .loop .inv .8
+same-length-8 c =
+    let after-feed : tie.After-feed Inv-loop μ-loop = search back in
+    let at-loop : tie.At-loop Inv-loop μ-loop = search back in
+    after-feed .feed .kept .1 .1 .1 .1 .1 .1 .1 .1 .0 ∙ at-loop .loop .inv .8
 
--- src/main.rt:54:13
 same-length-9 : tie.Need-same-length-9 Inv-loop μ-loop
-same-length-9 c = c .before .before .before .before .before .before .before .before .before .before .before .before .before .before .before .before .before .before .before .before .before .before .feed .kept .1 .1 .1 .1 .1 .1 .1 .1 .1 .0 ∙ c .before .before .before .before .before .before .before .before .before .before .before .before .before .before .before .before .before .before .before .before .before .before .before .before .before .before .before .before .before .before .before .before .before .before .loop .inv .9
+same-length-9 c =
+    let after-feed : tie.After-feed Inv-loop μ-loop = search back in
+    let at-loop : tie.At-loop Inv-loop μ-loop = search back in
+    after-feed .feed .kept .1 .1 .1 .1 .1 .1 .1 .1 .1 .0 ∙ at-loop .loop .inv .9
 
--- src/main.rt:54:13
-returns : tie.Need-returns Inv-loop μ-loop
-returns c = search needs
-
--- src/main.rt:60:13
 same-length-10 : tie.Need-same-length-10 Inv-loop μ-loop
-same-length-10 c = c .before .before .before .before .before .before .before .before .before .before .before .before .before .before .before .before .before .before .before .before .before .before .before .feed .kept .1 .0 ∙ c .before .before .before .before .before .before .before .before .before .before .before .before .before .before .before .before .before .before .before .before .before .before .before .before .before .before .before .before .before .before .before .before .before .before .before .loop .inv .1
+same-length-10 c =
+    let after-feed : tie.After-feed Inv-loop μ-loop = search back in
+    let at-loop : tie.At-loop Inv-loop μ-loop = search back in
+    after-feed .feed .kept .1 .0 ∙ at-loop .loop .inv .1
 
--- src/main.rt:60:13
 same-length-11 : tie.Need-same-length-11 Inv-loop μ-loop
-same-length-11 c = c .before .before .before .before .before .before .before .before .before .before .before .before .before .before .before .before .before .before .before .before .before .before .before .feed .kept .1 .1 .0 ∙ c .before .before .before .before .before .before .before .before .before .before .before .before .before .before .before .before .before .before .before .before .before .before .before .before .before .before .before .before .before .before .before .before .before .before .before .loop .inv .2
+same-length-11 c =
+    let after-feed : tie.After-feed Inv-loop μ-loop = search back in
+    let at-loop : tie.At-loop Inv-loop μ-loop = search back in
+    after-feed .feed .kept .1 .1 .0 ∙ at-loop .loop .inv .2
 
--- src/main.rt:60:13
 same-length-12 : tie.Need-same-length-12 Inv-loop μ-loop
-same-length-12 c = c .before .before .before .before .before .before .before .before .before .before .before .before .before .before .before .before .before .before .before .before .before .before .before .feed .kept .1 .1 .1 .0 ∙ c .before .before .before .before .before .before .before .before .before .before .before .before .before .before .before .before .before .before .before .before .before .before .before .before .before .before .before .before .before .before .before .before .before .before .before .loop .inv .3
+same-length-12 c =
+    let after-feed : tie.After-feed Inv-loop μ-loop = search back in
+    let at-loop : tie.At-loop Inv-loop μ-loop = search back in
+    after-feed .feed .kept .1 .1 .1 .0 ∙ at-loop .loop .inv .3
 
--- src/main.rt:60:13
 same-length-13 : tie.Need-same-length-13 Inv-loop μ-loop
-same-length-13 c = c .before .before .before .before .before .before .before .before .before .before .before .before .before .before .before .before .before .before .before .before .before .before .before .feed .kept .1 .1 .1 .1 .0 ∙ c .before .before .before .before .before .before .before .before .before .before .before .before .before .before .before .before .before .before .before .before .before .before .before .before .before .before .before .before .before .before .before .before .before .before .before .loop .inv .4
+same-length-13 c =
+    let after-feed : tie.After-feed Inv-loop μ-loop = search back in
+    let at-loop : tie.At-loop Inv-loop μ-loop = search back in
+    after-feed .feed .kept .1 .1 .1 .1 .0 ∙ at-loop .loop .inv .4
 
--- src/main.rt:60:13
 same-length-14 : tie.Need-same-length-14 Inv-loop μ-loop
-same-length-14 c = c .before .before .before .before .before .before .before .before .before .before .before .before .before .before .before .before .before .before .before .before .before .before .before .feed .kept .1 .1 .1 .1 .1 .0 ∙ c .before .before .before .before .before .before .before .before .before .before .before .before .before .before .before .before .before .before .before .before .before .before .before .before .before .before .before .before .before .before .before .before .before .before .before .loop .inv .5
+same-length-14 c =
+    let after-feed : tie.After-feed Inv-loop μ-loop = search back in
+    let at-loop : tie.At-loop Inv-loop μ-loop = search back in
+    after-feed .feed .kept .1 .1 .1 .1 .1 .0 ∙ at-loop .loop .inv .5
 
--- src/main.rt:60:13
 same-length-15 : tie.Need-same-length-15 Inv-loop μ-loop
-same-length-15 c = c .before .before .before .before .before .before .before .before .before .before .before .before .before .before .before .before .before .before .before .before .before .before .before .feed .kept .1 .1 .1 .1 .1 .1 .0 ∙ c .before .before .before .before .before .before .before .before .before .before .before .before .before .before .before .before .before .before .before .before .before .before .before .before .before .before .before .before .before .before .before .before .before .before .before .loop .inv .6
+same-length-15 c =
+    let after-feed : tie.After-feed Inv-loop μ-loop = search back in
+    let at-loop : tie.At-loop Inv-loop μ-loop = search back in
+    after-feed .feed .kept .1 .1 .1 .1 .1 .1 .0 ∙ at-loop .loop .inv .6
 
--- src/main.rt:60:13
 same-length-16 : tie.Need-same-length-16 Inv-loop μ-loop
-same-length-16 c = c .before .before .before .before .before .before .before .before .before .before .before .before .before .before .before .before .before .before .before .before .before .before .before .feed .kept .1 .1 .1 .1 .1 .1 .1 .0 ∙ c .before .before .before .before .before .before .before .before .before .before .before .before .before .before .before .before .before .before .before .before .before .before .before .before .before .before .before .before .before .before .before .before .before .before .before .loop .inv .7
+same-length-16 c =
+    let after-feed : tie.After-feed Inv-loop μ-loop = search back in
+    let at-loop : tie.At-loop Inv-loop μ-loop = search back in
+    after-feed .feed .kept .1 .1 .1 .1 .1 .1 .1 .0 ∙ at-loop .loop .inv .7
 
--- src/main.rt:60:13
 same-length-17 : tie.Need-same-length-17 Inv-loop μ-loop
-same-length-17 c = c .before .before .before .before .before .before .before .before .before .before .before .before .before .before .before .before .before .before .before .before .before .before .before .feed .kept .1 .1 .1 .1 .1 .1 .1 .1 .0 ∙ c .before .before .before .before .before .before .before .before .before .before .before .before .before .before .before .before .before .before .before .before .before .before .before .before .before .before .before .before .before .before .before .before .before .before .before .loop .inv .8
+same-length-17 c =
+    let after-feed : tie.After-feed Inv-loop μ-loop = search back in
+    let at-loop : tie.At-loop Inv-loop μ-loop = search back in
+    after-feed .feed .kept .1 .1 .1 .1 .1 .1 .1 .1 .0 ∙ at-loop .loop .inv .8
 
--- src/main.rt:60:13
 same-length-18 : tie.Need-same-length-18 Inv-loop μ-loop
-same-length-18 c = c .before .before .before .before .before .before .before .before .before .before .before .before .before .before .before .before .before .before .before .before .before .before .before .feed .kept .1 .1 .1 .1 .1 .1 .1 .1 .1 .0 ∙ c .before .before .before .before .before .before .before .before .before .before .before .before .before .before .before .before .before .before .before .before .before .before .before .before .before .before .before .before .before .before .before .before .before .before .before .loop .inv .9
-
--- src/main.rt:60:13
-returns-2 : tie.Need-returns-2 Inv-loop μ-loop
-returns-2 c = search needs
+same-length-18 c =
+    let after-feed : tie.After-feed Inv-loop μ-loop = search back in
+    let at-loop : tie.At-loop Inv-loop μ-loop = search back in
+    after-feed .feed .kept .1 .1 .1 .1 .1 .1 .1 .1 .1 .0 ∙ at-loop .loop .inv .9
 
 -- what was used is of the piece
-within : (c : tie.Else2 Inv-loop μ-loop) → (c .before .before .before .before .before .before .before .before .before .before .before .before .before .before .before .before .before .before .before .before .before .before .before .before .before .before .before .before .before .before .before .before .before .before .before .loop .at) + c .before .before .before .before .before .before .before .before .before .before .before .before .before .before .before .before .before .before .before .before .before .before .before .feed .result .used ≤ length (c .before .before .before .before .before .before .before .before .before .before .before .before .before .before .before .before .before .before .before .before .before .before .before .before .before .before .before .before .before .before .before .before .before .before .before .before .before .before .before .before .before .before .before .before .before .before .args .piece .now)
-within c = omega (arith, c .before .before .before .before .before .before .before .before .before .before .before .before .before .before .before .before .before .before .before .before .before .before .before .feed .ensures .2, length-take (length (c .before .before .before .before .before .before .before .before .before .before .before .before .before .before .before .before .before .before .before .before .before .before .before .before .before .before .before .before .before .before .before .before .before .before .before .before .before .before .before .before .before .before .before .before .before .before .args .piece .now) - (c .before .before .before .before .before .before .before .before .before .before .before .before .before .before .before .before .before .before .before .before .before .before .before .before .before .before .before .before .before .before .before .before .before .before .before .loop .at)) (drop (c .before .before .before .before .before .before .before .before .before .before .before .before .before .before .before .before .before .before .before .before .before .before .before .before .before .before .before .before .before .before .before .before .before .before .before .loop .at) (c .before .before .before .before .before .before .before .before .before .before .before .before .before .before .before .before .before .before .before .before .before .before .before .before .before .before .before .before .before .before .before .before .before .before .before .before .before .before .before .before .before .before .before .before .before .before .args .piece .now)), length-drop (c .before .before .before .before .before .before .before .before .before .before .before .before .before .before .before .before .before .before .before .before .before .before .before .before .before .before .before .before .before .before .before .before .before .before .before .loop .at) (c .before .before .before .before .before .before .before .before .before .before .before .before .before .before .before .before .before .before .before .before .before .before .before .before .before .before .before .before .before .before .before .before .before .before .before .before .before .before .before .before .before .before .before .before .before .before .args .piece .now), c .before .before .before .before .before .before .before .before .before .before .before .before .before .before .before .before .before .before .before .before .before .before .before .before .before .before .before .before .before .before .before .before .before .before .before .loop .inv .10)
+within : (c : tie.Else2 Inv-loop μ-loop) →
+    let after-feed : tie.After-feed Inv-loop μ-loop = search back in
+    let at-loop : tie.At-loop Inv-loop μ-loop = search back in
+    let start : tie.Start Inv-loop μ-loop = search back in
+    (at-loop .loop .at) + after-feed .feed .result .used ≤ length (start .args .piece .now)
+within c =
+    let after-feed : tie.After-feed Inv-loop μ-loop = search back in
+    let at-loop : tie.At-loop Inv-loop μ-loop = search back in
+    let start : tie.Start Inv-loop μ-loop = search back in
+    omega (
+      arith,
+      after-feed .feed .ensures .2,
+      length-take (length (start .args .piece .now) - (at-loop .loop .at)) (drop (at-loop .loop .at) (start .args .piece .now)),
+      length-drop (at-loop .loop .at) (start .args .piece .now),
+      at-loop .loop .inv .10,
+    )
 
--- src/main.rt:65:9
 add-at : tie.Need-add-at Inv-loop μ-loop
-add-at c = omega (arith, within c, c .before .before .before .before .before .before .before .before .before .before .before .before .before .before .before .before .before .before .before .before .before .before .before .before .before .before .before .before .before .before .before .before .before .before .before .before .before .before .before .before .before .before .before .before .before .before .good .1 .1 .1 .1 .1 .1 .1 .1 .1 .1 .0 .0)
+add-at c =
+    let start : tie.Start Inv-loop μ-loop = search back in
+    omega (arith, within c, start .good .1 .1 .1 .1 .1 .1 .1 .1 .1 .1 .0 .0)
 
--- src/main.rt:36:5
 loop-less : tie.Need-loop-less Inv-loop μ-loop
-loop-less c = omega (arith, within c, c .if2 .left, c .before .before .before .before .before .before .before .before .before .before .before .before .before .before .before .before .before .before .before .before .before .before .before .before .before .before .before .before .before .before .before .before .before .before .loop-test .taken)
+loop-less c =
+    let in-loop : tie.In-loop Inv-loop μ-loop = search back in
+    omega (arith, within c, c .if2 .left, in-loop .loop-test .taken)
 
--- src/main.rt:36:5
 loop-again : tie.Need-loop-again Inv-loop μ-loop
-loop-again c = let k = c .before .before .before .before .before .before .before .before .before .before .before .before .before .before .before .before .before .before .before .before .before .before .before .feed .kept in let v = c .before .before .before .before .before .before .before .before .before .before .before .before .before .before .before .before .before .before .before .before .before .before .before .before .before .before .before .before .before .before .before .before .before .before .before .loop .inv in (c .before .before .before .before .before .before .before .before .before .before .before .before .before .before .before .before .before .before .before .before .before .before .before .feed .ensures .1, k .1 .0 ∙ v .1, k .1 .1 .0 ∙ v .2, k .1 .1 .1 .0 ∙ v .3, k .1 .1 .1 .1 .0 ∙ v .4, k .1 .1 .1 .1 .1 .0 ∙ v .5, k .1 .1 .1 .1 .1 .1 .0 ∙ v .6, k .1 .1 .1 .1 .1 .1 .1 .0 ∙ v .7, k .1 .1 .1 .1 .1 .1 .1 .1 .0 ∙ v .8, k .1 .1 .1 .1 .1 .1 .1 .1 .1 .0 ∙ v .9, within c)
-
--- src/main.rt:18:1
-same-length-19 : tie.Need-same-length-19 Inv-loop μ-loop
-same-length-19 c = search needs
-
--- src/main.rt:18:1
-same-length-20 : tie.Need-same-length-20 Inv-loop μ-loop
-same-length-20 c = search needs
-
--- src/main.rt:18:1
-same-length-21 : tie.Need-same-length-21 Inv-loop μ-loop
-same-length-21 c = search needs
-
--- src/main.rt:18:1
-same-length-22 : tie.Need-same-length-22 Inv-loop μ-loop
-same-length-22 c = search needs
-
--- src/main.rt:18:1
-same-length-23 : tie.Need-same-length-23 Inv-loop μ-loop
-same-length-23 c = search needs
-
--- src/main.rt:18:1
-same-length-24 : tie.Need-same-length-24 Inv-loop μ-loop
-same-length-24 c = search needs
-
--- src/main.rt:18:1
-same-length-25 : tie.Need-same-length-25 Inv-loop μ-loop
-same-length-25 c = search needs
-
--- src/main.rt:18:1
-same-length-26 : tie.Need-same-length-26 Inv-loop μ-loop
-same-length-26 c = search needs
-
--- src/main.rt:18:1
-same-length-27 : tie.Need-same-length-27 Inv-loop μ-loop
-same-length-27 c = search needs
-
--- src/main.rt:18:1
-returns-3 : tie.Need-returns-3 Inv-loop μ-loop
-returns-3 c = search needs
+loop-again c =
+    let after-feed : tie.After-feed Inv-loop μ-loop = search back in
+    let at-loop : tie.At-loop Inv-loop μ-loop = search back in
+    let k = after-feed .feed .kept in
+    let v = at-loop .loop .inv in (
+      after-feed .feed .ensures .1,
+      k .1 .0 ∙ v .1,
+      k .1 .1 .0 ∙ v .2,
+      k .1 .1 .1 .0 ∙ v .3,
+      k .1 .1 .1 .1 .0 ∙ v .4,
+      k .1 .1 .1 .1 .1 .0 ∙ v .5,
+      k .1 .1 .1 .1 .1 .1 .0 ∙ v .6,
+      k .1 .1 .1 .1 .1 .1 .1 .0 ∙ v .7,
+      k .1 .1 .1 .1 .1 .1 .1 .1 .0 ∙ v .8,
+      k .1 .1 .1 .1 .1 .1 .1 .1 .1 .0 ∙ v .9,
+      within c,
+    )
 
 pub answer-spec : {M : Type 1} → statement M
 answer-spec =
@@ -204,13 +213,13 @@ answer-spec =
     Inv-loop
     μ-loop
     loop-holds
-    sub-feed
-    part-feed-start
-    part-feed-end
-    feed-requires
-    slice-reshare-prefix-write-all
+    (λ c. search needs)  -- sub-feed
+    (λ c. search needs)  -- part-feed-start
+    (λ c. search needs)  -- part-feed-end
+    (λ c. search needs)  -- feed-requires
+    (λ c. search needs)  -- slice-reshare-prefix-write-all
     slice-aggregate-write-all
-    write-all-requires
+    (λ c. search needs)  -- write-all-requires
     same-length
     same-length-2
     same-length-3
@@ -220,7 +229,7 @@ answer-spec =
     same-length-7
     same-length-8
     same-length-9
-    returns
+    (λ c. search needs)  -- returns
     same-length-10
     same-length-11
     same-length-12
@@ -230,17 +239,17 @@ answer-spec =
     same-length-16
     same-length-17
     same-length-18
-    returns-2
+    (λ c. search needs)  -- returns-2
     add-at
     loop-less
     loop-again
-    same-length-19
-    same-length-20
-    same-length-21
-    same-length-22
-    same-length-23
-    same-length-24
-    same-length-25
-    same-length-26
-    same-length-27
-    returns-3)
+    (λ c. search needs)  -- same-length-19
+    (λ c. search needs)  -- same-length-20
+    (λ c. search needs)  -- same-length-21
+    (λ c. search needs)  -- same-length-22
+    (λ c. search needs)  -- same-length-23
+    (λ c. search needs)  -- same-length-24
+    (λ c. search needs)  -- same-length-25
+    (λ c. search needs)  -- same-length-26
+    (λ c. search needs)  -- same-length-27
+    (λ c. search needs))  -- returns-3

@@ -5,72 +5,25 @@ use borrow.Author.Needs.{needs}
 use Rattle.follow.proofs.end.Statement.{statement}
 use Rattle.follow.proofs.end.Tie as tie
 
--- src/main.rt:142:9
-finish-requires : tie.Need-finish-requires
-finish-requires c κs = search needs
-
--- src/main.rt:155:22
-slice-reshare-prefix-write-all : tie.Need-slice-reshare-prefix-write-all
-slice-reshare-prefix-write-all c = search needs
-
--- src/main.rt:155:22
 slice-aggregate-write-all : tie.Need-slice-aggregate-write-all
-slice-aggregate-write-all c = sym (length-take-le _ _ (c .before .before .before .before .before .before .before .before .before .before .before .before .before .before .before .before .before .finish .ensures .1))
-
--- src/main.rt:155:5
-write-all-requires : tie.Need-write-all-requires
-write-all-requires c κs = search needs
-
--- src/main.rt:128:1
-same-length : tie.Need-same-length
-same-length c = search needs
-
--- src/main.rt:128:1
-same-length-2 : tie.Need-same-length-2
-same-length-2 c = search needs
-
--- src/main.rt:128:1
-same-length-3 : tie.Need-same-length-3
-same-length-3 c = search needs
-
--- src/main.rt:128:1
-same-length-4 : tie.Need-same-length-4
-same-length-4 c = search needs
-
--- src/main.rt:128:1
-same-length-5 : tie.Need-same-length-5
-same-length-5 c = search needs
-
--- src/main.rt:128:1
-same-length-6 : tie.Need-same-length-6
-same-length-6 c = search needs
-
--- src/main.rt:128:1
-same-length-7 : tie.Need-same-length-7
-same-length-7 c = search needs
-
--- src/main.rt:128:1
-same-length-8 : tie.Need-same-length-8
-same-length-8 c = search needs
-
--- src/main.rt:128:1
-returns : tie.Need-returns
-returns c = search needs
+slice-aggregate-write-all c =
+    let after-finish : tie.After-finish = search in
+    sym (length-take-le _ _ (after-finish .finish .ensures .1))
 
 pub end-spec : {M : Type 1} → statement M
 end-spec =
     tie.close
     (tie.spec
-    finish-requires
-    slice-reshare-prefix-write-all
+    (λ c. search needs)  -- finish-requires
+    (λ c. search needs)  -- slice-reshare-prefix-write-all
     slice-aggregate-write-all
-    write-all-requires
-    same-length
-    same-length-2
-    same-length-3
-    same-length-4
-    same-length-5
-    same-length-6
-    same-length-7
-    same-length-8
-    returns)
+    (λ c. search needs)  -- write-all-requires
+    (λ c. search needs)  -- same-length
+    (λ c. search needs)  -- same-length-2
+    (λ c. search needs)  -- same-length-3
+    (λ c. search needs)  -- same-length-4
+    (λ c. search needs)  -- same-length-5
+    (λ c. search needs)  -- same-length-6
+    (λ c. search needs)  -- same-length-7
+    (λ c. search needs)  -- same-length-8
+    (λ c. search needs))  -- returns

@@ -5,82 +5,58 @@ use borrow.Author.Needs.{needs}
 use Rattle.follow.proofs.main.Statement.{statement}
 use Rattle.follow.proofs.main.Tie as tie
 
--- src/main.rt:215:34
-slice-aggregate-begin : tie.Need-slice-aggregate-begin
-slice-aggregate-begin c = search needs
-
--- src/main.rt:215:46
-slice-aggregate-begin-2 : tie.Need-slice-aggregate-begin-2
-slice-aggregate-begin-2 c = search needs
-
--- src/main.rt:215:9
-begin-requires : tie.Need-begin-requires
-begin-requires c κs = search needs
-
--- src/main.rt:218:9
 slice-aggregate-follow : tie.Need-slice-aggregate-follow
 slice-aggregate-follow c = search needs
 
--- src/main.rt:219:9
 slice-aggregate-follow-2 : tie.Need-slice-aggregate-follow-2
 slice-aggregate-follow-2 c = search needs
 
--- src/main.rt:220:9
 slice-aggregate-follow-3 : tie.Need-slice-aggregate-follow-3
 slice-aggregate-follow-3 c = search needs
 
--- src/main.rt:221:9
 slice-aggregate-follow-4 : tie.Need-slice-aggregate-follow-4
 slice-aggregate-follow-4 c = search needs
 
--- src/main.rt:222:9
 slice-aggregate-follow-5 : tie.Need-slice-aggregate-follow-5
 slice-aggregate-follow-5 c = search needs
 
--- src/main.rt:223:9
 slice-aggregate-follow-6 : tie.Need-slice-aggregate-follow-6
 slice-aggregate-follow-6 c = search needs
 
--- src/main.rt:224:9
 slice-aggregate-follow-7 : tie.Need-slice-aggregate-follow-7
 slice-aggregate-follow-7 c = search needs
 
--- src/main.rt:225:9
 slice-aggregate-follow-8 : tie.Need-slice-aggregate-follow-8
 slice-aggregate-follow-8 c = search needs
 
--- src/main.rt:226:9
-slice-aggregate-follow-9 : tie.Need-slice-aggregate-follow-9
-slice-aggregate-follow-9 c = search needs
-
--- src/main.rt:227:9
-slice-aggregate-follow-10 : tie.Need-slice-aggregate-follow-10
-slice-aggregate-follow-10 c = search needs
-
--- src/main.rt:216:5
 follow-requires : tie.Need-follow-requires
 follow-requires c κs =
-    begun-ready _ _ (c .before .before .before .before .before .before .before .before .before .before .before .before .begin .ensures)
-    (omega (arith, slice-aggregate-follow (c .before .before .before .before .before .before .before .before .before)))
-    (omega (arith, slice-aggregate-follow-2 (c .before .before .before .before .before .before .before .before)))
-    (omega (arith, slice-aggregate-follow-3 (c .before .before .before .before .before .before .before)))
-    (omega (arith, slice-aggregate-follow-4 (c .before .before .before .before .before .before)))
-    (omega (arith, slice-aggregate-follow-5 (c .before .before .before .before .before)))
-    (omega (arith, slice-aggregate-follow-6 (c .before .before .before .before)))
-    (omega (arith, slice-aggregate-follow-7 (c .before .before .before)))
-    (omega (arith, slice-aggregate-follow-8 (c .before .before)))
-
--- src/main.rt:204:1
-returns : tie.Need-returns
-returns c = search needs
+    let after-line : tie.After-line = search in
+    let after-odd : tie.After-odd = search in
+    let after-even : tie.After-even = search in
+    let after-skips : tie.After-skips = search in
+    let after-bounds : tie.After-bounds = search in
+    let after-hops : tie.After-hops = search in
+    let after-pairs3 : tie.After-pairs3 = search in
+    let after-links3 : tie.After-links3 = search in
+    let after-begin : tie.After-begin = search in
+    begun-ready _ _ (after-begin .begin .ensures)
+    (omega (arith, slice-aggregate-follow after-links3))
+    (omega (arith, slice-aggregate-follow-2 after-pairs3))
+    (omega (arith, slice-aggregate-follow-3 after-hops))
+    (omega (arith, slice-aggregate-follow-4 after-bounds))
+    (omega (arith, slice-aggregate-follow-5 after-skips))
+    (omega (arith, slice-aggregate-follow-6 after-even))
+    (omega (arith, slice-aggregate-follow-7 after-odd))
+    (omega (arith, slice-aggregate-follow-8 after-line))
 
 pub main-spec : {M : Type 1} → statement M
 main-spec =
     tie.close
     (tie.spec
-    slice-aggregate-begin
-    slice-aggregate-begin-2
-    begin-requires
+    (λ c. search needs)  -- slice-aggregate-begin
+    (λ c. search needs)  -- slice-aggregate-begin-2
+    (λ c. search needs)  -- begin-requires
     slice-aggregate-follow
     slice-aggregate-follow-2
     slice-aggregate-follow-3
@@ -89,7 +65,7 @@ main-spec =
     slice-aggregate-follow-6
     slice-aggregate-follow-7
     slice-aggregate-follow-8
-    slice-aggregate-follow-9
-    slice-aggregate-follow-10
+    (λ c. search needs)  -- slice-aggregate-follow-9
+    (λ c. search needs)  -- slice-aggregate-follow-10
     follow-requires
-    returns)
+    (λ c. search needs))  -- returns

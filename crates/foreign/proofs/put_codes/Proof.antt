@@ -4,57 +4,42 @@ use borrow.Author.Needs.{needs}
 use Rattle.foreign.proofs.put_codes.Statement.{statement}
 use Rattle.foreign.proofs.put_codes.Tie as tie
 
--- src/record.rt:54:24
-shared-slice-read-put-word : tie.Need-shared-slice-read-put-word
-shared-slice-read-put-word c = search needs
+-- the way back, from each call to the one before it
+abbrev before-put-word4 : tie.After-put-word4 → tie.After-put-word3
+before-put-word4 c = search
 
--- src/record.rt:54:5
-put-word-requires : tie.Need-put-word-requires
-put-word-requires c κs = search needs
+abbrev before-put-word3 : tie.After-put-word3 → tie.After-put-word2
+before-put-word3 c = search
 
--- src/record.rt:55:24
-shared-slice-read-put-word-2 : tie.Need-shared-slice-read-put-word-2
-shared-slice-read-put-word-2 c = search needs
+abbrev before-put-word2 : tie.After-put-word2 → tie.After-put-word
+before-put-word2 c = search
 
--- src/record.rt:55:5
-put-word-requires-2 : tie.Need-put-word-requires-2
-put-word-requires-2 c κs = search needs
+abbrev before-put-word : tie.After-put-word → tie.Start
+before-put-word c = search
 
--- src/record.rt:56:24
-shared-slice-read-put-word-3 : tie.Need-shared-slice-read-put-word-3
-shared-slice-read-put-word-3 c = search needs
+ruleset back = (before-put-word4, before-put-word3, before-put-word2, before-put-word)
 
--- src/record.rt:56:5
-put-word-requires-3 : tie.Need-put-word-requires-3
-put-word-requires-3 c κs = search needs
-
--- src/record.rt:57:24
-shared-slice-read-put-word-4 : tie.Need-shared-slice-read-put-word-4
-shared-slice-read-put-word-4 c = search needs
-
--- src/record.rt:57:5
-put-word-requires-4 : tie.Need-put-word-requires-4
-put-word-requires-4 c κs = search needs
-
--- src/record.rt:50:1
-same-length : tie.Need-same-length
-same-length c = search needs
-
--- src/record.rt:50:1
 returns : tie.Need-returns
-returns c = write-codes _ _ (c .before .before .before .before .before .before .before .before .before .before .before .before .before .before .before .before .before .before .before .before .before .before .pre .0) (c .before .before .before .before .before .before .before .before .before .before .before .before .before .before .before .before .before .before .before .before .before .before .pre .1) (c .before .before .before .before .before .before .before .before .before .before .before .before .before .before .before .before .before .put-word .ensures) (c .before .before .before .before .before .before .before .before .before .before .before .before .put-word2 .ensures) (c .before .before .before .before .before .before .before .put-word3 .ensures) (c .before .before .put-word4 .ensures)
+returns c =
+    let after-put-word4 : tie.After-put-word4 = search back in
+    let after-put-word3 : tie.After-put-word3 = search back in
+    let after-put-word2 : tie.After-put-word2 = search back in
+    let after-put-word : tie.After-put-word = search back in
+    let start : tie.Start = search back in
+    write-codes _ _ (start .pre .0) (start .pre .1) (after-put-word .put-word .ensures) (after-put-word2 .put-word2 .ensures)
+    (after-put-word3 .put-word3 .ensures) (after-put-word4 .put-word4 .ensures)
 
 pub put-codes-spec : {M : Type 1} → statement M
 put-codes-spec =
     tie.close
     (tie.spec
-    shared-slice-read-put-word
-    put-word-requires
-    shared-slice-read-put-word-2
-    put-word-requires-2
-    shared-slice-read-put-word-3
-    put-word-requires-3
-    shared-slice-read-put-word-4
-    put-word-requires-4
-    same-length
+    (λ c. search needs)  -- shared-slice-read-put-word
+    (λ c. search needs)  -- put-word-requires
+    (λ c. search needs)  -- shared-slice-read-put-word-2
+    (λ c. search needs)  -- put-word-requires-2
+    (λ c. search needs)  -- shared-slice-read-put-word-3
+    (λ c. search needs)  -- put-word-requires-3
+    (λ c. search needs)  -- shared-slice-read-put-word-4
+    (λ c. search needs)  -- put-word-requires-4
+    (λ c. search needs)  -- same-length
     returns)

@@ -4,33 +4,36 @@ use borrow.Author.Needs.{needs}
 use Rattle.foreign.proofs.step_refusal.Statement.{statement}
 use Rattle.foreign.proofs.step_refusal.Tie as tie
 
--- src/streams.rt:29:9
 returns : tie.Need-returns
 returns c = step-words _ _ _ _ _ _ _ (c .if1 .taken)
 
--- src/streams.rt:32:9
 returns-2 : tie.Need-returns-2
-returns-2 c = step-line _ _ _ _ _ _ _ (c .before .if1 .left) (c .if2 .taken)
+returns-2 c =
+    let else1 : tie.Else1 = search in
+    step-line _ _ _ _ _ _ _ (else1 .if1 .left) (c .if2 .taken)
 
--- src/streams.rt:35:9
 returns-3 : tie.Need-returns-3
-returns-3 c = step-out _ _ _ _ _ _ _ (c .before .before .if1 .left) (c .before .if2 .left) (c .if3 .taken)
+returns-3 c =
+    let else2 : tie.Else2 = search in
+    let else1 : tie.Else1 = search in
+    step-out _ _ _ _ _ _ _ (else1 .if1 .left) (else2 .if2 .left) (c .if3 .taken)
 
--- src/streams.rt:38:9
 returns-4 : tie.Need-returns-4
-returns-4 c = step-held _ _ _ _ _ _ _ (c .before .before .before .if1 .left) (c .before .before .if2 .left) (c .before .if3 .left) (c .if4 .taken)
+returns-4 c =
+    let else3 : tie.Else3 = search in
+    let else2 : tie.Else2 = search in
+    let else1 : tie.Else1 = search in
+    step-held _ _ _ _ _ _ _ (else1 .if1 .left) (else2 .if2 .left) (else3 .if3 .left) (c .if4 .taken)
 
--- src/streams.rt:40:9
-record-of-requires : tie.Need-record-of-requires
-record-of-requires c κs = search needs
-
--- src/streams.rt:41:5
-map-refusal-requires : tie.Need-map-refusal-requires
-map-refusal-requires c κs = search needs
-
--- src/streams.rt:13:1
 returns-5 : tie.Need-returns-5
-returns-5 c = step-map _ _ _ _ _ _ _ (c .before .before .before .before .before .if1 .left) (c .before .before .before .before .if2 .left) (c .before .before .before .if3 .left) (c .before .before .if4 .left) (c .before .record-of .ensures) (c .map-refusal .ensures)
+returns-5 c =
+    let after-record-of : tie.After-record-of = search in
+    let else4 : tie.Else4 = search in
+    let else3 : tie.Else3 = search in
+    let else2 : tie.Else2 = search in
+    let else1 : tie.Else1 = search in
+    step-map _ _ _ _ _ _ _ (else1 .if1 .left) (else2 .if2 .left) (else3 .if3 .left) (else4 .if4 .left)
+    (after-record-of .record-of .ensures) (c .map-refusal .ensures)
 
 pub step-refusal-spec : {M : Type 1} → statement M
 step-refusal-spec =
@@ -40,6 +43,6 @@ step-refusal-spec =
     returns-2
     returns-3
     returns-4
-    record-of-requires
-    map-refusal-requires
+    (λ c. search needs)  -- record-of-requires
+    (λ c. search needs)  -- map-refusal-requires
     returns-5)

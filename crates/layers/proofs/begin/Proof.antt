@@ -5,58 +5,54 @@ use borrow.Author.Needs.{needs}
 use Rattle.layers.proofs.begin.Statement.{statement}
 use Rattle.layers.proofs.begin.Tie as tie
 
-mul-fill : tie.Need-mul-fill
-mul-fill c = search needs
+-- the way back, from each call to the one before it
+abbrev before-row-set2 : tie.After-row-set2 → tie.After-row-set
+before-row-set2 c = search
 
-fill-requires : tie.Need-fill-requires
-fill-requires c κs = search needs
+abbrev before-row-set : tie.After-row-set → tie.After-clear3
+before-row-set c = search
 
-clear-requires : tie.Need-clear-requires
-clear-requires c κs = search needs
+abbrev before-clear3 : tie.After-clear3 → tie.After-clear2
+before-clear3 c = search
 
-clear-requires-2 : tie.Need-clear-requires-2
-clear-requires-2 c κs = search needs
+abbrev before-clear2 : tie.After-clear2 → tie.After-clear
+before-clear2 c = search
 
-clear-requires-3 : tie.Need-clear-requires-3
-clear-requires-3 c κs = search needs
+abbrev before-clear : tie.After-clear → tie.After-fill
+before-clear c = search
 
-row-set-requires : tie.Need-row-set-requires
-row-set-requires c κs = search needs
+abbrev before-fill : tie.After-fill → tie.Start
+before-fill c = search
 
-row-set-requires-2 : tie.Need-row-set-requires-2
-row-set-requires-2 c κs = search needs
-
-same-length : tie.Need-same-length
-same-length c = search needs
-
-same-length-2 : tie.Need-same-length-2
-same-length-2 c = search needs
-
-same-length-3 : tie.Need-same-length-3
-same-length-3 c = search needs
-
-same-length-4 : tie.Need-same-length-4
-same-length-4 c = search needs
+ruleset back = (before-row-set2, before-row-set, before-clear3, before-clear2, before-clear, before-fill)
 
 returns : tie.Need-returns
 returns c =
-    let low = c .before .before .before .before .before .before .before .before .before .before .before .before .before .before .before .before .before .before .before .before .before .before .before .before .before .before .before .before .pre .6 in
-    begin-is _ _ _ _ _ _ _ _ (c .before .before .before .before .before .before .before .before .before .before .before .before .before .before .before .before .before .before .before .before .before .before .fill .ensures) (alone _ _ _ _ _ low (c .before .before .before .before .before .before .before .before .before .before .before .before .before .before .before .before .before .before .clear .ensures) (c .before .before .before .before .before .before .row-set .ensures)) (c .before .before .before .before .before .before .before .before .before .before .before .before .before .before .clear2 .ensures)
-    (alone _ _ _ _ _ low (c .before .before .before .before .before .before .before .before .before .before .clear3 .ensures) (c .before .before .row-set2 .ensures))
+    let after-row-set2 : tie.After-row-set2 = search back in
+    let after-row-set : tie.After-row-set = search back in
+    let after-clear3 : tie.After-clear3 = search back in
+    let after-clear2 : tie.After-clear2 = search back in
+    let after-clear : tie.After-clear = search back in
+    let after-fill : tie.After-fill = search back in
+    let start : tie.Start = search back in
+    let low = start .pre .6 in
+    begin-is _ _ _ _ _ _ _ _ (after-fill .fill .ensures)
+    (alone _ _ _ _ _ low (after-clear .clear .ensures) (after-row-set .row-set .ensures)) (after-clear2 .clear2 .ensures)
+    (alone _ _ _ _ _ low (after-clear3 .clear3 .ensures) (after-row-set2 .row-set2 .ensures))
 
 pub begin-spec : {M : Type 1} → statement M
 begin-spec =
     tie.close
     (tie.spec
-    mul-fill
-    fill-requires
-    clear-requires
-    clear-requires-2
-    clear-requires-3
-    row-set-requires
-    row-set-requires-2
-    same-length
-    same-length-2
-    same-length-3
-    same-length-4
+    (λ c. search needs)  -- mul-fill
+    (λ c. search needs)  -- fill-requires
+    (λ c. search needs)  -- clear-requires
+    (λ c. search needs)  -- clear-requires-2
+    (λ c. search needs)  -- clear-requires-3
+    (λ c. search needs)  -- row-set-requires
+    (λ c. search needs)  -- row-set-requires-2
+    (λ c. search needs)  -- same-length
+    (λ c. search needs)  -- same-length-2
+    (λ c. search needs)  -- same-length-3
+    (λ c. search needs)  -- same-length-4
     returns)

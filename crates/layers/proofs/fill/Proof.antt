@@ -21,31 +21,35 @@ abbrev μ-loop : tie.MeasureT-loop
 loop-holds : tie.Need-loop-holds Inv-loop μ-loop
 loop-holds c = (omega arith, sym (fill-none _ _), refl)
 
-mul-table : tie.Need-mul-table Inv-loop μ-loop
-mul-table c = search needs
-
-slice-write-table : tie.Need-slice-write-table Inv-loop μ-loop
-slice-write-table c = search needs
-
-add-v : tie.Need-add-v Inv-loop μ-loop
-add-v c = search needs
-
-loop-less : tie.Need-loop-less Inv-loop μ-loop
-loop-less c = search needs
-
 loop-again : tie.Need-loop-again Inv-loop μ-loop
 loop-again c =
-    let i = c .before .loop .inv in
-    (omega arith, ap (λ (l : List ℕ). set l (c .before .loop .v) (c .before .before .args .x)) (i .1) ∙ fill-more _ _ _ (omega arith), simp length-set (i .2))
-
-same-length : tie.Need-same-length Inv-loop μ-loop
-same-length c = search needs
+    let at-loop : tie.At-loop Inv-loop μ-loop = search in
+    let start : tie.Start Inv-loop μ-loop = search in
+    let i = at-loop .loop .inv in (
+      omega arith,
+      ap (λ (l : List ℕ). set l (at-loop .loop .v) (start .args .x)) (i .1) ∙ fill-more _ _ _ (omega arith),
+      simp length-set (i .2),
+    )
 
 returns : tie.Need-returns Inv-loop μ-loop
 returns c =
-    let i = c .before .loop .inv in
-    let e : c .before .loop .v ≡ c .before .before .args .n = le-antisymm (i .0) (c .loop-test .left) in
-    i .1 ∙ ap (λ (m : ℕ). overwrite (mapl (λ k. c .before .before .args .x) (range m)) (c .before .before .args .table .now)) e
+    let at-loop : tie.At-loop Inv-loop μ-loop = search in
+    let start : tie.Start Inv-loop μ-loop = search in
+    let i = at-loop .loop .inv in
+    let e : at-loop .loop .v ≡ start .args .n = le-antisymm (i .0) (c .loop-test .left) in
+    i .1 ∙ ap (λ (m : ℕ). overwrite (mapl (λ k. start .args .x) (range m)) (start .args .table .now)) e
 
 pub fill-spec : {M : Type 1} → statement M
-fill-spec = tie.close (tie.spec Inv-loop μ-loop loop-holds mul-table slice-write-table add-v loop-less loop-again same-length returns)
+fill-spec =
+    tie.close
+    (tie.spec
+    Inv-loop
+    μ-loop
+    loop-holds
+    (λ c. search needs)  -- mul-table
+    (λ c. search needs)  -- slice-write-table
+    (λ c. search needs)  -- add-v
+    (λ c. search needs)  -- loop-less
+    loop-again
+    (λ c. search needs)  -- same-length
+    returns)

@@ -16,40 +16,18 @@ abbrev μ-loop : tie.MeasureT-loop
 loop-holds : tie.Need-loop-holds Inv-loop μ-loop
 loop-holds c = keep-start _ _ _
 
-mul-x : tie.Need-mul-x Inv-loop μ-loop
-mul-x c = search needs
-
-slice-read-x : tie.Need-slice-read-x Inv-loop μ-loop
-slice-read-x c = search needs
-
-mul-x-2 : tie.Need-mul-x-2 Inv-loop μ-loop
-mul-x-2 c = search needs
-
-shared-slice-read-x : tie.Need-shared-slice-read-x Inv-loop μ-loop
-shared-slice-read-x c = search needs
-
-mul-next : tie.Need-mul-next Inv-loop μ-loop
-mul-next c = search needs
-
-slice-write-next : tie.Need-slice-write-next Inv-loop μ-loop
-slice-write-next c = search needs
-
-add-j : tie.Need-add-j Inv-loop μ-loop
-add-j c = search needs
-
-loop-less : tie.Need-loop-less Inv-loop μ-loop
-loop-less c = search needs
-
 loop-again : tie.Need-loop-again Inv-loop μ-loop
 loop-again c =
-    let l = c .before .before .before .loop in
-    keep-next _ _ _ _ _ _ (l .inv) (omega arith) (omega arith) (c .before .slice-known .given (l .j) .fits) (c .shared-slice-known .given (l .j) .fits)
-
-same-length : tie.Need-same-length Inv-loop μ-loop
-same-length c = search needs
+    let after-slice-known : tie.After-slice-known Inv-loop μ-loop = search in
+    let at-loop : tie.At-loop Inv-loop μ-loop = search in
+    let l = at-loop .loop in
+    keep-next _ _ _ _ _ _ (l .inv) (omega arith) (omega arith) (after-slice-known .slice-known .given (l .j) .fits)
+    (c .shared-slice-known .given (l .j) .fits)
 
 returns : tie.Need-returns Inv-loop μ-loop
-returns c = keep-end _ _ _ _ _ _ (c .before .loop .inv) (c .loop-test .left)
+returns c =
+    let at-loop : tie.At-loop Inv-loop μ-loop = search in
+    keep-end _ _ _ _ _ _ (at-loop .loop .inv) (c .loop-test .left)
 
 pub keep-unseen-spec : {M : Type 1} → statement M
 keep-unseen-spec =
@@ -58,14 +36,14 @@ keep-unseen-spec =
     Inv-loop
     μ-loop
     loop-holds
-    mul-x
-    slice-read-x
-    mul-x-2
-    shared-slice-read-x
-    mul-next
-    slice-write-next
-    add-j
-    loop-less
+    (λ c. search needs)  -- mul-x
+    (λ c. search needs)  -- slice-read-x
+    (λ c. search needs)  -- mul-x-2
+    (λ c. search needs)  -- shared-slice-read-x
+    (λ c. search needs)  -- mul-next
+    (λ c. search needs)  -- slice-write-next
+    (λ c. search needs)  -- add-j
+    (λ c. search needs)  -- loop-less
     loop-again
-    same-length
+    (λ c. search needs)  -- same-length
     returns)

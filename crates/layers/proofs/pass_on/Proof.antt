@@ -16,49 +16,18 @@ abbrev μ-loop : tie.MeasureT-loop
 loop-holds : tie.Need-loop-holds Inv-loop μ-loop
 loop-holds c = pass-start _ _ _ _
 
-mul-x : tie.Need-mul-x Inv-loop μ-loop
-mul-x c = search needs
-
-shared-slice-read-x : tie.Need-shared-slice-read-x Inv-loop μ-loop
-shared-slice-read-x c = search needs
-
-mul-other : tie.Need-mul-other Inv-loop μ-loop
-mul-other c = search needs
-
-slice-write-other : tie.Need-slice-write-other Inv-loop μ-loop
-slice-write-other c = search needs
-
-mul-seen : tie.Need-mul-seen Inv-loop μ-loop
-mul-seen c = search needs
-
-slice-read-seen : tie.Need-slice-read-seen Inv-loop μ-loop
-slice-read-seen c = search needs
-
-mul-seen-2 : tie.Need-mul-seen-2 Inv-loop μ-loop
-mul-seen-2 c = search needs
-
-slice-write-seen : tie.Need-slice-write-seen Inv-loop μ-loop
-slice-write-seen c = search needs
-
-add-j : tie.Need-add-j Inv-loop μ-loop
-add-j c = search needs
-
-loop-less : tie.Need-loop-less Inv-loop μ-loop
-loop-less c = search needs
-
 loop-again : tie.Need-loop-again Inv-loop μ-loop
 loop-again c =
-    let l = c .before .before .before .loop in
-    pass-next _ _ _ _ _ _ _ (l .inv) (omega arith) (omega arith) (omega arith) (c .before .shared-slice-known .given (l .j) .fits) (c .slice-known .given (l .j) .fits)
-
-same-length : tie.Need-same-length Inv-loop μ-loop
-same-length c = search needs
-
-same-length-2 : tie.Need-same-length-2 Inv-loop μ-loop
-same-length-2 c = search needs
+    let after-shared-slice-known : tie.After-shared-slice-known Inv-loop μ-loop = search in
+    let at-loop : tie.At-loop Inv-loop μ-loop = search in
+    let l = at-loop .loop in
+    pass-next _ _ _ _ _ _ _ (l .inv) (omega arith) (omega arith) (omega arith)
+    (after-shared-slice-known .shared-slice-known .given (l .j) .fits) (c .slice-known .given (l .j) .fits)
 
 returns : tie.Need-returns Inv-loop μ-loop
-returns c = pass-end _ _ _ _ _ _ _ (c .before .loop .inv) (c .loop-test .left)
+returns c =
+    let at-loop : tie.At-loop Inv-loop μ-loop = search in
+    pass-end _ _ _ _ _ _ _ (at-loop .loop .inv) (c .loop-test .left)
 
 pub pass-on-spec : {M : Type 1} → statement M
 pass-on-spec =
@@ -67,17 +36,17 @@ pass-on-spec =
     Inv-loop
     μ-loop
     loop-holds
-    mul-x
-    shared-slice-read-x
-    mul-other
-    slice-write-other
-    mul-seen
-    slice-read-seen
-    mul-seen-2
-    slice-write-seen
-    add-j
-    loop-less
+    (λ c. search needs)  -- mul-x
+    (λ c. search needs)  -- shared-slice-read-x
+    (λ c. search needs)  -- mul-other
+    (λ c. search needs)  -- slice-write-other
+    (λ c. search needs)  -- mul-seen
+    (λ c. search needs)  -- slice-read-seen
+    (λ c. search needs)  -- mul-seen-2
+    (λ c. search needs)  -- slice-write-seen
+    (λ c. search needs)  -- add-j
+    (λ c. search needs)  -- loop-less
     loop-again
-    same-length
-    same-length-2
+    (λ c. search needs)  -- same-length
+    (λ c. search needs)  -- same-length-2
     returns)

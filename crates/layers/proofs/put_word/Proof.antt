@@ -4,15 +4,6 @@ use Rattle.layers.proofs.Links.{put-here, put-past}
 use Rattle.layers.proofs.put_word.Statement.{statement}
 use Rattle.layers.proofs.put_word.Tie as tie
 
-mul-row : tie.Need-mul-row
-mul-row c = search needs
-
-slice-write-row : tie.Need-slice-write-row
-slice-write-row c = search needs
-
-same-length : tie.Need-same-length
-same-length c = search needs
-
 returns : tie.Need-returns
 returns c = put-here _ _ _ _ (c .if1 .taken)
 
@@ -20,4 +11,11 @@ returns-2 : tie.Need-returns-2
 returns-2 c = put-past _ _ _ _ (c .if1 .left)
 
 pub put-word-spec : {M : Type 1} → statement M
-put-word-spec = tie.close (tie.spec mul-row slice-write-row same-length returns returns-2)
+put-word-spec =
+    tie.close
+    (tie.spec
+    (λ c. search needs)  -- mul-row
+    (λ c. search needs)  -- slice-write-row
+    (λ c. search needs)  -- same-length
+    returns
+    returns-2)

@@ -17,31 +17,23 @@ abbrev μ-loop : tie.MeasureT-loop
 loop-holds : tie.Need-loop-holds Inv-loop μ-loop
 loop-holds c = words-start _ _ _ _ _ _ (omega arith)
 
-mul-reach-word : tie.Need-mul-reach-word Inv-loop μ-loop
-mul-reach-word c = search needs
-
-shared-slice-read-reach-word : tie.Need-shared-slice-read-reach-word Inv-loop μ-loop
-shared-slice-read-reach-word c = search needs
-
 reach-word-requires : tie.Need-reach-word-requires Inv-loop μ-loop
-reach-word-requires c κs = (search needs, words-fit _ _ _ _ _ _ _ _ (c .before .before .before .loop .inv), search needs, search needs)
-
-add-w : tie.Need-add-w Inv-loop μ-loop
-add-w c = search needs
-
-loop-less : tie.Need-loop-less Inv-loop μ-loop
-loop-less c = search needs
+reach-word-requires c κs =
+    let at-loop : tie.At-loop Inv-loop μ-loop = search in
+    (search needs, words-fit _ _ _ _ _ _ _ _ (at-loop .loop .inv), search needs, search needs)
 
 loop-again : tie.Need-loop-again Inv-loop μ-loop
 loop-again c =
-    let word = c .before .before in
-    words-next _ _ _ _ _ _ _ (word .before .before .before .before .loop .inv) (word .before .before .before .loop-test .taken) (word .reach-word .ensures) (word .reach-word .kept .1 .0)
-
-same-length : tie.Need-same-length Inv-loop μ-loop
-same-length c = search needs
+    let after-reach-word : tie.After-reach-word Inv-loop μ-loop = search in
+    let in-loop : tie.In-loop Inv-loop μ-loop = search in
+    let at-loop : tie.At-loop Inv-loop μ-loop = search in
+    words-next _ _ _ _ _ _ _ (at-loop .loop .inv) (in-loop .loop-test .taken) (after-reach-word .reach-word .ensures)
+    (after-reach-word .reach-word .kept .1 .0)
 
 returns : tie.Need-returns Inv-loop μ-loop
-returns c = words-end _ _ _ _ _ _ (c .before .loop .inv) (c .loop-test .left)
+returns c =
+    let at-loop : tie.At-loop Inv-loop μ-loop = search in
+    words-end _ _ _ _ _ _ (at-loop .loop .inv) (c .loop-test .left)
 
 pub reach-layer-spec : {M : Type 1} → statement M
 reach-layer-spec =
@@ -50,11 +42,11 @@ reach-layer-spec =
     Inv-loop
     μ-loop
     loop-holds
-    mul-reach-word
-    shared-slice-read-reach-word
+    (λ c. search needs)  -- mul-reach-word
+    (λ c. search needs)  -- shared-slice-read-reach-word
     reach-word-requires
-    add-w
-    loop-less
+    (λ c. search needs)  -- add-w
+    (λ c. search needs)  -- loop-less
     loop-again
-    same-length
+    (λ c. search needs)  -- same-length
     returns)

@@ -15,13 +15,9 @@ abbrev μ-loop : tie.MeasureT-loop
 μ-loop hops₀ links words w word j k a₀ b₀ c₀ d₀ x₀ hops a b c d x = x
 
 loop-holds : tie.Need-loop-holds Inv-loop μ-loop
-loop-holds c = bits-start _ _ _ _ _ _ _ _ (c .before .before .pre .1) (omega arith)
-
-mul-v : tie.Need-mul-v Inv-loop μ-loop
-mul-v c = search needs
-
-least-requires : tie.Need-least-requires Inv-loop μ-loop
-least-requires c κs = search needs
+loop-holds c =
+    let start : tie.Start Inv-loop μ-loop = search in
+    bits-start _ _ _ _ _ _ _ _ (start .pre .1) (omega arith)
 
 add-v : tie.Need-add-v Inv-loop μ-loop
 add-v c = omega (arith, c .least .ensures .below)
@@ -34,49 +30,52 @@ slice-write-hops c = omega (arith, c .least .ensures .below)
 
 with-word-requires : tie.Need-with-word-requires Inv-loop μ-loop
 with-word-requires c κs =
+    let start : tie.Start Inv-loop μ-loop = search in
     let l = c .least .ensures .below in
-    (row-fits _ _ _ (omega arith) (c .before .before .before .before .before .pre .0 .table), omega arith)
-
-add-with-word : tie.Need-add-with-word Inv-loop μ-loop
-add-with-word c = search needs
+    (row-fits _ _ _ (omega arith) (start .pre .0 .table), omega arith)
 
 with-word-requires-2 : tie.Need-with-word-requires-2 Inv-loop μ-loop
 with-word-requires-2 c κs =
-    let l = c .before .least .ensures .below in
-    (row-fits _ _ _ (omega arith) (c .before .before .before .before .before .before .pre .0 .table), omega arith)
-
-add-with-word-2 : tie.Need-add-with-word-2 Inv-loop μ-loop
-add-with-word-2 c = search needs
+    let after-least : tie.After-least Inv-loop μ-loop = search in
+    let start : tie.Start Inv-loop μ-loop = search in
+    let l = after-least .least .ensures .below in
+    (row-fits _ _ _ (omega arith) (start .pre .0 .table), omega arith)
 
 with-word-requires-3 : tie.Need-with-word-requires-3 Inv-loop μ-loop
 with-word-requires-3 c κs =
-    let l = c .before .before .least .ensures .below in
-    (row-fits _ _ _ (omega arith) (c .before .before .before .before .before .before .before .pre .0 .table), omega arith)
-
-add-with-word-3 : tie.Need-add-with-word-3 Inv-loop μ-loop
-add-with-word-3 c = search needs
+    let after-least : tie.After-least Inv-loop μ-loop = search in
+    let start : tie.Start Inv-loop μ-loop = search in
+    let l = after-least .least .ensures .below in
+    (row-fits _ _ _ (omega arith) (start .pre .0 .table), omega arith)
 
 with-word-requires-4 : tie.Need-with-word-requires-4 Inv-loop μ-loop
 with-word-requires-4 c κs =
-    let l = c .before .before .before .least .ensures .below in
-    (row-fits _ _ _ (omega arith) (c .before .before .before .before .before .before .before .before .pre .0 .table), omega arith)
-
-drop-least-requires : tie.Need-drop-least-requires Inv-loop μ-loop
-drop-least-requires c κs = search needs
+    let after-least : tie.After-least Inv-loop μ-loop = search in
+    let start : tie.Start Inv-loop μ-loop = search in
+    let l = after-least .least .ensures .below in
+    (row-fits _ _ _ (omega arith) (start .pre .0 .table), omega arith)
 
 loop-less : tie.Need-loop-less Inv-loop μ-loop
 loop-less c = c .drop-least .ensures .less
 
 loop-again : tie.Need-loop-again Inv-loop μ-loop
 loop-again c =
-    let found = c .before .before .before .before .before in
-    bits-next _ _ _ _ _ _ _ _ _ (omega arith) (found .least .ensures) (c .drop-least .ensures) _ _ _ _ _ _ _ _ _ (found .before .before .loop .inv) (omega arith) (c .before .before .before .before .with-word .ensures) (c .before .before .before .with-word2 .ensures) (c .before .before .with-word3 .ensures) (c .before .with-word4 .ensures)
-
-same-length : tie.Need-same-length Inv-loop μ-loop
-same-length c = search needs
+    let after-with-word4 : tie.After-with-word4 Inv-loop μ-loop = search in
+    let after-with-word3 : tie.After-with-word3 Inv-loop μ-loop = search in
+    let after-with-word2 : tie.After-with-word2 Inv-loop μ-loop = search in
+    let after-with-word : tie.After-with-word Inv-loop μ-loop = search in
+    let after-least : tie.After-least Inv-loop μ-loop = search in
+    let at-loop : tie.At-loop Inv-loop μ-loop = search in
+    let start : tie.Start Inv-loop μ-loop = search in
+    bits-next _ _ _ _ _ _ _ _ _ (omega (arith, start .pre)) (after-least .least .ensures) (c .drop-least .ensures) _ _ _ _ _ _ _ _ _
+    (at-loop .loop .inv) (omega (arith, start .pre .0, at-loop .loop .inv .hops-length)) (after-with-word .with-word .ensures)
+    (after-with-word2 .with-word2 .ensures)
+    (after-with-word3 .with-word3 .ensures) (after-with-word4 .with-word4 .ensures)
 
 returns : tie.Need-returns Inv-loop μ-loop
-returns c = bits-end _ _ _ _ _ _ _ (c .before .loop .inv) (c .loop-test .left)
+returns c =
+    let at-loop : tie.At-loop Inv-loop μ-loop = search in
+    bits-end _ _ _ _ _ _ _ (at-loop .loop .inv) (c .loop-test .left)
 
 pub reach-word-spec : {M : Type 1} → statement M
 reach-word-spec =
@@ -85,20 +84,20 @@ reach-word-spec =
     Inv-loop
     μ-loop
     loop-holds
-    mul-v
-    least-requires
+    (λ c. search needs)  -- mul-v
+    (λ c. search needs)  -- least-requires
     add-v
     mul-hops
     slice-write-hops
     with-word-requires
-    add-with-word
+    (λ c. search needs)  -- add-with-word
     with-word-requires-2
-    add-with-word-2
+    (λ c. search needs)  -- add-with-word-2
     with-word-requires-3
-    add-with-word-3
+    (λ c. search needs)  -- add-with-word-3
     with-word-requires-4
-    drop-least-requires
+    (λ c. search needs)  -- drop-least-requires
     loop-less
     loop-again
-    same-length
+    (λ c. search needs)  -- same-length
     returns)

@@ -14,87 +14,99 @@ use Rattle.layers.proofs.search_table.Tie as tie
 
 abbrev Inv-loop : tie.InvT-loop
 Inv-loop hops₀ even₀ odd₀ seen₀ next₀ links words start k₀ hops even odd seen next k =
-    AtLayer words links start (tables hops₀ even₀ odd₀) seen₀ k hops even odd seen × (length hops ≡ length hops₀) × (length even ≡ length even₀) × (length odd ≡ length odd₀) × (length seen ≡ length seen₀) × (length next ≡ length next₀) × (k < 64 * words)
+    AtLayer words links start (tables hops₀ even₀ odd₀) seen₀ k hops even odd seen
+    × (length hops ≡ length hops₀)
+    × (length even ≡ length even₀)
+    × (length odd ≡ length odd₀)
+    × (length seen ≡ length seen₀)
+    × (length next ≡ length next₀)
+    × (k < 64 * words)
 
 abbrev μ-loop : tie.MeasureT-loop
 μ-loop hops₀ even₀ odd₀ seen₀ next₀ links words start k₀ hops even odd seen next k = 64 * words - k
 
-begin-requires : tie.Need-begin-requires Inv-loop μ-loop
-begin-requires c κs = search needs
+-- the way back, from each place to the one before it
+abbrev before-step2 : tie.After-step2 Inv-loop μ-loop → tie.Else1 Inv-loop μ-loop
+before-step2 c = search
+
+abbrev before-else1 : tie.Else1 Inv-loop μ-loop → tie.At-loop Inv-loop μ-loop
+before-else1 c = search
+
+abbrev before-step : tie.After-step Inv-loop μ-loop → tie.Then1 Inv-loop μ-loop
+before-step c = search
+
+abbrev before-then1 : tie.Then1 Inv-loop μ-loop → tie.At-loop Inv-loop μ-loop
+before-then1 c = search
+
+abbrev before-at-loop : tie.At-loop Inv-loop μ-loop → tie.After-begin Inv-loop μ-loop
+before-at-loop c = search
+
+abbrev before-begin : tie.After-begin Inv-loop μ-loop → tie.Start Inv-loop μ-loop
+before-begin c = search
+
+ruleset back = (before-step2, before-else1, before-step, before-then1, before-at-loop, before-begin)
 
 loop-holds : tie.Need-loop-holds Inv-loop μ-loop
-loop-holds c = (at-loop _ _ _ _ _ _ _ _ _ (c .before .before .before .before .before .before .before .before .begin .ensures) (c .before .before .before .before .before .before .before .before .before .before .before .before .before .before .before .before .before .before .before .pre .5), refl, refl, refl, refl, refl, omega arith)
-
-step-requires : tie.Need-step-requires Inv-loop μ-loop
-step-requires c κs = search needs
-
-same-length : tie.Need-same-length Inv-loop μ-loop
-same-length c = search needs
-
-same-length-2 : tie.Need-same-length-2 Inv-loop μ-loop
-same-length-2 c = search needs
-
-same-length-3 : tie.Need-same-length-3 Inv-loop μ-loop
-same-length-3 c = search needs
-
-same-length-4 : tie.Need-same-length-4 Inv-loop μ-loop
-same-length-4 c = search needs
-
-same-length-5 : tie.Need-same-length-5 Inv-loop μ-loop
-same-length-5 c = search needs
+loop-holds c =
+    let after-begin : tie.After-begin Inv-loop μ-loop = search back in
+    let start : tie.Start Inv-loop μ-loop = search back in
+    (at-loop _ _ _ _ _ _ _ _ _ (after-begin .begin .ensures) (start .pre .5), refl, refl, refl, refl, refl, omega arith)
 
 returns : tie.Need-returns Inv-loop μ-loop
 returns c =
-    end-even _ _ _ (c .before .before .before .before .before .before .before .before .before .before .before .before .before .before .before .before .before .before .before .before .before .before .before .before .before .before .before .before .before .before .before .before .before .before .before .before .pre .0 .most) _ _ _ _ _ _ _ (c .before .before .before .before .before .before .before .before .before .before .before .before .before .before .before .before .loop .inv .0) _ _ _ _ (c .before .before .before .before .before .before .before .before .before .step .ensures) (not-true _ (c .if2 .taken)) (c .before .before .before .before .before .before .before .before .before .before .before .before .before .before .before .if1 .taken)
-    ∙ from-loop _ _ _ _ _ _ _ _ _ (c .before .before .before .before .before .before .before .before .before .before .before .before .before .before .before .before .before .before .before .before .before .before .before .before .before .begin .ensures)
+    let after-step : tie.After-step Inv-loop μ-loop = search back in
+    let then1 : tie.Then1 Inv-loop μ-loop = search back in
+    let at-loop : tie.At-loop Inv-loop μ-loop = search back in
+    let after-begin : tie.After-begin Inv-loop μ-loop = search back in
+    let start : tie.Start Inv-loop μ-loop = search back in
+    end-even _ _ _ (start .pre .0 .most) _ _ _ _ _ _ _ (at-loop .loop .inv .0) _ _ _ _ (after-step .step .ensures)
+    (not-true _ (c .if2 .taken)) (then1 .if1 .taken)
+    ∙ from-loop _ _ _ _ _ _ _ _ _ (after-begin .begin .ensures)
 
 add-k : tie.Need-add-k Inv-loop μ-loop
-add-k c = omega (arith, c .before .before .before .before .before .before .before .before .before .before .before .before .before .before .before .before .before .before .before .before .before .before .before .before .before .before .before .before .before .before .before .before .before .before .before .before .pre .0 .most, c .before .before .before .before .before .before .before .before .before .before .before .before .before .before .before .before .loop .inv .6)
-
-loop-less : tie.Need-loop-less Inv-loop μ-loop
-loop-less c = search needs
+add-k c =
+    let at-loop : tie.At-loop Inv-loop μ-loop = search back in
+    let start : tie.Start Inv-loop μ-loop = search back in
+    omega (arith, start .pre .0 .most, at-loop .loop .inv .6)
 
 loop-again : tie.Need-loop-again Inv-loop μ-loop
 loop-again c =
-    let v = c .before .before .before .before .before .before .before .before .before .before .before .before .before .before .before .before .loop .inv in
-    let k = c .before .before .before .before .before .before .before .before .before .step .kept in
-    let J = turn-even _ _ _ (c .before .before .before .before .before .before .before .before .before .before .before .before .before .before .before .before .before .before .before .before .before .before .before .before .before .before .before .before .before .before .before .before .before .before .before .before .pre .0 .most) _ _ _ _ _ _ _ (v .0) _ _ _ _ (c .before .before .before .before .before .before .before .before .before .step .ensures) (not-false _ (c .if2 .left)) (c .before .before .before .before .before .before .before .before .before .before .before .before .before .before .before .if1 .taken) in
+    let after-step : tie.After-step Inv-loop μ-loop = search back in
+    let then1 : tie.Then1 Inv-loop μ-loop = search back in
+    let at-loop : tie.At-loop Inv-loop μ-loop = search back in
+    let start : tie.Start Inv-loop μ-loop = search back in
+    let v = at-loop .loop .inv in
+    let k = after-step .step .kept in
+    let J = turn-even _ _ _ (start .pre .0 .most) _ _ _ _ _ _ _ (v .0) _ _ _ _ (after-step .step .ensures) (not-false _ (c .if2 .left)) (then1 .if1 .taken) in
     (J, k .0 ∙ v .1, v .2, k .1 .0 ∙ v .3, k .1 .1 .0 ∙ v .4, k .1 .1 .1 .0 ∙ v .5, J .few)
-
-step-requires-2 : tie.Need-step-requires-2 Inv-loop μ-loop
-step-requires-2 c κs = search needs
-
-same-length-6 : tie.Need-same-length-6 Inv-loop μ-loop
-same-length-6 c = search needs
-
-same-length-7 : tie.Need-same-length-7 Inv-loop μ-loop
-same-length-7 c = search needs
-
-same-length-8 : tie.Need-same-length-8 Inv-loop μ-loop
-same-length-8 c = search needs
-
-same-length-9 : tie.Need-same-length-9 Inv-loop μ-loop
-same-length-9 c = search needs
-
-same-length-10 : tie.Need-same-length-10 Inv-loop μ-loop
-same-length-10 c = search needs
 
 returns-2 : tie.Need-returns-2 Inv-loop μ-loop
 returns-2 c =
-    end-odd _ _ _ (c .before .before .before .before .before .before .before .before .before .before .before .before .before .before .before .before .before .before .before .before .before .before .before .before .before .before .before .before .before .before .before .before .before .before .before .before .pre .0 .most) _ _ _ _ _ _ _ (c .before .before .before .before .before .before .before .before .before .before .before .before .before .before .before .before .loop .inv .0) _ _ _ _ (c .before .before .before .before .before .before .before .before .before .step2 .ensures) (not-true _ (c .if3 .taken)) (omega arith)
-    ∙ from-loop _ _ _ _ _ _ _ _ _ (c .before .before .before .before .before .before .before .before .before .before .before .before .before .before .before .before .before .before .before .before .before .before .before .before .before .begin .ensures)
+    let after-step2 : tie.After-step2 Inv-loop μ-loop = search back in
+    let else1 : tie.Else1 Inv-loop μ-loop = search back in
+    let at-loop : tie.At-loop Inv-loop μ-loop = search back in
+    let after-begin : tie.After-begin Inv-loop μ-loop = search back in
+    let start : tie.Start Inv-loop μ-loop = search back in
+    end-odd _ _ _ (start .pre .0 .most) _ _ _ _ _ _ _ (at-loop .loop .inv .0) _ _ _ _ (after-step2 .step2 .ensures)
+    (not-true _ (c .if3 .taken)) (omega (arith, else1 .if1 .left))
+    ∙ from-loop _ _ _ _ _ _ _ _ _ (after-begin .begin .ensures)
 
 add-k-2 : tie.Need-add-k-2 Inv-loop μ-loop
-add-k-2 c = omega (arith, c .before .before .before .before .before .before .before .before .before .before .before .before .before .before .before .before .before .before .before .before .before .before .before .before .before .before .before .before .before .before .before .before .before .before .before .before .pre .0 .most, c .before .before .before .before .before .before .before .before .before .before .before .before .before .before .before .before .loop .inv .6)
-
-loop-less-2 : tie.Need-loop-less-2 Inv-loop μ-loop
-loop-less-2 c = search needs
+add-k-2 c =
+    let at-loop : tie.At-loop Inv-loop μ-loop = search back in
+    let start : tie.Start Inv-loop μ-loop = search back in
+    omega (arith, start .pre .0 .most, at-loop .loop .inv .6)
 
 loop-again-2 : tie.Need-loop-again-2 Inv-loop μ-loop
 loop-again-2 c =
-    let v = c .before .before .before .before .before .before .before .before .before .before .before .before .before .before .before .before .loop .inv in
-    let k = c .before .before .before .before .before .before .before .before .before .step2 .kept in
-    let J = turn-odd _ _ _ (c .before .before .before .before .before .before .before .before .before .before .before .before .before .before .before .before .before .before .before .before .before .before .before .before .before .before .before .before .before .before .before .before .before .before .before .before .pre .0 .most) _ _ _ _ _ _ _ (v .0) _ _ _ _ (c .before .before .before .before .before .before .before .before .before .step2 .ensures) (not-false _ (c .if3 .left)) (omega arith) in
+    let after-step2 : tie.After-step2 Inv-loop μ-loop = search back in
+    let else1 : tie.Else1 Inv-loop μ-loop = search back in
+    let at-loop : tie.At-loop Inv-loop μ-loop = search back in
+    let start : tie.Start Inv-loop μ-loop = search back in
+    let v = at-loop .loop .inv in
+    let k = after-step2 .step2 .kept in
+    let J = turn-odd _ _ _ (start .pre .0 .most) _ _ _ _ _ _ _ (v .0) _ _ _ _ (after-step2 .step2 .ensures) (not-false _ (c .if3 .left))
+    (omega (arith, else1 .if1 .left)) in
     (J, k .0 ∙ v .1, k .1 .0 ∙ v .2, v .3, k .1 .1 .0 ∙ v .4, k .1 .1 .1 .0 ∙ v .5, J .few)
 
 pub search-table-spec : {M : Type 1} → statement M
@@ -103,25 +115,25 @@ search-table-spec =
     (tie.spec
     Inv-loop
     μ-loop
-    begin-requires
+    (λ c. search needs)  -- begin-requires
     loop-holds
-    step-requires
-    same-length
-    same-length-2
-    same-length-3
-    same-length-4
-    same-length-5
+    (λ c. search needs)  -- step-requires
+    (λ c. search needs)  -- same-length
+    (λ c. search needs)  -- same-length-2
+    (λ c. search needs)  -- same-length-3
+    (λ c. search needs)  -- same-length-4
+    (λ c. search needs)  -- same-length-5
     returns
     add-k
-    loop-less
+    (λ c. search needs)  -- loop-less
     loop-again
-    step-requires-2
-    same-length-6
-    same-length-7
-    same-length-8
-    same-length-9
-    same-length-10
+    (λ c. search needs)  -- step-requires-2
+    (λ c. search needs)  -- same-length-6
+    (λ c. search needs)  -- same-length-7
+    (λ c. search needs)  -- same-length-8
+    (λ c. search needs)  -- same-length-9
+    (λ c. search needs)  -- same-length-10
     returns-2
     add-k-2
-    loop-less-2
+    (λ c. search needs)  -- loop-less-2
     loop-again-2)

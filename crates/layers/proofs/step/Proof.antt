@@ -5,60 +5,46 @@ use borrow.Author.Needs.{needs}
 use Rattle.layers.proofs.step.Statement.{statement}
 use Rattle.layers.proofs.step.Tie as tie
 
-visit-requires : tie.Need-visit-requires
-visit-requires c κs = search needs
+-- the way back, from each place to the one before it
+abbrev before-pass-on : tie.After-pass-on → tie.Else1
+before-pass-on c = search
 
-keep-unseen-requires : tie.Need-keep-unseen-requires
-keep-unseen-requires c κs = search needs
+abbrev before-else1 : tie.Else1 → tie.After-keep-unseen
+before-else1 c = search
 
-same-length : tie.Need-same-length
-same-length c = search needs
+abbrev before-keep-unseen : tie.After-keep-unseen → tie.After-visit
+before-keep-unseen c = search
 
-same-length-2 : tie.Need-same-length-2
-same-length-2 c = search needs
-
-same-length-3 : tie.Need-same-length-3
-same-length-3 c = search needs
+ruleset back = (before-pass-on, before-else1, before-keep-unseen)
 
 returns : tie.Need-returns
 returns c =
-    let kept = c .before .before .before in
-    step-none _ _ _ _ _ _ _ _ _ _ _ (kept .before .before .before .before .before .before .before .visit .ensures) (kept .keep-unseen .ensures) _ (c .if1 .taken)
-
-pass-on-requires : tie.Need-pass-on-requires
-pass-on-requires c κs = search needs
-
-same-length-4 : tie.Need-same-length-4
-same-length-4 c = search needs
-
-same-length-5 : tie.Need-same-length-5
-same-length-5 c = search needs
-
-same-length-6 : tie.Need-same-length-6
-same-length-6 c = search needs
-
-same-length-7 : tie.Need-same-length-7
-same-length-7 c = search needs
+    let after-keep-unseen : tie.After-keep-unseen = search back in
+    let after-visit : tie.After-visit = search back in
+    step-none _ _ _ _ _ _ _ _ _ _ _ (after-visit .visit .ensures) (after-keep-unseen .keep-unseen .ensures) _ (c .if1 .taken)
 
 returns-2 : tie.Need-returns-2
 returns-2 c =
-    let left = c .before .before .before .before .before .before .before .before in
-    let kept = left .before .before .before in
-    step-more _ _ _ _ _ _ _ _ _ _ _ (kept .before .before .before .before .before .before .before .visit .ensures) (kept .keep-unseen .ensures) _ _ _ (left .if1 .left) (c .before .before .before .before .pass-on .ensures)
+    let after-pass-on : tie.After-pass-on = search back in
+    let else1 : tie.Else1 = search back in
+    let after-keep-unseen : tie.After-keep-unseen = search back in
+    let after-visit : tie.After-visit = search back in
+    step-more _ _ _ _ _ _ _ _ _ _ _ (after-visit .visit .ensures) (after-keep-unseen .keep-unseen .ensures) _ _ _ (else1 .if1 .left)
+    (after-pass-on .pass-on .ensures)
 
 pub step-spec : {M : Type 1} → statement M
 step-spec =
     tie.close
     (tie.spec
-    visit-requires
-    keep-unseen-requires
-    same-length
-    same-length-2
-    same-length-3
+    (λ c. search needs)  -- visit-requires
+    (λ c. search needs)  -- keep-unseen-requires
+    (λ c. search needs)  -- same-length
+    (λ c. search needs)  -- same-length-2
+    (λ c. search needs)  -- same-length-3
     returns
-    pass-on-requires
-    same-length-4
-    same-length-5
-    same-length-6
-    same-length-7
+    (λ c. search needs)  -- pass-on-requires
+    (λ c. search needs)  -- same-length-4
+    (λ c. search needs)  -- same-length-5
+    (λ c. search needs)  -- same-length-6
+    (λ c. search needs)  -- same-length-7
     returns-2)

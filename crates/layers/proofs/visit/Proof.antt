@@ -14,57 +14,61 @@ Inv-loop next₀ hops₀ links layer words k j₀ next hops j = FoursVisited wor
 abbrev μ-loop : tie.MeasureT-loop
 μ-loop next₀ hops₀ links layer words k j₀ next hops j = words - j
 
+-- the way back, from each place to the one before it
+abbrev before-put-word4 : tie.After-put-word4 Inv-loop μ-loop → tie.After-put-word3 Inv-loop μ-loop
+before-put-word4 c = search
+
+abbrev before-put-word3 : tie.After-put-word3 Inv-loop μ-loop → tie.After-put-word2 Inv-loop μ-loop
+before-put-word3 c = search
+
+abbrev before-put-word2 : tie.After-put-word2 Inv-loop μ-loop → tie.After-put-word Inv-loop μ-loop
+before-put-word2 c = search
+
+abbrev before-put-word : tie.After-put-word Inv-loop μ-loop → tie.After-reach-layer Inv-loop μ-loop
+before-put-word c = search
+
+abbrev before-reach-layer : tie.After-reach-layer Inv-loop μ-loop → tie.In-loop Inv-loop μ-loop
+before-reach-layer c = search
+
+abbrev before-in-loop : tie.In-loop Inv-loop μ-loop → tie.At-loop Inv-loop μ-loop
+before-in-loop c = search
+
+abbrev before-at-loop : tie.At-loop Inv-loop μ-loop → tie.Start Inv-loop μ-loop
+before-at-loop c = search
+
+ruleset back = (before-put-word4, before-put-word3, before-put-word2, before-put-word, before-reach-layer, before-in-loop, before-at-loop)
+
 loop-holds : tie.Need-loop-holds Inv-loop μ-loop
-loop-holds c = fours-start _ _ _ _ _ _ (c .before .before .before .before .pre .0 .positive)
-
-reach-layer-requires : tie.Need-reach-layer-requires Inv-loop μ-loop
-reach-layer-requires c κs = search needs
-
-put-word-requires : tie.Need-put-word-requires Inv-loop μ-loop
-put-word-requires c κs = search needs
-
-add-put-word : tie.Need-add-put-word Inv-loop μ-loop
-add-put-word c = search needs
-
-put-word-requires-2 : tie.Need-put-word-requires-2 Inv-loop μ-loop
-put-word-requires-2 c κs = search needs
-
-add-put-word-2 : tie.Need-add-put-word-2 Inv-loop μ-loop
-add-put-word-2 c = search needs
-
-put-word-requires-3 : tie.Need-put-word-requires-3 Inv-loop μ-loop
-put-word-requires-3 c κs = search needs
-
-add-put-word-3 : tie.Need-add-put-word-3 Inv-loop μ-loop
-add-put-word-3 c = search needs
-
-put-word-requires-4 : tie.Need-put-word-requires-4 Inv-loop μ-loop
-put-word-requires-4 c κs = search needs
+loop-holds c =
+    let start : tie.Start Inv-loop μ-loop = search back in
+    fours-start _ _ _ _ _ _ (start .pre .0 .positive)
 
 add-j : tie.Need-add-j Inv-loop μ-loop
-add-j c = omega (arith, c .before .before .before .before .before .before .before .before .before .before .before .before .before .before .before .before .before .before .before .before .before .before .before .before .before .before .pre .0 .most, c .before .before .before .before .before .before .before .before .before .before .before .before .before .before .before .before .before .before .before .before .loop-test .taken)
-
-loop-less : tie.Need-loop-less Inv-loop μ-loop
-loop-less c = search needs
+add-j c =
+    let in-loop : tie.In-loop Inv-loop μ-loop = search back in
+    let start : tie.Start Inv-loop μ-loop = search back in
+    omega (arith, start .pre .0 .most, in-loop .loop-test .taken)
 
 loop-again : tie.Need-loop-again Inv-loop μ-loop
 loop-again c =
-    let fourth = c .before .before in
-    let third = fourth .before .before .before .before in
-    let second = third .before .before .before .before in
-    let first = second .before .before .before .before in
-    let four = first .before .before .before .before in
-    fours-next _ _ _ _ _ _ _ (four .before .before .before .loop .inv) (four .reach-layer .ensures) _ _ _ _ (four .before .before .before .before .before .before .before .before .pre .1) (first .put-word .ensures) (second .put-word2 .ensures) (third .put-word3 .ensures) (fourth .put-word4 .ensures)
-    (fourth .put-word4 .kept .0 ∙ third .put-word3 .kept .0 ∙ second .put-word2 .kept .0 ∙ first .put-word .kept .0) (four .reach-layer .kept .0)
-
-same-length : tie.Need-same-length Inv-loop μ-loop
-same-length c = search needs
-
-same-length-2 : tie.Need-same-length-2 Inv-loop μ-loop
-same-length-2 c = search needs
+    let after-put-word4 : tie.After-put-word4 Inv-loop μ-loop = search back in
+    let after-put-word3 : tie.After-put-word3 Inv-loop μ-loop = search back in
+    let after-put-word2 : tie.After-put-word2 Inv-loop μ-loop = search back in
+    let after-put-word : tie.After-put-word Inv-loop μ-loop = search back in
+    let after-reach-layer : tie.After-reach-layer Inv-loop μ-loop = search back in
+    let at-loop : tie.At-loop Inv-loop μ-loop = search back in
+    let start : tie.Start Inv-loop μ-loop = search back in
+    fours-next _ _ _ _ _ _ _ (at-loop .loop .inv) (after-reach-layer .reach-layer .ensures) _ _ _ _ (start .pre .1)
+    (after-put-word .put-word .ensures) (after-put-word2 .put-word2 .ensures) (after-put-word3 .put-word3 .ensures)
+    (after-put-word4 .put-word4 .ensures)
+    (after-put-word4 .put-word4 .kept .0 ∙ after-put-word3 .put-word3 .kept .0 ∙ after-put-word2 .put-word2 .kept .0
+    ∙ after-put-word .put-word .kept .0) (after-reach-layer .reach-layer .kept .0)
 
 returns : tie.Need-returns Inv-loop μ-loop
-returns c = fours-end _ _ _ _ _ (c .before .loop .inv) (c .before .before .before .before .before .before .pre .0 .positive) (c .loop-test .left)
+returns c =
+    let at-loop : tie.At-loop Inv-loop μ-loop = search back in
+    let start : tie.Start Inv-loop μ-loop = search back in
+    fours-end _ _ _ _ _ (at-loop .loop .inv) (start .pre .0 .positive) (c .loop-test .left)
 
 pub visit-spec : {M : Type 1} → statement M
 visit-spec =
@@ -73,17 +77,17 @@ visit-spec =
     Inv-loop
     μ-loop
     loop-holds
-    reach-layer-requires
-    put-word-requires
-    add-put-word
-    put-word-requires-2
-    add-put-word-2
-    put-word-requires-3
-    add-put-word-3
-    put-word-requires-4
+    (λ c. search needs)  -- reach-layer-requires
+    (λ c. search needs)  -- put-word-requires
+    (λ c. search needs)  -- add-put-word
+    (λ c. search needs)  -- put-word-requires-2
+    (λ c. search needs)  -- add-put-word-2
+    (λ c. search needs)  -- put-word-requires-3
+    (λ c. search needs)  -- add-put-word-3
+    (λ c. search needs)  -- put-word-requires-4
     add-j
-    loop-less
+    (λ c. search needs)  -- loop-less
     loop-again
-    same-length
-    same-length-2
+    (λ c. search needs)  -- same-length
+    (λ c. search needs)  -- same-length-2
     returns)

@@ -10,50 +10,36 @@ use Rattle.lines.proofs.hold_part.Statement.{statement}
 use Rattle.lines.proofs.hold_part.Tie as tie
 
 abbrev Inv-loop : tie.InvT-loop
-Inv-loop line₀ piece from held at₀ count₀ line at count = (partFrom at (holding line count) (drop at piece) ≡ partFrom at₀ (holding line₀ count₀) (drop at₀ piece)) × (length line ≡ length line₀)
+Inv-loop line₀ piece from held at₀ count₀ line at count =
+    (partFrom at (holding line count) (drop at piece) ≡ partFrom at₀ (holding line₀ count₀) (drop at₀ piece)) × (length line ≡ length line₀)
 
 abbrev μ-loop : tie.MeasureT-loop
 μ-loop line₀ piece from held at₀ count₀ line at count = length piece - at
 
--- src/lib.rt:64:5
 loop-holds : tie.Need-loop-holds Inv-loop μ-loop
 loop-holds c = (refl, refl)
 
--- src/lib.rt:65:17
-shared-slice-read-b : tie.Need-shared-slice-read-b Inv-loop μ-loop
-shared-slice-read-b c = search needs
-
--- src/lib.rt:66:9
 hold-requires : tie.Need-hold-requires Inv-loop μ-loop
 hold-requires c κs = omega arith
 
--- src/lib.rt:67:9
-add-at : tie.Need-add-at Inv-loop μ-loop
-add-at c = search needs
-
--- src/lib.rt:69:13
-same-length : tie.Need-same-length Inv-loop μ-loop
-same-length c = search needs
-
--- src/lib.rt:69:13
 returns : tie.Need-returns Inv-loop μ-loop
-returns c = part-here _ _ _ (c .before .before .before .hold .ensures) (c .before .before .before .before .before .before .loop-test .taken) (c .if1 .taken) ∙ c .before .before .before .before .before .before .before .loop .inv .0
+returns c =
+    let after-hold : tie.After-hold Inv-loop μ-loop = search in
+    let in-loop : tie.In-loop Inv-loop μ-loop = search in
+    let at-loop : tie.At-loop Inv-loop μ-loop = search in
+    part-here _ _ _ (after-hold .hold .ensures) (in-loop .loop-test .taken) (c .if1 .taken) ∙ at-loop .loop .inv .0
 
--- src/lib.rt:64:5
-loop-less : tie.Need-loop-less Inv-loop μ-loop
-loop-less c = search needs
-
--- src/lib.rt:64:5
 loop-again : tie.Need-loop-again Inv-loop μ-loop
-loop-again c = (part-on _ _ _ (c .before .before .before .hold .ensures) (c .before .before .before .before .before .before .loop-test .taken) (c .if1 .left) ∙ c .before .before .before .before .before .before .before .loop .inv .0, search needs)
+loop-again c =
+    let after-hold : tie.After-hold Inv-loop μ-loop = search in
+    let in-loop : tie.In-loop Inv-loop μ-loop = search in
+    let at-loop : tie.At-loop Inv-loop μ-loop = search in
+    (part-on _ _ _ (after-hold .hold .ensures) (in-loop .loop-test .taken) (c .if1 .left) ∙ at-loop .loop .inv .0, search needs)
 
--- src/lib.rt:58:1
-same-length-2 : tie.Need-same-length-2 Inv-loop μ-loop
-same-length-2 c = search needs
-
--- src/lib.rt:58:1
 returns-2 : tie.Need-returns-2 Inv-loop μ-loop
-returns-2 c = part-out _ _ _ (c .loop-test .left) ∙ c .before .loop .inv .0
+returns-2 c =
+    let at-loop : tie.At-loop Inv-loop μ-loop = search in
+    part-out _ _ _ (c .loop-test .left) ∙ at-loop .loop .inv .0
 
 pub hold-part-spec : {M : Type 1} → statement M
 hold-part-spec =
@@ -62,12 +48,12 @@ hold-part-spec =
     Inv-loop
     μ-loop
     loop-holds
-    shared-slice-read-b
+    (λ c. search needs)  -- shared-slice-read-b
     hold-requires
-    add-at
-    same-length
+    (λ c. search needs)  -- add-at
+    (λ c. search needs)  -- same-length
     returns
-    loop-less
+    (λ c. search needs)  -- loop-less
     loop-again
-    same-length-2
+    (λ c. search needs)  -- same-length-2
     returns-2)

@@ -4,17 +4,19 @@ use Rattle.lines.proofs.Stops.{stopped-small, stopped-room, stopped-lin
 use Rattle.lines.proofs.is_stopped.Statement.{statement}
 use Rattle.lines.proofs.is_stopped.Tie as tie
 
--- src/lib.rt:208:9
 returns : tie.Need-returns
 returns c = stopped-small _ _ _ (c .if1 .taken)
 
--- src/lib.rt:211:9
 returns-2 : tie.Need-returns-2
 returns-2 c = stopped-room _ _ _ (omega arith)
 
--- src/lib.rt:204:1
 returns-3 : tie.Need-returns-3
 returns-3 c = stopped-lines _ _ _ (omega arith)
 
 pub is-stopped-spec : {M : Type 1} → statement M
-is-stopped-spec = tie.close (tie.spec returns returns-2 returns-3)
+is-stopped-spec =
+    tie.close
+    (tie.spec
+    returns
+    returns-2
+    returns-3)

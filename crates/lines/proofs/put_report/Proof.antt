@@ -7,59 +7,62 @@ use borrow.Author.Needs.{needs}
 use Rattle.lines.proofs.put_report.Statement.{statement}
 use Rattle.lines.proofs.put_report.Tie as tie
 
--- src/lib.rt:149:39
-sub-write-report : tie.Need-sub-write-report
-sub-write-report c = search needs
-
--- src/lib.rt:149:39
-part-write-report-start : tie.Need-part-write-report-start
-part-write-report-start c = search needs
-
--- src/lib.rt:149:39
-part-write-report-end : tie.Need-part-write-report-end
-part-write-report-end c = search needs
-
--- src/lib.rt:149:9
-write-report-requires : tie.Need-write-report-requires
-write-report-requires c κs = search needs
-
--- src/lib.rt:151:23
-enum-known-answer : tie.Need-enum-known-answer
-enum-known-answer c = search needs
-
--- src/lib.rt:151:29
 add-result : tie.Need-add-result
-add-result c = omega (arith, report-fits _ (c .before .before .before .before .before .before .before .before .before .before .args .out .now) (c .before .before .before .before .before .before .before .before .before .before .args .at) (c .before .before .before .before .before .before .before .before .before .before .pre) _ (c .before .before .before .before .before .write-report .ensures) (c .before .answer .given .1) (c .before .before .before .before .before .write-report .kept .0), c .before .before .before .before .before .before .before .before .before .slice-known .given 0)
+add-result c =
+    let after-answer : tie.After-answer = search in
+    let after-write-report : tie.After-write-report = search in
+    let after-slice-known : tie.After-slice-known = search in
+    let start : tie.Start = search in
+    omega (
+      arith,
+      report-fits _ (start .args .out .now) (start .args .at) (start .pre) _ (after-write-report .write-report .ensures)
+          (after-answer .answer .given .1) (after-write-report .write-report .kept .0),
+      after-slice-known .slice-known .given 0,
+    )
 
--- src/lib.rt:152:32
 enum-told : tie.Need-enum-told
 enum-told c = search needs
 
--- src/lib.rt:134:1
 same-length : tie.Need-same-length
 same-length c = search needs
 
--- src/lib.rt:134:1
 returns : tie.Need-returns
-returns c = (report-placed _ _ _ (c .before .before .before .before .before .before .before .before .before .before .pre) _ (c .before .before .before .before .before .write-report .ensures), ap (λ (n : ℕ). c .before .before .before .before .before .before .before .before .before .before .args .at + n) (report-length _ (c .before .before .before .before .before .before .before .before .before .before .args .out .now) _ (c .before .before .before .before .before .before .before .before .before .before .pre) _ (c .before .before .before .before .before .write-report .ensures) (c .before .answer .given .1)), omega (arith, report-fits _ (c .before .before .before .before .before .before .before .before .before .before .args .out .now) (c .before .before .before .before .before .before .before .before .before .before .args .at) (c .before .before .before .before .before .before .before .before .before .before .pre) _ (c .before .before .before .before .before .write-report .ensures) (c .before .answer .given .1) (c .before .before .before .before .before .write-report .kept .0), same-length c))
+returns c =
+    let after-answer : tie.After-answer = search in
+    let after-write-report : tie.After-write-report = search in
+    let start : tie.Start = search in (
+      report-placed _ _ _ (start .pre) _ (after-write-report .write-report .ensures),
+      ap (λ (n : ℕ). start .args .at + n)
+          (report-length _ (start .args .out .now) _ (start .pre) _ (after-write-report .write-report .ensures) (after-answer .answer .given .1)),
+      omega (
+        arith,
+        report-fits _ (start .args .out .now) (start .args .at) (start .pre) _ (after-write-report .write-report .ensures)
+            (after-answer .answer .given .1) (after-write-report .write-report .kept .0),
+        same-length c,
+      ),
+    )
 
--- src/lib.rt:134:1
 same-length-2 : tie.Need-same-length-2
 same-length-2 c = search needs
 
--- src/lib.rt:134:1
 returns-2 : tie.Need-returns-2
-returns-2 c = (report-placed _ _ _ (c .before .before .before .before .before .before .before .before .before .pre) _ (c .before .before .before .before .write-report .ensures), omega (arith, report-taken _ (c .before .before .before .before .before .before .before .before .before .args .out .now) _ (c .before .before .before .before .before .before .before .before .before .pre) _ (c .before .before .before .before .write-report .ensures) (c .enum-told .given .1) .1), omega (arith, c .before .before .before .before .before .before .before .before .before .pre, same-length-2 c))
+returns-2 c =
+    let after-write-report : tie.After-write-report = search in
+    let start : tie.Start = search in (
+      report-placed _ _ _ (start .pre) _ (after-write-report .write-report .ensures),
+      omega (arith, report-taken _ (start .args .out .now) _ (start .pre) _ (after-write-report .write-report .ensures) (c .enum-told .given .1) .1),
+      omega (arith, start .pre, same-length-2 c),
+    )
 
 pub put-report-spec : {M : Type 1} → statement M
 put-report-spec =
     tie.close
     (tie.spec
-    sub-write-report
-    part-write-report-start
-    part-write-report-end
-    write-report-requires
-    enum-known-answer
+    (λ c. search needs)  -- sub-write-report
+    (λ c. search needs)  -- part-write-report-start
+    (λ c. search needs)  -- part-write-report-end
+    (λ c. search needs)  -- write-report-requires
+    (λ c. search needs)  -- enum-known-answer
     add-result
     enum-told
     same-length

@@ -17,28 +17,30 @@ abbrev μ-loop : tie.MeasureT-loop
 loop-holds : tie.Need-loop-holds Inv-loop μ-loop
 loop-holds c = counted-start _ _
 
-mul-loop : tie.Need-mul-loop Inv-loop μ-loop
-mul-loop c = search needs
-
 degree-requires : tie.Need-degree-requires Inv-loop μ-loop
-degree-requires c κs = (row-fits _ _ _ (c .loop-test .taken) (c .before .before .before .pre .1), search needs, search needs)
+degree-requires c κs =
+    let start : tie.Start Inv-loop μ-loop = search in
+    (row-fits _ _ _ (c .loop-test .taken) (start .pre .1), search needs, search needs)
 
 add-sum : tie.Need-add-sum Inv-loop μ-loop
 add-sum c =
-    let next = counted-next (c .before .before .loop .inv) (c .before .before .before .before .pre .0) (c .before .loop-test .taken) (c .degree .ensures) in
+    let in-loop : tie.In-loop Inv-loop μ-loop = search in
+    let at-loop : tie.At-loop Inv-loop μ-loop = search in
+    let start : tie.Start Inv-loop μ-loop = search in
+    let next = counted-next (at-loop .loop .inv) (start .pre .0) (in-loop .loop-test .taken) (c .degree .ensures) in
     omega (arith, next .few)
 
-add-u : tie.Need-add-u Inv-loop μ-loop
-add-u c = search needs
-
-loop-less : tie.Need-loop-less Inv-loop μ-loop
-loop-less c = search needs
-
 loop-again : tie.Need-loop-again Inv-loop μ-loop
-loop-again c = counted-next (c .before .before .loop .inv) (c .before .before .before .before .pre .0) (c .before .loop-test .taken) (c .degree .ensures)
+loop-again c =
+    let in-loop : tie.In-loop Inv-loop μ-loop = search in
+    let at-loop : tie.At-loop Inv-loop μ-loop = search in
+    let start : tie.Start Inv-loop μ-loop = search in
+    counted-next (at-loop .loop .inv) (start .pre .0) (in-loop .loop-test .taken) (c .degree .ensures)
 
 returns : tie.Need-returns Inv-loop μ-loop
-returns c = counted-whole (c .before .loop .inv) (c .loop-test .left)
+returns c =
+    let at-loop : tie.At-loop Inv-loop μ-loop = search in
+    counted-whole (at-loop .loop .inv) (c .loop-test .left)
 
 pub count-pairs-spec : {M : Type 1} → statement M
 count-pairs-spec =
@@ -47,10 +49,10 @@ count-pairs-spec =
     Inv-loop
     μ-loop
     loop-holds
-    mul-loop
+    (λ c. search needs)  -- mul-loop
     degree-requires
     add-sum
-    add-u
-    loop-less
+    (λ c. search needs)  -- add-u
+    (λ c. search needs)  -- loop-less
     loop-again
     returns)

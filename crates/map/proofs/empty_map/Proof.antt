@@ -12,20 +12,11 @@ returns c = short-links _ _ _ (c .if1 .taken)
 returns-2 : tie.Need-returns-2
 returns-2 c = short-pairs _ _ _ (c .if2 .taken)
 
-clear-requires : tie.Need-clear-requires
-clear-requires c κs = search needs
-
-clear-requires-2 : tie.Need-clear-requires-2
-clear-requires-2 c κs = search needs
-
-same-length : tie.Need-same-length
-same-length c = search needs
-
-same-length-2 : tie.Need-same-length-2
-same-length-2 c = search needs
-
 returns-3 : tie.Need-returns-3
-returns-3 c = both-cleared _ _ _ (omega arith) (omega arith) (c .before .before .before .before .before .before .clear .ensures) (c .before .before .clear2 .ensures)
+returns-3 c =
+    let after-clear2 : tie.After-clear2 = search in
+    let after-clear : tie.After-clear = search in
+    both-cleared _ _ _ (omega arith) (omega arith) (after-clear .clear .ensures) (after-clear2 .clear2 .ensures)
 
 pub empty-map-spec : {M : Type 1} → statement M
 empty-map-spec =
@@ -33,8 +24,8 @@ empty-map-spec =
     (tie.spec
     returns
     returns-2
-    clear-requires
-    clear-requires-2
-    same-length
-    same-length-2
+    (λ c. search needs)  -- clear-requires
+    (λ c. search needs)  -- clear-requires-2
+    (λ c. search needs)  -- same-length
+    (λ c. search needs)  -- same-length-2
     returns-3)

@@ -7,7 +7,8 @@ use borrow.Author.Needs.{needs}
 use Rattle.rows.proofs.Places.{place-lt}
 use Rattle.map.specs.Memory.{networkOf}
 use Rattle.map.specs.Sound.{soundPair}
-use Rattle.map.proofs.Scans.{BitsDone, WordsDone, RowsDone, bits-start, bits-next, words-start, words-next, rows-start, rows-next, scan-whole, scan-fault}
+use Rattle.map.proofs.Scans.{BitsDone, WordsDone, RowsDone, bits-start, bits-next, words-start, words-next, rows-start, rows-next}
+use Rattle.map.proofs.Scans.{scan-whole, scan-fault}
 use Rattle.map.proofs.Checks.{figures-miscounted, figures-too-long, figures-scanned}
 use Rattle.map.proofs.figures_are_sound.Statement.{statement}
 use Rattle.map.proofs.figures_are_sound.Tie as tie
@@ -30,15 +31,47 @@ Inv-rows pairs codes words chain count paired₀ low₀ paired low = RowsDone wo
 abbrev μ-rows : tie.MeasureT-rows
 μ-rows pairs codes words chain count paired₀ low₀ paired low = 64 * words - low
 
-count-pairs-requires :
-    tie.Need-count-pairs-requires Inv-loop2 μ-loop2 Inv-loop μ-loop Inv-rows μ-rows
-count-pairs-requires c κs = search needs
+-- the places, at this invariant and measure
+abbrev Start : Type 0
+Start = tie.Start Inv-loop2 μ-loop2 Inv-loop μ-loop Inv-rows μ-rows
+
+abbrev After-count-pairs : Type 0
+After-count-pairs = tie.After-count-pairs Inv-loop2 μ-loop2 Inv-loop μ-loop Inv-rows μ-rows
+
+abbrev Else1 : Type 0
+Else1 = tie.Else1 Inv-loop2 μ-loop2 Inv-loop μ-loop Inv-rows μ-rows
+
+abbrev Else2 : Type 0
+Else2 = tie.Else2 Inv-loop2 μ-loop2 Inv-loop μ-loop Inv-rows μ-rows
+
+abbrev At-rows : Type 0
+At-rows = tie.At-rows Inv-loop2 μ-loop2 Inv-loop μ-loop Inv-rows μ-rows
+
+abbrev In-rows : Type 0
+In-rows = tie.In-rows Inv-loop2 μ-loop2 Inv-loop μ-loop Inv-rows μ-rows
+
+abbrev At-loop : Type 0
+At-loop = tie.At-loop Inv-loop2 μ-loop2 Inv-loop μ-loop Inv-rows μ-rows
+
+abbrev In-loop : Type 0
+In-loop = tie.In-loop Inv-loop2 μ-loop2 Inv-loop μ-loop Inv-rows μ-rows
+
+abbrev At-loop2 : Type 0
+At-loop2 = tie.At-loop2 Inv-loop2 μ-loop2 Inv-loop μ-loop Inv-rows μ-rows
+
+abbrev After-least : Type 0
+After-least = tie.After-least Inv-loop2 μ-loop2 Inv-loop μ-loop Inv-rows μ-rows
+
+abbrev After-pair-is-sound : Type 0
+After-pair-is-sound = tie.After-pair-is-sound Inv-loop2 μ-loop2 Inv-loop μ-loop Inv-rows μ-rows
+
+abbrev Else3 : Type 0
+Else3 = tie.Else3 Inv-loop2 μ-loop2 Inv-loop μ-loop Inv-rows μ-rows
 
 returns : tie.Need-returns Inv-loop2 μ-loop2 Inv-loop μ-loop Inv-rows μ-rows
-returns c = figures-miscounted _ _ _ _ _ _ (c .before .count-pairs .ensures) (c .if1 .taken)
-
-mul-if2 : tie.Need-mul-if2 Inv-loop2 μ-loop2 Inv-loop μ-loop Inv-rows μ-rows
-mul-if2 c = search needs
+returns c =
+    let after-count-pairs : After-count-pairs = search in
+    figures-miscounted _ _ _ _ _ _ (after-count-pairs .count-pairs .ensures) (c .if1 .taken)
 
 returns-2 : tie.Need-returns-2 Inv-loop2 μ-loop2 Inv-loop μ-loop Inv-rows μ-rows
 returns-2 c = figures-too-long _ _ _ _ _ _ (c .if2 .taken)
@@ -46,33 +79,37 @@ returns-2 c = figures-too-long _ _ _ _ _ _ (c .if2 .taken)
 rows-holds : tie.Need-rows-holds Inv-loop2 μ-loop2 Inv-loop μ-loop Inv-rows μ-rows
 rows-holds c = rows-start
 
-mul-rows : tie.Need-mul-rows Inv-loop2 μ-loop2 Inv-loop μ-loop Inv-rows μ-rows
-mul-rows c = search needs
-
 loop-holds : tie.Need-loop-holds Inv-loop2 μ-loop2 Inv-loop μ-loop Inv-rows μ-rows
-loop-holds c = words-start (c .before .rows .inv .fine)
+loop-holds c =
+    let at-rows : At-rows = search in
+    words-start (at-rows .rows .inv .fine)
 
 mul-x : tie.Need-mul-x Inv-loop2 μ-loop2 Inv-loop μ-loop Inv-rows μ-rows
-mul-x c = omega (arith, place-lt _ _ _ (c .before .before .rows-test .taken) (c .loop-test .taken))
+mul-x c =
+    let in-rows : In-rows = search in
+    omega (arith, place-lt _ _ _ (in-rows .rows-test .taken) (c .loop-test .taken))
 
 add-x : tie.Need-add-x Inv-loop2 μ-loop2 Inv-loop μ-loop Inv-rows μ-rows
-add-x c = omega (arith, place-lt _ _ _ (c .before .before .rows-test .taken) (c .loop-test .taken))
+add-x c =
+    let in-rows : In-rows = search in
+    omega (arith, place-lt _ _ _ (in-rows .rows-test .taken) (c .loop-test .taken))
 
 mul-x-2 : tie.Need-mul-x-2 Inv-loop2 μ-loop2 Inv-loop μ-loop Inv-rows μ-rows
-mul-x-2 c = omega (arith, place-lt _ _ _ (c .before .before .rows-test .taken) (c .loop-test .taken))
+mul-x-2 c =
+    let in-rows : In-rows = search in
+    omega (arith, place-lt _ _ _ (in-rows .rows-test .taken) (c .loop-test .taken))
 
 shared-slice-read-x :
     tie.Need-shared-slice-read-x Inv-loop2 μ-loop2 Inv-loop μ-loop Inv-rows μ-rows
-shared-slice-read-x c = omega (arith, place-lt _ _ _ (c .before .before .before .rows-test .taken) (c .before .loop-test .taken))
+shared-slice-read-x c =
+    let in-loop : In-loop = search in
+    let in-rows : In-rows = search in
+    omega (arith, place-lt _ _ _ (in-rows .rows-test .taken) (in-loop .loop-test .taken))
 
 loop2-holds : tie.Need-loop2-holds Inv-loop2 μ-loop2 Inv-loop μ-loop Inv-rows μ-rows
-loop2-holds c = bits-start (c .before .before .loop .inv .fine)
-
-mul-high : tie.Need-mul-high Inv-loop2 μ-loop2 Inv-loop μ-loop Inv-rows μ-rows
-mul-high c = search needs
-
-least-requires : tie.Need-least-requires Inv-loop2 μ-loop2 Inv-loop μ-loop Inv-rows μ-rows
-least-requires c κs = search needs
+loop2-holds c =
+    let at-loop : At-loop = search in
+    bits-start (at-loop .loop .inv .fine)
 
 add-high : tie.Need-add-high Inv-loop2 μ-loop2 Inv-loop μ-loop Inv-rows μ-rows
 add-high c = omega (arith, c .least .ensures .below)
@@ -80,59 +117,59 @@ add-high c = omega (arith, c .least .ensures .below)
 pair-is-sound-requires :
     tie.Need-pair-is-sound-requires Inv-loop2 μ-loop2 Inv-loop μ-loop Inv-rows μ-rows
 pair-is-sound-requires c κs =
-    let row = c .before .before .before .before .before .before in
-    let start = row .before .before .before .before .before .before .before in
-    (start .pre .row, row .rows-test .taken, omega (arith, c .least .ensures .below))
-
-drop-least-requires :
-    tie.Need-drop-least-requires Inv-loop2 μ-loop2 Inv-loop μ-loop Inv-rows μ-rows
-drop-least-requires c κs = search needs
+    let in-rows : In-rows = search in
+    let start : Start = search in
+    (start .pre .row, in-rows .rows-test .taken, omega (arith, c .least .ensures .below))
 
 loop2-less : tie.Need-loop2-less Inv-loop2 μ-loop2 Inv-loop μ-loop Inv-rows μ-rows
 loop2-less c = c .drop-least .ensures .less
 
 loop2-again : tie.Need-loop2-again Inv-loop2 μ-loop2 Inv-loop μ-loop Inv-rows μ-rows
 loop2-again c =
-    let found = c .before .before in
-    let bits = found .before .before .before in
-    bits-next (bits .loop2 .inv) (found .before .least .ensures) (c .drop-least .ensures) (found .pair-is-sound .ensures) (c .before .if3 .left)
-
-add-w : tie.Need-add-w Inv-loop2 μ-loop2 Inv-loop μ-loop Inv-rows μ-rows
-add-w c = search needs
-
-loop-less : tie.Need-loop-less Inv-loop2 μ-loop2 Inv-loop μ-loop Inv-rows μ-rows
-loop-less c = search needs
+    let else3 : Else3 = search in
+    let after-pair-is-sound : After-pair-is-sound = search in
+    let after-least : After-least = search in
+    let at-loop2 : At-loop2 = search in
+    bits-next (at-loop2 .loop2 .inv) (after-least .least .ensures) (c .drop-least .ensures)
+    (after-pair-is-sound .pair-is-sound .ensures) (else3 .if3 .left)
 
 loop-again : tie.Need-loop-again Inv-loop2 μ-loop2 Inv-loop μ-loop Inv-rows μ-rows
 loop-again c =
-    let word = c .before .before .before in
-    words-next (word .before .loop .inv) (c .before .loop2 .inv) (c .loop2-test .left) (word .before .before .rows-test .taken) (word .loop-test .taken)
-
-add-low : tie.Need-add-low Inv-loop2 μ-loop2 Inv-loop μ-loop Inv-rows μ-rows
-add-low c = search needs
-
-rows-less : tie.Need-rows-less Inv-loop2 μ-loop2 Inv-loop μ-loop Inv-rows μ-rows
-rows-less c = search needs
+    let at-loop2 : At-loop2 = search in
+    let in-loop : In-loop = search in
+    let at-loop : At-loop = search in
+    let in-rows : In-rows = search in
+    words-next (at-loop .loop .inv) (at-loop2 .loop2 .inv) (c .loop2-test .left) (in-rows .rows-test .taken) (in-loop .loop-test .taken)
 
 rows-again : tie.Need-rows-again Inv-loop2 μ-loop2 Inv-loop μ-loop Inv-rows μ-rows
 rows-again c =
-    let row = c .before .before in
-    rows-next (row .before .rows .inv) (c .before .loop .inv) (c .loop-test .left) (row .rows-test .taken)
+    let at-loop : At-loop = search in
+    let in-rows : In-rows = search in
+    let at-rows : At-rows = search in
+    rows-next (at-rows .rows .inv) (at-loop .loop .inv) (c .loop-test .left) (in-rows .rows-test .taken)
 
 returns-3 : tie.Need-returns-3 Inv-loop2 μ-loop2 Inv-loop μ-loop Inv-rows μ-rows
 returns-3 c =
-    let tests = c .before .before in
-    figures-scanned _ _ _ _ _ _ (tests .before .before .count-pairs .ensures) (tests .before .if1 .left) (tests .if2 .left) (scan-whole (c .before .rows .inv) (c .rows-test .left))
+    let at-rows : At-rows = search in
+    let else2 : Else2 = search in
+    let else1 : Else1 = search in
+    let after-count-pairs : After-count-pairs = search in
+    figures-scanned _ _ _ _ _ _ (after-count-pairs .count-pairs .ensures) (else1 .if1 .left) (else2 .if2 .left)
+    (scan-whole (at-rows .rows .inv) (c .rows-test .left))
 
 returns-4 : tie.Need-returns-4 Inv-loop2 μ-loop2 Inv-loop μ-loop Inv-rows μ-rows
 returns-4 c =
-    let found = c .before in
-    let bits = found .before .before .before in
-    let word = bits .before .before in
-    let row = word .before .before in
-    let tests = row .before .before in
-    figures-scanned _ _ _ _ _ _ (tests .before .before .count-pairs .ensures) (tests .before .if1 .left) (tests .if2 .left)
-    (scan-fault _ _ (bits .loop2 .inv) (found .before .least .ensures) (found .pair-is-sound .ensures) (c .if3 .taken) (row .rows-test .taken) (word .loop-test .taken))
+    let after-pair-is-sound : After-pair-is-sound = search in
+    let after-least : After-least = search in
+    let at-loop2 : At-loop2 = search in
+    let in-loop : In-loop = search in
+    let in-rows : In-rows = search in
+    let else2 : Else2 = search in
+    let else1 : Else1 = search in
+    let after-count-pairs : After-count-pairs = search in
+    figures-scanned _ _ _ _ _ _ (after-count-pairs .count-pairs .ensures) (else1 .if1 .left) (else2 .if2 .left)
+    (scan-fault _ _ (at-loop2 .loop2 .inv) (after-least .least .ensures) (after-pair-is-sound .pair-is-sound .ensures) (c .if3 .taken)
+    (in-rows .rows-test .taken) (in-loop .loop-test .taken))
 
 pub figures-are-sound-spec : {M : Type 1} → statement M
 figures-are-sound-spec =
@@ -144,30 +181,30 @@ figures-are-sound-spec =
     μ-loop
     Inv-rows
     μ-rows
-    count-pairs-requires
+    (λ c. search needs)  -- count-pairs-requires
     returns
-    mul-if2
+    (λ c. search needs)  -- mul-if2
     returns-2
     rows-holds
-    mul-rows
+    (λ c. search needs)  -- mul-rows
     loop-holds
     mul-x
     add-x
     mul-x-2
     shared-slice-read-x
     loop2-holds
-    mul-high
-    least-requires
+    (λ c. search needs)  -- mul-high
+    (λ c. search needs)  -- least-requires
     add-high
     pair-is-sound-requires
-    drop-least-requires
+    (λ c. search needs)  -- drop-least-requires
     loop2-less
     loop2-again
-    add-w
-    loop-less
+    (λ c. search needs)  -- add-w
+    (λ c. search needs)  -- loop-less
     loop-again
-    add-low
-    rows-less
+    (λ c. search needs)  -- add-low
+    (λ c. search needs)  -- rows-less
     rows-again
     returns-3
     returns-4)

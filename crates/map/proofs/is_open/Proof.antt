@@ -6,11 +6,12 @@ use Rattle.rows.proofs.Written.{table-zero}
 use Rattle.map.proofs.is_open.Statement.{statement}
 use Rattle.map.proofs.is_open.Tie as tie
 
-row-test-requires : tie.Need-row-test-requires
-row-test-requires c κs = search needs
-
 returns : tie.Need-returns
 returns c = c .row-test .ensures ∙ table-zero _ _ _
 
 pub is-open-spec : {M : Type 1} → statement M
-is-open-spec = tie.close (tie.spec row-test-requires returns)
+is-open-spec =
+    tie.close
+    (tie.spec
+    (λ c. search needs)  -- row-test-requires
+    returns)

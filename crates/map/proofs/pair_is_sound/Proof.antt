@@ -13,23 +13,28 @@ returns : tie.Need-returns
 unfolding soundPair networkOf
 returns c = rw (le-ltb _ _ (c .if1 .taken))
 
-is-open-requires : tie.Need-is-open-requires
-is-open-requires c κs = search needs
-
 returns-2 : tie.Need-returns-2
 unfolding soundPair networkOf
-returns-2 c = rw (lt-ltb _ _ (c .before .before .if1 .left), test-failed (c .before .is-open .ensures) (c .if2 .taken))
-
-is-open-requires-2 : tie.Need-is-open-requires-2
-is-open-requires-2 c κs = search needs
+returns-2 c =
+    let after-is-open : tie.After-is-open = search in
+    let else1 : tie.Else1 = search in
+    rw (lt-ltb _ _ (else1 .if1 .left), test-failed (after-is-open .is-open .ensures) (c .if2 .taken))
 
 returns-3 : tie.Need-returns-3
 unfolding soundPair networkOf
 returns-3 c =
-    let q = c .before in
-    let low = test-passed (q .before .is-open .ensures) (q .if2 .left) in
-    c .is-open2 .ensures ∙ rw (lt-ltb _ _ (q .before .before .if1 .left), low)
+    let else2 : tie.Else2 = search in
+    let after-is-open : tie.After-is-open = search in
+    let else1 : tie.Else1 = search in
+    let low = test-passed (after-is-open .is-open .ensures) (else2 .if2 .left) in
+    c .is-open2 .ensures ∙ rw (lt-ltb _ _ (else1 .if1 .left), low)
 
 pub pair-is-sound-spec : {M : Type 1} → statement M
 pair-is-sound-spec =
-    tie.close (tie.spec returns is-open-requires returns-2 is-open-requires-2 returns-3)
+    tie.close
+    (tie.spec
+    returns
+    (λ c. search needs)  -- is-open-requires
+    returns-2
+    (λ c. search needs)  -- is-open-requires-2
+    returns-3)

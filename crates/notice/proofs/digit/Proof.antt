@@ -6,12 +6,6 @@ use borrow.Author.Needs.{needs}
 use Rattle.notice.proofs.digit.Statement.{statement}
 use Rattle.notice.proofs.digit.Tie as tie
 
-add-result : tie.Need-add-result
-add-result c = search needs
-
-add-result-2 : tie.Need-add-result-2
-add-result-2 c = search needs
-
 returns : tie.Need-returns
 returns c = sym (digit-numeral _ (c .if1 .taken))
 
@@ -19,4 +13,10 @@ returns-2 : tie.Need-returns-2
 returns-2 c = sym (digit-letter _ (c .if1 .left))
 
 pub digit-spec : {M : Type 1} → statement M
-digit-spec = tie.close (tie.spec add-result add-result-2 returns returns-2)
+digit-spec =
+    tie.close
+    (tie.spec
+    (λ c. search needs)  -- add-result
+    (λ c. search needs)  -- add-result-2
+    returns
+    returns-2)

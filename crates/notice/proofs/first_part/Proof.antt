@@ -14,8 +14,10 @@ returns c = sym (take-all 517 _ (omega arith))
 slice-aggregate-result : tie.Need-slice-aggregate-result
 slice-aggregate-result c = simp length-take (omega arith)
 
-returns-2 : tie.Need-returns-2
-returns-2 c = search needs
-
 pub first-part-spec : {M : Type 1} → statement M
-first-part-spec = tie.close (tie.spec returns slice-aggregate-result returns-2)
+first-part-spec =
+    tie.close
+    (tie.spec
+    returns
+    slice-aggregate-result
+    (λ c. search needs))  -- returns-2

@@ -19,23 +19,22 @@ abbrev μ-loop : tie.MeasureT-loop
 loop-holds : tie.Need-loop-holds Inv-loop μ-loop
 loop-holds c = (search needs, sym (zero-add _))
 
-shared-slice-read-if1 : tie.Need-shared-slice-read-if1 Inv-loop μ-loop
-shared-slice-read-if1 c = search needs
-
 returns : tie.Need-returns Inv-loop μ-loop
-returns c = end-here _ _ (c .before .before .loop-test .taken) (c .if1 .taken) ∙ sym (c .before .before .before .loop .inv .1)
-
-add-i : tie.Need-add-i Inv-loop μ-loop
-add-i c = search needs
-
-loop-less : tie.Need-loop-less Inv-loop μ-loop
-loop-less c = search needs
+returns c =
+    let in-loop : tie.In-loop Inv-loop μ-loop = search in
+    let at-loop : tie.At-loop Inv-loop μ-loop = search in
+    end-here _ _ (in-loop .loop-test .taken) (c .if1 .taken) ∙ sym (at-loop .loop .inv .1)
 
 loop-again : tie.Need-loop-again Inv-loop μ-loop
-loop-again c = (search needs, c .before .before .before .loop .inv .1 ∙ end-more _ _ (c .before .before .loop-test .taken) (c .if1 .left))
+loop-again c =
+    let in-loop : tie.In-loop Inv-loop μ-loop = search in
+    let at-loop : tie.At-loop Inv-loop μ-loop = search in
+    (search needs, at-loop .loop .inv .1 ∙ end-more _ _ (in-loop .loop-test .taken) (c .if1 .left))
 
 returns-2 : tie.Need-returns-2 Inv-loop μ-loop
-returns-2 c = end-out _ _ (c .loop-test .left) ∙ sym (c .before .loop .inv .1)
+returns-2 c =
+    let at-loop : tie.At-loop Inv-loop μ-loop = search in
+    end-out _ _ (c .loop-test .left) ∙ sym (at-loop .loop .inv .1)
 
 pub line-end-spec : {M : Type 1} → statement M
 line-end-spec =
@@ -44,9 +43,9 @@ line-end-spec =
     Inv-loop
     μ-loop
     loop-holds
-    shared-slice-read-if1
+    (λ c. search needs)  -- shared-slice-read-if1
     returns
-    add-i
-    loop-less
+    (λ c. search needs)  -- add-i
+    (λ c. search needs)  -- loop-less
     loop-again
     returns-2)

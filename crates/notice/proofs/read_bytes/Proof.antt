@@ -19,25 +19,22 @@ loop-holds : tie.Need-loop-holds Inv-loop μ-loop
 loop-holds c = (search needs, copied-none _ _)
 
 byte-at-requires : tie.Need-byte-at-requires Inv-loop μ-loop
-byte-at-requires c κs = (c .before .before .before .before .pre .0, omega arith)
-
-slice-write-frame : tie.Need-slice-write-frame Inv-loop μ-loop
-slice-write-frame c = search needs
-
-add-i : tie.Need-add-i Inv-loop μ-loop
-add-i c = search needs
-
-loop-less : tie.Need-loop-less Inv-loop μ-loop
-loop-less c = search needs
+byte-at-requires c κs =
+    let start : tie.Start Inv-loop μ-loop = search in
+    (start .pre .0, omega arith)
 
 loop-again : tie.Need-loop-again Inv-loop μ-loop
-loop-again c = (search needs, bytes-more _ _ (c .before .before .loop .inv .1) (c .byte-at .ensures) (c .before .loop-test .taken) (c .before .before .before .before .before .pre .1))
-
-same-length : tie.Need-same-length Inv-loop μ-loop
-same-length c = search needs
+loop-again c =
+    let in-loop : tie.In-loop Inv-loop μ-loop = search in
+    let at-loop : tie.At-loop Inv-loop μ-loop = search in
+    let start : tie.Start Inv-loop μ-loop = search in
+    (search needs, bytes-more _ _ (at-loop .loop .inv .1) (c .byte-at .ensures) (in-loop .loop-test .taken) (start .pre .1))
 
 returns : tie.Need-returns Inv-loop μ-loop
-returns c = copied-all (c .before .loop .inv .1) (omega (arith, length-bytes (c .before .before .before .before .args .digits .now)))
+returns c =
+    let at-loop : tie.At-loop Inv-loop μ-loop = search in
+    let start : tie.Start Inv-loop μ-loop = search in
+    copied-all (at-loop .loop .inv .1) (omega (arith, length-bytes (start .args .digits .now)))
 
 pub read-bytes-spec : {M : Type 1} → statement M
 read-bytes-spec =
@@ -47,9 +44,9 @@ read-bytes-spec =
     μ-loop
     loop-holds
     byte-at-requires
-    slice-write-frame
-    add-i
-    loop-less
+    (λ c. search needs)  -- slice-write-frame
+    (λ c. search needs)  -- add-i
+    (λ c. search needs)  -- loop-less
     loop-again
-    same-length
+    (λ c. search needs)  -- same-length
     returns)

@@ -14,51 +14,77 @@ returns : tie.Need-returns
 unfolding readingOf
 returns c = read-short _ _ (omega arith)
 
-first-part-requires : tie.Need-first-part-requires
-first-part-requires c κs = search needs
-
-line-end-requires : tie.Need-line-end-requires
-line-end-requires c κs = search needs
-
 returns-2 : tie.Need-returns-2
 unfolding readingOf
-returns-2 c = read-endless _ (c .before .before .first-part .ensures) (c .before .line-end .ensures) _ (c .if2 .taken) (c .before .before .before .if1 .left)
+returns-2 c =
+    let after-line-end : tie.After-line-end = search in
+    let after-first-part : tie.After-first-part = search in
+    let else1 : tie.Else1 = search in
+    read-endless _ (after-first-part .first-part .ensures) (after-line-end .line-end .ensures) _ (c .if2 .taken) (else1 .if1 .left)
 
 slice-aggregate-digits : tie.Need-slice-aggregate-digits
-slice-aggregate-digits c = digits-length (c .before .before .before .before .before .before .before .args .input .now) (c .before .before .before .first-part .ensures) (c .before .before .line-end .ensures)
-
-spells-frame-requires : tie.Need-spells-frame-requires
-spells-frame-requires c κs = search needs
+slice-aggregate-digits c =
+    let after-line-end : tie.After-line-end = search in
+    let after-first-part : tie.After-first-part = search in
+    let start : tie.Start = search in
+    digits-length (start .args .input .now) (after-first-part .first-part .ensures) (after-line-end .line-end .ensures)
 
 returns-3 : tie.Need-returns-3
 unfolding readingOf
-returns-3 c = read-other _ (c .before .before .before .before .before .first-part .ensures) (c .before .before .before .before .line-end .ensures) _ (sym (c .before .spells-frame .ensures) ∙ not-true _ (c .if3 .taken)) (c .before .before .before .before .before .before .if1 .left)
+returns-3 c =
+    let after-spells-frame : tie.After-spells-frame = search in
+    let after-line-end : tie.After-line-end = search in
+    let after-first-part : tie.After-first-part = search in
+    let else1 : tie.Else1 = search in
+    read-other _ (after-first-part .first-part .ensures) (after-line-end .line-end .ensures) _
+    (sym (after-spells-frame .spells-frame .ensures) ∙ not-true _ (c .if3 .taken)) (else1 .if1 .left)
 
 read-bytes-requires : tie.Need-read-bytes-requires
-read-bytes-requires c κs = (spells-parts _ (sym (c .before .before .spells-frame .ensures) ∙ not-false _ (c .before .if3 .left)) .digits, digits-fit (c .before .before .before .before .before .before .before .before .before .before .args .input .now) (c .before .before .before .before .before .before .first-part .ensures) (c .before .before .before .before .before .line-end .ensures) (c .before .before .before .before .before .before .before .before .before .before .args .frame .now) (c .before .before .before .before .if2 .left) (c .before .before .before .before .before .before .before .if1 .left))
+read-bytes-requires c κs =
+    let else3 : tie.Else3 = search in
+    let after-spells-frame : tie.After-spells-frame = search in
+    let else2 : tie.Else2 = search in
+    let after-line-end : tie.After-line-end = search in
+    let after-first-part : tie.After-first-part = search in
+    let else1 : tie.Else1 = search in
+    let start : tie.Start = search in (
+      spells-parts _ (sym (after-spells-frame .spells-frame .ensures) ∙ not-false _ (else3 .if3 .left)) .digits,
+      digits-fit (start .args .input .now) (after-first-part .first-part .ensures) (after-line-end .line-end .ensures)
+          (start .args .frame .now) (else2 .if2 .left) (else1 .if1 .left),
+    )
 
 add-t13 : tie.Need-add-t13
-add-t13 c = omega (arith, end-most (c .before .before .before .before .before .before .before .before .before .before .before .before .before .args .input .now) (c .before .before .before .before .before .before .before .before .before .first-part .ensures) (c .before .before .before .before .before .before .before .before .line-end .ensures))
-
-same-length : tie.Need-same-length
-same-length c = search needs
+add-t13 c =
+    let after-line-end : tie.After-line-end = search in
+    let after-first-part : tie.After-first-part = search in
+    let start : tie.Start = search in
+    omega (arith, end-most (start .args .input .now) (after-first-part .first-part .ensures) (after-line-end .line-end .ensures))
 
 returns-4 : tie.Need-returns-4
 unfolding readingOf
-returns-4 c = read-done _ (c .before .before .before .before .before .before .before .before .before .first-part .ensures) (c .before .before .before .before .before .before .before .before .line-end .ensures) _ (c .before .before .read-bytes .ensures) (c .before .before .before .before .before .before .before .if2 .left) (sym (c .before .before .before .before .before .spells-frame .ensures) ∙ not-false _ (c .before .before .before .before .if3 .left)) (c .before .before .before .before .before .before .before .before .before .before .if1 .left)
+returns-4 c =
+    let after-read-bytes : tie.After-read-bytes = search in
+    let else3 : tie.Else3 = search in
+    let after-spells-frame : tie.After-spells-frame = search in
+    let else2 : tie.Else2 = search in
+    let after-line-end : tie.After-line-end = search in
+    let after-first-part : tie.After-first-part = search in
+    let else1 : tie.Else1 = search in
+    read-done _ (after-first-part .first-part .ensures) (after-line-end .line-end .ensures) _ (after-read-bytes .read-bytes .ensures)
+    (else2 .if2 .left) (sym (after-spells-frame .spells-frame .ensures) ∙ not-false _ (else3 .if3 .left)) (else1 .if1 .left)
 
 pub read-notice-spec : {M : Type 1} → statement M
 read-notice-spec =
     tie.close
     (tie.spec
     returns
-    first-part-requires
-    line-end-requires
+    (λ c. search needs)  -- first-part-requires
+    (λ c. search needs)  -- line-end-requires
     returns-2
     slice-aggregate-digits
-    spells-frame-requires
+    (λ c. search needs)  -- spells-frame-requires
     returns-3
     read-bytes-requires
     add-t13
-    same-length
+    (λ c. search needs)  -- same-length
     returns-4)

@@ -9,16 +9,25 @@ use Rattle.notice.proofs.value.Statement.{statement}
 use Rattle.notice.proofs.value.Tie as tie
 
 sub-result : tie.Need-sub-result
-sub-result c = digit-least _ (c .before .pre)
-
-sub-result-2 : tie.Need-sub-result-2
-sub-result-2 c = search needs
+sub-result c =
+    let start : tie.Start = search in
+    digit-least _ (start .pre)
 
 returns : tie.Need-returns
-returns c = (sym (value-numeral _ (c .if1 .taken)), subst (λ (n : ℕ). n < 16) (value-numeral _ (c .if1 .taken)) (value-below _ (c .before .pre)))
+returns c =
+    let start : tie.Start = search in
+    (sym (value-numeral _ (c .if1 .taken)), subst (λ (n : ℕ). n < 16) (value-numeral _ (c .if1 .taken)) (value-below _ (start .pre)))
 
 returns-2 : tie.Need-returns-2
-returns-2 c = (sym (value-letter _ (c .if1 .left)), subst (λ (n : ℕ). n < 16) (value-letter _ (c .if1 .left)) (value-below _ (c .before .pre)))
+returns-2 c =
+    let start : tie.Start = search in
+    (sym (value-letter _ (c .if1 .left)), subst (λ (n : ℕ). n < 16) (value-letter _ (c .if1 .left)) (value-below _ (start .pre)))
 
 pub value-spec : {M : Type 1} → statement M
-value-spec = tie.close (tie.spec sub-result sub-result-2 returns returns-2)
+value-spec =
+    tie.close
+    (tie.spec
+    sub-result
+    (λ c. search needs)  -- sub-result-2
+    returns
+    returns-2)

@@ -20,44 +20,29 @@ abbrev μ-loop : tie.MeasureT-loop
 loop-holds : tie.Need-loop-holds Inv-loop μ-loop
 loop-holds c = (search needs, copied-none _ _)
 
-shared-slice-read-b : tie.Need-shared-slice-read-b Inv-loop μ-loop
-shared-slice-read-b c = search needs
-
 digit-requires : tie.Need-digit-requires Inv-loop μ-loop
-digit-requires c κs = omega (arith, c .shared-slice-known2 .given (c .before .before .loop .i))
-
-mul-line : tie.Need-mul-line Inv-loop μ-loop
-mul-line c = search needs
-
-slice-write-line : tie.Need-slice-write-line Inv-loop μ-loop
-slice-write-line c = search needs
-
-digit-requires-2 : tie.Need-digit-requires-2 Inv-loop μ-loop
-digit-requires-2 c κs = search needs
-
-mul-line-2 : tie.Need-mul-line-2 Inv-loop μ-loop
-mul-line-2 c = search needs
-
-add-line : tie.Need-add-line Inv-loop μ-loop
-add-line c = search needs
+digit-requires c κs =
+    let at-loop : tie.At-loop Inv-loop μ-loop = search in
+    omega (arith, c .shared-slice-known2 .given (at-loop .loop .i))
 
 slice-write-line-2 : tie.Need-slice-write-line-2 Inv-loop μ-loop
 slice-write-line-2 c = simp length-set (omega arith)
 
-add-i : tie.Need-add-i Inv-loop μ-loop
-add-i c = search needs
-
-loop-less : tie.Need-loop-less Inv-loop μ-loop
-loop-less c = search needs
-
 loop-again : tie.Need-loop-again Inv-loop μ-loop
-loop-again c = (search needs, digits-more _ _ (c .before .before .before .before .loop .inv .1) (c .before .digit .ensures) (c .digit2 .ensures) (c .before .before .before .loop-test .taken) (c .before .before .before .before .before .before .before .pre))
-
-same-length : tie.Need-same-length Inv-loop μ-loop
-same-length c = search needs
+loop-again c =
+    let after-digit : tie.After-digit Inv-loop μ-loop = search in
+    let in-loop : tie.In-loop Inv-loop μ-loop = search in
+    let at-loop : tie.At-loop Inv-loop μ-loop = search in
+    let start : tie.Start Inv-loop μ-loop = search in (
+      search needs,
+      digits-more _ _ (at-loop .loop .inv .1) (after-digit .digit .ensures) (c .digit2 .ensures) (in-loop .loop-test .taken) (start .pre),
+    )
 
 returns : tie.Need-returns Inv-loop μ-loop
-returns c = copied-all (c .before .loop .inv .1) (omega (arith, length-digits (c .before .before .before .before .args .frame .now)))
+returns c =
+    let at-loop : tie.At-loop Inv-loop μ-loop = search in
+    let start : tie.Start Inv-loop μ-loop = search in
+    copied-all (at-loop .loop .inv .1) (omega (arith, length-digits (start .args .frame .now)))
 
 pub write-digits-spec : {M : Type 1} → statement M
 write-digits-spec =
@@ -66,16 +51,16 @@ write-digits-spec =
     Inv-loop
     μ-loop
     loop-holds
-    shared-slice-read-b
+    (λ c. search needs)  -- shared-slice-read-b
     digit-requires
-    mul-line
-    slice-write-line
-    digit-requires-2
-    mul-line-2
-    add-line
+    (λ c. search needs)  -- mul-line
+    (λ c. search needs)  -- slice-write-line
+    (λ c. search needs)  -- digit-requires-2
+    (λ c. search needs)  -- mul-line-2
+    (λ c. search needs)  -- add-line
     slice-write-line-2
-    add-i
-    loop-less
+    (λ c. search needs)  -- add-i
+    (λ c. search needs)  -- loop-less
     loop-again
-    same-length
+    (λ c. search needs)  -- same-length
     returns)

@@ -14,42 +14,63 @@ returns : tie.Need-returns
 unfolding writingOf
 returns c = write-short _ _ (omega arith)
 
-is-frame-requires : tie.Need-is-frame-requires
-is-frame-requires c κs = search needs
-
 returns-2 : tie.Need-returns-2
 unfolding writingOf
-returns-2 c = write-other _ _ (sym (c .before .is-frame .ensures) ∙ not-true _ (c .if2 .taken)) (c .before .before .if1 .left)
+returns-2 c =
+    let after-is-frame : tie.After-is-frame = search in
+    let else1 : tie.Else1 = search in
+    write-other _ _ (sym (after-is-frame .is-frame .ensures) ∙ not-true _ (c .if2 .taken)) (else1 .if1 .left)
 
 write-digits-requires : tie.Need-write-digits-requires
-write-digits-requires c κs = omega (arith, frame-parts _ (sym (c .before .before .is-frame .ensures) ∙ not-false _ (c .before .if2 .left)) .1, c .before .before .before .before .before .shared-slice-known .given 2)
-
-mul-end : tie.Need-mul-end
-mul-end c = search needs
+write-digits-requires c κs =
+    let else2 : tie.Else2 = search in
+    let after-is-frame : tie.After-is-frame = search in
+    let after-shared-slice-known : tie.After-shared-slice-known = search in
+    omega (
+      arith,
+      frame-parts _ (sym (after-is-frame .is-frame .ensures) ∙ not-false _ (else2 .if2 .left)) .1,
+      after-shared-slice-known .shared-slice-known .given 2,
+    )
 
 slice-write-line : tie.Need-slice-write-line
-slice-write-line c = omega (arith, frame-parts _ (sym (c .before .before .before .before .before .is-frame .ensures) ∙ not-false _ (c .before .before .before .before .if2 .left)) .1, c .before .before .before .before .before .before .before .before .shared-slice-known .given 2, c .before .before .write-digits .kept .1 .0)
-
-add-t4 : tie.Need-add-t4
-add-t4 c = search needs
-
-same-length : tie.Need-same-length
-same-length c = search needs
+slice-write-line c =
+    let after-write-digits : tie.After-write-digits = search in
+    let else2 : tie.Else2 = search in
+    let after-is-frame : tie.After-is-frame = search in
+    let after-shared-slice-known : tie.After-shared-slice-known = search in
+    omega (
+      arith,
+      frame-parts _ (sym (after-is-frame .is-frame .ensures) ∙ not-false _ (else2 .if2 .left)) .1,
+      after-shared-slice-known .shared-slice-known .given 2,
+      after-write-digits .write-digits .kept .1 .0,
+    )
 
 returns-3 : tie.Need-returns-3
 unfolding writingOf
-returns-3 c = write-done _ _ (c .before .before .write-digits .ensures) (sym (c .before .before .before .before .before .is-frame .ensures) ∙ not-false _ (c .before .before .before .before .if2 .left)) (omega (arith, frame-parts _ (sym (c .before .before .before .before .before .is-frame .ensures) ∙ not-false _ (c .before .before .before .before .if2 .left)) .1, c .before .before .before .before .before .before .before .before .shared-slice-known .given 2)) (c .before .before .before .before .before .before .if1 .left)
+returns-3 c =
+    let after-write-digits : tie.After-write-digits = search in
+    let else2 : tie.Else2 = search in
+    let after-is-frame : tie.After-is-frame = search in
+    let else1 : tie.Else1 = search in
+    let after-shared-slice-known : tie.After-shared-slice-known = search in
+    write-done _ _ (after-write-digits .write-digits .ensures)
+    (sym (after-is-frame .is-frame .ensures) ∙ not-false _ (else2 .if2 .left))
+    (omega (
+      arith,
+      frame-parts _ (sym (after-is-frame .is-frame .ensures) ∙ not-false _ (else2 .if2 .left)) .1,
+      after-shared-slice-known .shared-slice-known .given 2,
+    )) (else1 .if1 .left)
 
 pub write-notice-spec : {M : Type 1} → statement M
 write-notice-spec =
     tie.close
     (tie.spec
     returns
-    is-frame-requires
+    (λ c. search needs)  -- is-frame-requires
     returns-2
     write-digits-requires
-    mul-end
+    (λ c. search needs)  -- mul-end
     slice-write-line
-    add-t4
-    same-length
+    (λ c. search needs)  -- add-t4
+    (λ c. search needs)  -- same-length
     returns-3)

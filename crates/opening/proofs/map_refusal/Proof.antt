@@ -1,10 +1,15 @@
 -- `opening::map_refusal` meets its contract: the tests stand in the order of the refusals, and each answer is that of the first that holds.
 -- Assumes nothing.
-use mathlib.Core.Path.{sym, _∙_}
+use mathlib.Core.Path.{_≡_, sym, _∙_}
+use mathlib.Core.Bool.{true}
 use mathlib.Core.List.{[]}
 use native.Mathlib.Omega.{arith}
 use borrow.Author.Tests.{not-true, not-false}
-use Rattle.map.specs.Memory.{base}
+use lib.ListN.{length}
+use Rattle.rows.specs.Rows.{tableBit}
+use Rattle.map.specs.Memory.{base, networkOf}
+use Rattle.map.specs.Sound.{soundLinks, soundFigures}
+use Rattle.rounds.specs.Sizes.{sizes, longEnough}
 use Rattle.map.proofs.Theorems.{figures-any-links}
 use Rattle.reckon.proofs.Longs.{are-long}
 use Rattle.reckon.proofs.Reckons.{sound-by}
@@ -13,59 +18,112 @@ use borrow.Author.Needs.{needs}
 use Rattle.opening.proofs.map_refusal.Statement.{statement}
 use Rattle.opening.proofs.map_refusal.Tie as tie
 
--- src/lib.rt:44:9
-are-long-requires : tie.Need-are-long-requires
-are-long-requires c κs = search needs
-
--- src/lib.rt:45:9
-returns : tie.Need-returns
-returns c = refused-short base _ _ _ _ (sym (c .before .are-long .ensures) ∙ not-true _ (c .if1 .taken))
-
--- src/lib.rt:48:37
 slice-aggregate-links-are-sound : tie.Need-slice-aggregate-links-are-sound
 slice-aggregate-links-are-sound c = search needs
 
--- src/lib.rt:48:9
-links-are-sound-requires : tie.Need-links-are-sound-requires
-links-are-sound-requires c κs = record { positive = omega arith; most = omega arith; rows = are-long base _ (sym (c .before .before .before .are-long .ensures) ∙ not-false _ (c .before .before .if1 .left)) .links-fit; row = omega (arith, slice-aggregate-links-are-sound c) }
-
--- src/lib.rt:49:9
-returns-2 : tie.Need-returns-2
-returns-2 c = refused-links base _ _ _ _ (sym (c .before .before .before .before .before .are-long .ensures) ∙ not-false _ (c .before .before .before .before .if1 .left)) (sym (c .before .links-are-sound .ensures) ∙ not-true _ (c .if2 .taken))
-
--- src/lib.rt:51:39
 slice-aggregate-figures-are-sound : tie.Need-slice-aggregate-figures-are-sound
 slice-aggregate-figures-are-sound c = search needs
 
--- src/lib.rt:51:9
-figures-are-sound-requires : tie.Need-figures-are-sound-requires
-figures-are-sound-requires c κs = record { positive = omega arith; most = omega arith; rows = are-long base _ (sym (c .before .before .before .before .before .before .are-long .ensures) ∙ not-false _ (c .before .before .before .before .before .if1 .left)) .pairs-fit; row = omega (arith, slice-aggregate-figures-are-sound c) }
-
--- src/lib.rt:52:9
-returns-3 : tie.Need-returns-3
-returns-3 c = refused-figures base _ _ _ _ (sym (c .before .before .before .before .before .before .before .before .are-long .ensures) ∙ not-false _ (c .before .before .before .before .before .before .before .if1 .left)) (sym (c .before .before .before .before .links-are-sound .ensures) ∙ not-false _ (c .before .before .before .if2 .left)) (figures-any-links 4 _ _ [] _ _ _ ∙ sym (c .before .figures-are-sound .ensures) ∙ not-true _ (c .if3 .taken))
-
--- src/lib.rt:54:41
 slice-aggregate-map-is-connected : tie.Need-slice-aggregate-map-is-connected
 slice-aggregate-map-is-connected c = search needs
 
--- src/lib.rt:54:9
+-- ---- what each test that let the function go on has shown
+
+long : (c : tie.Else1) →
+    let s : tie.Start = search in
+    longEnough base
+    (sizes (length (s .args .links .now)) (length (s .args .pairs .now)) (s .args .hops) (s .args .bounds) (s .args .skips) (s .args .even) (s .args .odd))
+    ≡ true
+long c =
+    let after-are-long : tie.After-are-long = search in
+    sym (after-are-long .are-long .ensures) ∙ not-false _ (c .if1 .left)
+
+sound : (c : tie.Else2) →
+    let s : tie.Start = search in
+    soundLinks (networkOf 4 (s .args .rec .codes) (s .args .links .now)) (s .args .rec .number) ≡ true
+sound c =
+    let after-links-are-sound : tie.After-links-are-sound = search in
+    sym (after-links-are-sound .links-are-sound .ensures) ∙ not-false _ (c .if2 .left)
+
+figured : (c : tie.Else3) →
+    let s : tie.Start = search in
+    let G = networkOf 4 (s .args .rec .codes) (s .args .links .now) in
+    soundFigures G (tableBit 4 (s .args .pairs .now)) (s .args .rec .chain) (s .args .rec .count) ≡ true
+figured c =
+    let after-figures-are-sound : tie.After-figures-are-sound = search in
+    figures-any-links 4 _ _ [] _ _ _ ∙ sym (after-figures-are-sound .figures-are-sound .ensures) ∙ not-false _ (c .if3 .left)
+
+-- ---- the answers
+
+returns : tie.Need-returns
+returns c =
+    let after-are-long : tie.After-are-long = search in
+    refused-short base _ _ _ _ (sym (after-are-long .are-long .ensures) ∙ not-true _ (c .if1 .taken))
+
+links-are-sound-requires : tie.Need-links-are-sound-requires
+links-are-sound-requires c κs =
+    let else1 : tie.Else1 = search in
+    record {
+      positive = omega arith;
+      most = omega arith;
+      rows = are-long base _ (long else1) .links-fit;
+      row = omega (arith, slice-aggregate-links-are-sound c);
+    }
+
+returns-2 : tie.Need-returns-2
+returns-2 c =
+    let after-links-are-sound : tie.After-links-are-sound = search in
+    let else1 : tie.Else1 = search in
+    refused-links base _ _ _ _ (long else1) (sym (after-links-are-sound .links-are-sound .ensures) ∙ not-true _ (c .if2 .taken))
+
+figures-are-sound-requires : tie.Need-figures-are-sound-requires
+figures-are-sound-requires c κs =
+    let else1 : tie.Else1 = search in
+    record {
+      positive = omega arith;
+      most = omega arith;
+      rows = are-long base _ (long else1) .pairs-fit;
+      row = omega (arith, slice-aggregate-figures-are-sound c);
+    }
+
+returns-3 : tie.Need-returns-3
+returns-3 c =
+    let after-figures-are-sound : tie.After-figures-are-sound = search in
+    let else2 : tie.Else2 = search in
+    let else1 : tie.Else1 = search in
+    refused-figures base _ _ _ _ (long else1) (sound else2)
+    (figures-any-links 4 _ _ [] _ _ _ ∙ sym (after-figures-are-sound .figures-are-sound .ensures) ∙ not-true _ (c .if3 .taken))
+
 map-is-connected-requires : tie.Need-map-is-connected-requires
-map-is-connected-requires c κs = (record { positive = omega arith; most = omega arith; rows = are-long base _ (sym (c .before .before .before .before .before .before .before .before .before .are-long .ensures) ∙ not-false _ (c .before .before .before .before .before .before .before .before .if1 .left)) .links-fit; row = omega (arith, slice-aggregate-map-is-connected c) }, sound-by _ _ _ _ (sym (c .before .before .before .before .before .links-are-sound .ensures) ∙ not-false _ (c .before .before .before .before .if2 .left)))
+map-is-connected-requires c κs =
+    let else2 : tie.Else2 = search in
+    let else1 : tie.Else1 = search in (
+      record {
+        positive = omega arith;
+        most = omega arith;
+        rows = are-long base _ (long else1) .links-fit;
+        row = omega (arith, slice-aggregate-map-is-connected c);
+      },
+      sound-by _ _ _ _ (sound else2),
+    )
 
--- src/lib.rt:55:9
 returns-4 : tie.Need-returns-4
-returns-4 c = refused-apart base _ _ _ _ (sym (c .before .before .before .before .before .before .before .before .before .before .before .are-long .ensures) ∙ not-false _ (c .before .before .before .before .before .before .before .before .before .before .if1 .left)) (sym (c .before .before .before .before .before .before .before .links-are-sound .ensures) ∙ not-false _ (c .before .before .before .before .before .before .if2 .left)) (figures-any-links 4 _ _ [] _ _ _ ∙ sym (c .before .before .before .before .figures-are-sound .ensures) ∙ not-false _ (c .before .before .before .if3 .left)) (sym (c .before .map-is-connected .ensures) ∙ not-true _ (c .if4 .taken))
+returns-4 c =
+    let after-map-is-connected : tie.After-map-is-connected = search in
+    let connected = sym (after-map-is-connected .map-is-connected .ensures) ∙ not-true _ (c .if4 .taken) in
+    search (refused-apart, long, sound, figured, connected)
 
--- src/lib.rt:32:1
 returns-5 : tie.Need-returns-5
-returns-5 c = refused-never base _ _ _ _ (sym (c .before .before .before .before .before .before .before .before .before .before .before .are-long .ensures) ∙ not-false _ (c .before .before .before .before .before .before .before .before .before .before .if1 .left)) (sym (c .before .before .before .before .before .before .before .links-are-sound .ensures) ∙ not-false _ (c .before .before .before .before .before .before .if2 .left)) (figures-any-links 4 _ _ [] _ _ _ ∙ sym (c .before .before .before .before .figures-are-sound .ensures) ∙ not-false _ (c .before .before .before .if3 .left)) (sym (c .before .map-is-connected .ensures) ∙ not-false _ (c .if4 .left))
+returns-5 c =
+    let after-map-is-connected : tie.After-map-is-connected = search in
+    let connected = sym (after-map-is-connected .map-is-connected .ensures) ∙ not-false _ (c .if4 .left) in
+    search (refused-never, long, sound, figured, connected)
 
 pub map-refusal-spec : {M : Type 1} → statement M
 map-refusal-spec =
     tie.close
     (tie.spec
-    are-long-requires
+    (λ c. search needs)  -- are-long-requires
     returns
     slice-aggregate-links-are-sound
     links-are-sound-requires

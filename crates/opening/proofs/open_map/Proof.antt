@@ -6,61 +6,72 @@ use borrow.Author.Needs.{needs}
 use Rattle.opening.proofs.open_map.Statement.{statement}
 use Rattle.opening.proofs.open_map.Tie as tie
 
--- src/lib.rt:109:5
-link-depot-requires : tie.Need-link-depot-requires
-link-depot-requires c κs = let s = c .before .before .before .before .before .before .before .before .before in (omega arith, omega arith, long-is (s .args .rec) (s .args .links .now) (s .args .pairs .now) (s .args .hops .now) (s .args .bounds .now) (s .args .skips .now) (s .args .even .now) (s .args .odd .now) (s .args .code) (s .args .neighbours .now) (s .pre) (s .fits .code .fits) (λ k l. c .before .shared-slice-known .given k .fits) .links-fit)
+-- the way back, from each call to the one before it
+abbrev before-refigure : tie.After-refigure → tie.After-put-code
+before-refigure c = search
 
--- src/lib.rt:111:14
+abbrev before-put-code : tie.After-put-code → tie.After-link-depot
+before-put-code c = search
+
+abbrev before-link-depot : tie.After-link-depot → tie.Start
+before-link-depot c = search
+
+ruleset back = (before-refigure, before-put-code, before-link-depot)
+
 slice-aggregate-put-code : tie.Need-slice-aggregate-put-code
 slice-aggregate-put-code c = search needs
 
--- src/lib.rt:111:5
-put-code-requires : tie.Need-put-code-requires
-put-code-requires c κs = omega (arith, slice-aggregate-put-code c)
-
--- src/lib.rt:119:9
 slice-aggregate-refigure : tie.Need-slice-aggregate-refigure
 slice-aggregate-refigure c = search needs
 
--- src/lib.rt:112:9
+link-depot-requires : tie.Need-link-depot-requires
+link-depot-requires c κs =
+    let after-shared-slice-known : tie.After-shared-slice-known = search back in
+    let start : tie.Start = search back in (
+      search needs,
+      search needs,
+      long-is (start .args .rec) (start .args .links .now) (start .args .pairs .now) (start .args .hops .now) (start .args .bounds .now)
+          (start .args .skips .now) (start .args .even .now) (start .args .odd .now) (start .args .code) (start .args .neighbours .now)
+          (start .pre) (start .fits .code .fits) (λ k l. after-shared-slice-known .shared-slice-known .given k .fits) .links-fit,
+    )
+
+put-code-requires : tie.Need-put-code-requires
+put-code-requires c κs = omega (arith, slice-aggregate-put-code c)
+
 refigure-requires : tie.Need-refigure-requires
-refigure-requires c κs = (figurable _ _ _ _ _ _ _ _ _ _ (c .before .before .before .before .before .before .before .before .before .before .before .before .before .before .before .before .before .before .before .before .before .before .before .before .pre) (c .before .before .before .before .before .before .before .before .before .before .before .before .before .before .before .before .before .before .before .before .before .before .before .before .fits .code .fits) (λ k l. c .before .before .before .before .before .before .before .before .before .before .before .before .before .before .before .before .shared-slice-known .given k .fits) _ _ (c .before .before .before .before .before .before .before .before .before .put-code .ensures) (c .before .before .before .before .before .before .before .before .before .before .before .before .before .before .link-depot .ensures) (omega (arith, slice-aggregate-refigure (c .before))) (c .before .before .before .before .before .before .before .before .before .before .before .before .before .before .link-depot .kept .0), c .before .before .before .before .before .before .before .before .before .before .before .before .before .before .before .before .before .before .before .before .before .before .before .before .fits .code .fits)
+refigure-requires c κs =
+    let after-codes4 : tie.After-codes4 = search back in
+    let after-put-code : tie.After-put-code = search back in
+    let after-link-depot : tie.After-link-depot = search back in
+    let after-shared-slice-known : tie.After-shared-slice-known = search back in
+    let start : tie.Start = search back in (
+      figurable _ _ _ _ _ _ _ _ _ _ (start .pre) (start .fits .code .fits)
+          (λ k l. after-shared-slice-known .shared-slice-known .given k .fits) _ _ (after-put-code .put-code .ensures)
+          (after-link-depot .link-depot .ensures) (omega (arith, slice-aggregate-refigure after-codes4))
+          (after-link-depot .link-depot .kept .0),
+      search needs,
+    )
 
--- src/lib.rt:127:17
 add-t39 : tie.Need-add-t39
-add-t39 c = let s = c .before .before .before .before .before .before .before .before .before .before .before .before .before .before .before .before .before .before .before .before .before .before .before .before .before .before .before .before .before .before .before .before .before .before .before .before .before .before in omega (arith, number-small (s .args .rec) (s .args .links .now) (s .args .pairs .now) (s .args .hops .now) (s .args .bounds .now) (s .args .skips .now) (s .args .even .now) (s .args .odd .now) (s .args .code) (s .args .neighbours .now) (s .pre) (s .fits .code .fits) (λ k l. c .before .before .before .before .before .before .before .before .before .before .before .before .before .before .before .before .before .before .before .before .before .before .before .before .before .before .before .before .before .before .shared-slice-known .given k .fits))
+add-t39 c =
+    let after-shared-slice-known : tie.After-shared-slice-known = search back in
+    let start : tie.Start = search back in
+    let small =
+    number-small (start .args .rec) (start .args .links .now) (start .args .pairs .now) (start .args .hops .now) (start .args .bounds .now)
+    (start .args .skips .now) (start .args .even .now) (start .args .odd .now) (start .args .code) (start .args .neighbours .now)
+    (start .pre) (start .fits .code .fits) (λ k l. after-shared-slice-known .shared-slice-known .given k .fits) in
+    omega arith
 
--- src/lib.rt:94:1
-same-length : tie.Need-same-length
-same-length c = search needs
-
--- src/lib.rt:94:1
-same-length-2 : tie.Need-same-length-2
-same-length-2 c = search needs
-
--- src/lib.rt:94:1
-same-length-3 : tie.Need-same-length-3
-same-length-3 c = search needs
-
--- src/lib.rt:94:1
-same-length-4 : tie.Need-same-length-4
-same-length-4 c = search needs
-
--- src/lib.rt:94:1
-same-length-5 : tie.Need-same-length-5
-same-length-5 c = search needs
-
--- src/lib.rt:94:1
-same-length-6 : tie.Need-same-length-6
-same-length-6 c = search needs
-
--- src/lib.rt:94:1
-same-length-7 : tie.Need-same-length-7
-same-length-7 c = search needs
-
--- src/lib.rt:94:1
 returns : tie.Need-returns
-returns c = opened-is _ _ _ _ _ _ _ _ _ _ (c .before .before .before .before .before .before .before .before .before .before .before .before .before .before .before .before .before .before .before .before .before .before .before .before .before .before .before .before .before .before .before .before .before .before .before .before .before .before .pre) (c .before .before .before .before .before .before .before .before .before .before .before .before .before .before .before .before .before .before .before .before .before .before .before .before .before .before .before .before .before .before .before .before .before .before .before .before .before .before .fits .code .fits) (λ k l. c .before .before .before .before .before .before .before .before .before .before .before .before .before .before .before .before .before .before .before .before .before .before .before .before .before .before .before .before .before .before .shared-slice-known .given k .fits) _ _ (c .before .before .before .before .before .before .before .before .before .before .before .before .before .before .before .before .before .before .before .before .before .before .before .put-code .ensures) (c .before .before .before .before .before .before .before .before .before .before .before .before .before .before .before .before .before .before .before .before .before .before .before .before .before .before .before .before .link-depot .ensures) _ _ (c .before .before .before .before .before .before .before .before .before .before .before .before .before .refigure .ensures)
+returns c =
+    let after-refigure : tie.After-refigure = search back in
+    let after-put-code : tie.After-put-code = search back in
+    let after-link-depot : tie.After-link-depot = search back in
+    let after-shared-slice-known : tie.After-shared-slice-known = search back in
+    let start : tie.Start = search back in
+    opened-is _ _ _ _ _ _ _ _ _ _ (start .pre) (start .fits .code .fits)
+    (λ k l. after-shared-slice-known .shared-slice-known .given k .fits) _ _ (after-put-code .put-code .ensures)
+    (after-link-depot .link-depot .ensures) _ _ (after-refigure .refigure .ensures)
 
 pub open-map-spec : {M : Type 1} → statement M
 open-map-spec =
@@ -72,11 +83,11 @@ open-map-spec =
     slice-aggregate-refigure
     refigure-requires
     add-t39
-    same-length
-    same-length-2
-    same-length-3
-    same-length-4
-    same-length-5
-    same-length-6
-    same-length-7
+    (λ c. search needs)  -- same-length
+    (λ c. search needs)  -- same-length-2
+    (λ c. search needs)  -- same-length-3
+    (λ c. search needs)  -- same-length-4
+    (λ c. search needs)  -- same-length-5
+    (λ c. search needs)  -- same-length-6
+    (λ c. search needs)  -- same-length-7
     returns)

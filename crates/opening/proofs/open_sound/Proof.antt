@@ -10,57 +10,47 @@ use borrow.Author.Needs.{needs}
 use Rattle.opening.proofs.open_sound.Statement.{statement}
 use Rattle.opening.proofs.open_sound.Tie as tie
 
--- src/lib.rt:147:45
 slice-aggregate-notice-refusal : tie.Need-slice-aggregate-notice-refusal
 slice-aggregate-notice-refusal c = search needs
 
--- src/lib.rt:147:9
 notice-refusal-requires : tie.Need-notice-refusal-requires
 notice-refusal-requires c κs = (omega arith, omega arith, omega (arith, slice-aggregate-notice-refusal c))
 
--- src/lib.rt:149:9
-refused-requires : tie.Need-refused-requires
-refused-requires c κs = search needs
+-- the way back, from each call to the one before it
+abbrev before-open-map : tie.After-open-map → tie.After-notice-refusal
+before-open-map c = search
 
--- src/lib.rt:149:9
+abbrev before-notice-refusal : tie.After-notice-refusal → tie.Start
+before-notice-refusal c = search
+
+ruleset back = (before-open-map, before-notice-refusal)
+
 returns : tie.Need-returns
-returns c = refused-call base _ _ _ _ _ _ _ _ _ _ _ (c .refused .ensures) (c .before .before .notice-refusal .ensures ∙ ap firstOf (faults-any-links 4 _ [] _ _) ∙ refused-by-notice base _ _ _ _ _ (sym (c .before .before .before .before .before .before .before .before .before .before .before .before .before .pre))) (c .before .if1 .taken)
+returns c =
+    let then1 : tie.Then1 = search back in
+    let after-notice-refusal : tie.After-notice-refusal = search back in
+    let start : tie.Start = search back in
+    refused-call base _ _ _ _ _ _ _ _ _ _ _ (c .refused .ensures)
+    (after-notice-refusal .notice-refusal .ensures ∙ ap firstOf (faults-any-links 4 _ [] _ _)
+    ∙ refused-by-notice base _ _ _ _ _ (sym (start .pre))) (then1 .if1 .taken)
 
--- src/lib.rt:151:5
 open-map-requires : tie.Need-open-map-requires
-open-map-requires c κs = sym (c .before .before .before .before .before .before .before .before .notice-refusal .ensures ∙ ap firstOf (faults-any-links 4 _ [] _ _) ∙ refused-by-notice base _ _ _ _ _ (sym (c .before .before .before .before .before .before .before .before .before .before .before .before .before .before .before .before .before .before .before .pre))) ∙ c .before .before .before .before .before .before .before .if1 .left
+open-map-requires c κs =
+    let else1 : tie.Else1 = search back in
+    let after-notice-refusal : tie.After-notice-refusal = search back in
+    let start : tie.Start = search back in
+    sym (after-notice-refusal .notice-refusal .ensures ∙ ap firstOf (faults-any-links 4 _ [] _ _)
+    ∙ refused-by-notice base _ _ _ _ _ (sym (start .pre))) ∙ else1 .if1 .left
 
--- src/lib.rt:131:1
-same-length : tie.Need-same-length
-same-length c = search needs
-
--- src/lib.rt:131:1
-same-length-2 : tie.Need-same-length-2
-same-length-2 c = search needs
-
--- src/lib.rt:131:1
-same-length-3 : tie.Need-same-length-3
-same-length-3 c = search needs
-
--- src/lib.rt:131:1
-same-length-4 : tie.Need-same-length-4
-same-length-4 c = search needs
-
--- src/lib.rt:131:1
-same-length-5 : tie.Need-same-length-5
-same-length-5 c = search needs
-
--- src/lib.rt:131:1
-same-length-6 : tie.Need-same-length-6
-same-length-6 c = search needs
-
--- src/lib.rt:131:1
-same-length-7 : tie.Need-same-length-7
-same-length-7 c = search needs
-
--- src/lib.rt:131:1
 returns-2 : tie.Need-returns-2
-returns-2 c = accepted-call base _ _ _ _ _ _ _ _ _ _ (sym (c .before .before .before .before .before .before .before .before .before .before .before .before .before .before .before .before .before .before .before .before .before .before .if1 .left) ∙ c .before .before .before .before .before .before .before .before .before .before .before .before .before .before .before .before .before .before .before .before .before .before .before .notice-refusal .ensures ∙ ap firstOf (faults-any-links 4 _ [] _ _) ∙ refused-by-notice base _ _ _ _ _ (sym (c .before .before .before .before .before .before .before .before .before .before .before .before .before .before .before .before .before .before .before .before .before .before .before .before .before .before .before .before .before .before .before .before .before .before .pre))) (c .before .before .before .before .before .before .before .before .before .before .before .before .before .before .open-map .ensures)
+returns-2 c =
+    let after-open-map : tie.After-open-map = search back in
+    let else1 : tie.Else1 = search back in
+    let after-notice-refusal : tie.After-notice-refusal = search back in
+    let start : tie.Start = search back in
+    accepted-call base _ _ _ _ _ _ _ _ _ _
+    (sym (else1 .if1 .left) ∙ after-notice-refusal .notice-refusal .ensures ∙ ap firstOf (faults-any-links 4 _ [] _ _)
+    ∙ refused-by-notice base _ _ _ _ _ (sym (start .pre))) (after-open-map .open-map .ensures)
 
 pub open-sound-spec : {M : Type 1} → statement M
 open-sound-spec =
@@ -68,14 +58,14 @@ open-sound-spec =
     (tie.spec
     slice-aggregate-notice-refusal
     notice-refusal-requires
-    refused-requires
+    (λ c. search needs)  -- refused-requires
     returns
     open-map-requires
-    same-length
-    same-length-2
-    same-length-3
-    same-length-4
-    same-length-5
-    same-length-6
-    same-length-7
+    (λ c. search needs)  -- same-length
+    (λ c. search needs)  -- same-length-2
+    (λ c. search needs)  -- same-length-3
+    (λ c. search needs)  -- same-length-4
+    (λ c. search needs)  -- same-length-5
+    (λ c. search needs)  -- same-length-6
+    (λ c. search needs)  -- same-length-7
     returns-2)

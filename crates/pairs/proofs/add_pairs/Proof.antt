@@ -14,50 +14,92 @@ abbrev μ-loop : tie.MeasureT-loop
 μ-loop pairs₀ last words r count sum₀ j₀ pairs sum j = words - j
 
 loop-holds : tie.Need-loop-holds Inv-loop μ-loop
-loop-holds c = add-start _ _ (holds-whole (c .before .before .pre .0) (λ i l. c .before .slice-known .given i .fits))
+loop-holds c =
+    let after-slice-known : tie.After-slice-known Inv-loop μ-loop = search in
+    let start : tie.Start Inv-loop μ-loop = search in
+    add-start _ _ (holds-whole (start .pre .0) (λ i l. after-slice-known .slice-known .given i .fits))
 
 mul-x : tie.Need-mul-x Inv-loop μ-loop
-mul-x c = omega (arith, c .before .before .before .before .pre .1, c .loop-test .taken)
+mul-x c =
+    let start : tie.Start Inv-loop μ-loop = search in
+    omega (arith, start .pre .1, c .loop-test .taken)
 
 shared-slice-read-x : tie.Need-shared-slice-read-x Inv-loop μ-loop
-shared-slice-read-x c = omega (arith, c .before .before .before .before .before .pre .1, c .before .loop-test .taken)
+shared-slice-read-x c =
+    let in-loop : tie.In-loop Inv-loop μ-loop = search in
+    let start : tie.Start Inv-loop μ-loop = search in
+    omega (arith, start .pre .1, in-loop .loop-test .taken)
 
 add-lower-part : tie.Need-add-lower-part Inv-loop μ-loop
-add-lower-part c = let pre = c .before .before .before .before .before .pre in omega (arith, pre .2, pre .0 .most)
+add-lower-part c =
+    let start : tie.Start Inv-loop μ-loop = search in
+    let pre = start .pre in omega (arith, pre .2, pre .0 .most)
 
 lower-part-requires : tie.Need-lower-part-requires Inv-loop μ-loop
-lower-part-requires c κs = omega (arith, c .before .loop-test .taken, c .before .before .before .before .before .pre .0 .most)
+lower-part-requires c κs =
+    let in-loop : tie.In-loop Inv-loop μ-loop = search in
+    let start : tie.Start Inv-loop μ-loop = search in
+    omega (arith, in-loop .loop-test .taken, start .pre .0 .most)
 
 lower-part-requires-2 : tie.Need-lower-part-requires-2 Inv-loop μ-loop
-lower-part-requires-2 c κs = omega (arith, c .before .before .loop-test .taken, c .before .before .before .before .before .before .pre .0 .most)
+lower-part-requires-2 c κs =
+    let in-loop : tie.In-loop Inv-loop μ-loop = search in
+    let start : tie.Start Inv-loop μ-loop = search in
+    omega (arith, in-loop .loop-test .taken, start .pre .0 .most)
 
 put-upper-requires : tie.Need-put-upper-requires Inv-loop μ-loop
 put-upper-requires c κs =
-    let pre = c .before .before .before .before .before .before .before .before .pre in
-    (holds-counted (c .before .before .before .before .before .loop .inv .holds) (pre .0 .positive) (pre .0 .most) (pre .0 .table), pre .2, c .before .before .before .before .loop-test .taken)
+    let in-loop : tie.In-loop Inv-loop μ-loop = search in
+    let at-loop : tie.At-loop Inv-loop μ-loop = search in
+    let start : tie.Start Inv-loop μ-loop = search in
+    let pre = start .pre in
+    (holds-counted (at-loop .loop .inv .holds) (pre .0 .positive) (pre .0 .most) (pre .0 .table), pre .2, in-loop .loop-test .taken)
 
 put-lower-requires : tie.Need-put-lower-requires Inv-loop μ-loop
 put-lower-requires c κs =
-    let pre = c .before .before .before .before .before .before .before .before .before .before .before .before .pre in
-    let upper = add-upper (c .before .before .before .before .before .before .before .before .before .loop .inv) (c .before .before .before .before .before .before .before .before .loop-test .taken) _ (c .before .before .before .put-upper .ensures) in
-    (holds-counted upper (pre .0 .positive) (pre .0 .most) (pre .0 .table), pre .2, c .before .before .before .before .before .before .before .before .loop-test .taken)
+    let after-put-upper : tie.After-put-upper Inv-loop μ-loop = search in
+    let in-loop : tie.In-loop Inv-loop μ-loop = search in
+    let at-loop : tie.At-loop Inv-loop μ-loop = search in
+    let start : tie.Start Inv-loop μ-loop = search in
+    let pre = start .pre in
+    let upper = add-upper (at-loop .loop .inv) (in-loop .loop-test .taken) _ (after-put-upper .put-upper .ensures) in
+    (holds-counted upper (pre .0 .positive) (pre .0 .most) (pre .0 .table), pre .2, in-loop .loop-test .taken)
 
 add-j : tie.Need-add-j Inv-loop μ-loop
-add-j c = omega (arith, c .before .before .before .before .before .before .before .before .before .before .before .loop-test .taken, c .before .before .before .before .before .before .before .before .before .before .before .before .before .before .before .pre .0 .most)
+add-j c =
+    let in-loop : tie.In-loop Inv-loop μ-loop = search in
+    let start : tie.Start Inv-loop μ-loop = search in
+    omega (arith, in-loop .loop-test .taken, start .pre .0 .most)
 
 loop-less : tie.Need-loop-less Inv-loop μ-loop
-loop-less c = omega (arith, c .before .before .before .before .before .before .before .before .before .before .before .loop-test .taken)
+loop-less c =
+    let in-loop : tie.In-loop Inv-loop μ-loop = search in
+    omega (arith, in-loop .loop-test .taken)
 
 loop-again : tie.Need-loop-again Inv-loop μ-loop
 loop-again c =
-    add-word (c .before .before .before .before .before .before .before .before .before .before .before .before .loop .inv) (c .before .before .before .before .before .before .before .before .before .before .before .loop-test .taken) _ (c .before .before .before .before .before .before .put-upper .ensures) _ (c .before .before .put-lower .ensures)
-    (upper-bits _ _ _ (c .before .before .before .before .before .before .before .before .before .before .shared-slice-known2 .given _ .fits) (c .before .before .before .before .before .before .before .before .before .lower-part .ensures)) (lower-bits _ _ _ (c .before .before .before .before .before .before .before .before .lower-part2 .ensures))
+    let after-put-lower : tie.After-put-lower Inv-loop μ-loop = search in
+    let after-put-upper : tie.After-put-upper Inv-loop μ-loop = search in
+    let after-lower-part2 : tie.After-lower-part2 Inv-loop μ-loop = search in
+    let after-lower-part : tie.After-lower-part Inv-loop μ-loop = search in
+    let after-shared-slice-known2 : tie.After-shared-slice-known2 Inv-loop μ-loop = search in
+    let in-loop : tie.In-loop Inv-loop μ-loop = search in
+    let at-loop : tie.At-loop Inv-loop μ-loop = search in
+    add-word (at-loop .loop .inv) (in-loop .loop-test .taken) _ (after-put-upper .put-upper .ensures) _
+    (after-put-lower .put-lower .ensures)
+    (upper-bits _ _ _ (after-shared-slice-known2 .shared-slice-known2 .given _ .fits) (after-lower-part .lower-part .ensures))
+    (lower-bits _ _ _ (after-lower-part2 .lower-part2 .ensures))
 
 same-length : tie.Need-same-length Inv-loop μ-loop
-same-length c = holds-length (c .before .loop .inv .holds) (c .before .before .before .before .pre .0 .table)
+same-length c =
+    let at-loop : tie.At-loop Inv-loop μ-loop = search in
+    let start : tie.Start Inv-loop μ-loop = search in
+    holds-length (at-loop .loop .inv .holds) (start .pre .0 .table)
 
 returns : tie.Need-returns Inv-loop μ-loop
-returns c = add-end (c .before .loop .inv) (omega (arith, c .loop-test .left))
+returns c =
+    let at-loop : tie.At-loop Inv-loop μ-loop = search in
+    add-end (at-loop .loop .inv) (omega (arith, c .loop-test .left))
 
 pub add-pairs-spec : {M : Type 1} → statement M
 add-pairs-spec =

@@ -14,40 +14,68 @@ abbrev μ-loop : tie.MeasureT-loop
 μ-loop pairs words u p₀ p = 64 * words - p
 
 loop-holds : tie.Need-loop-holds Inv-loop μ-loop
-loop-holds c = group-start _ _ _ (c .before .pre .3) (c .before .pre .2)
+loop-holds c =
+    let start : tie.Start Inv-loop μ-loop = search in
+    group-start _ _ _ (start .pre .3) (start .pre .2)
 
 mul-loop : tie.Need-mul-loop Inv-loop μ-loop
-mul-loop c = omega (arith, c .before .before .pre .0)
+mul-loop c =
+    let start : tie.Start Inv-loop μ-loop = search in
+    omega (arith, start .pre .0)
 
 mul-all-zero : tie.Need-mul-all-zero Inv-loop μ-loop
-mul-all-zero c = let pre = c .before .before .before .pre in omega (arith, row-fits _ _ _ (c .loop-test .taken) (pre .1))
+mul-all-zero c =
+    let start : tie.Start Inv-loop μ-loop = search in
+    let pre = start .pre in omega (arith, row-fits _ _ _ (c .loop-test .taken) (pre .1))
 
 mul-all-zero-2 : tie.Need-mul-all-zero-2 Inv-loop μ-loop
-mul-all-zero-2 c = omega (arith, c .before .before .before .pre .0)
+mul-all-zero-2 c =
+    let start : tie.Start Inv-loop μ-loop = search in
+    omega (arith, start .pre .0)
 
 all-zero-requires : tie.Need-all-zero-requires Inv-loop μ-loop
-all-zero-requires c κs = omega (arith, group-fits _ _ _ (c .before .loop .inv .begins) (c .loop-test .taken) (c .before .before .before .pre .1))
+all-zero-requires c κs =
+    let at-loop : tie.At-loop Inv-loop μ-loop = search in
+    let start : tie.Start Inv-loop μ-loop = search in
+    omega (arith, group-fits _ _ _ (at-loop .loop .inv .begins) (c .loop-test .taken) (start .pre .1))
 
 sub-result : tie.Need-sub-result Inv-loop μ-loop
-sub-result c = omega (arith, c .before .before .before .loop .inv .after)
+sub-result c =
+    let at-loop : tie.At-loop Inv-loop μ-loop = search in
+    omega (arith, at-loop .loop .inv .after)
 
 returns : tie.Need-returns Inv-loop μ-loop
-returns c = c .before .before .before .loop .inv .bare
+returns c =
+    let at-loop : tie.At-loop Inv-loop μ-loop = search in
+    at-loop .loop .inv .bare
 
 add-p : tie.Need-add-p Inv-loop μ-loop
-add-p c = omega (arith, c .before .before .loop-test .taken, c .before .before .before .before .before .pre .0)
+add-p c =
+    let in-loop : tie.In-loop Inv-loop μ-loop = search in
+    let start : tie.Start Inv-loop μ-loop = search in
+    omega (arith, in-loop .loop-test .taken, start .pre .0)
 
 loop-less : tie.Need-loop-less Inv-loop μ-loop
-loop-less c = omega (arith, c .before .before .loop-test .taken)
+loop-less c =
+    let in-loop : tie.In-loop Inv-loop μ-loop = search in
+    omega (arith, in-loop .loop-test .taken)
 
 loop-again : tie.Need-loop-again Inv-loop μ-loop
-loop-again c = group-more _ _ _ (c .before .before .before .loop .inv) (c .before .before .loop-test .taken) (c .before .all-zero .ensures) (c .if1 .left)
+loop-again c =
+    let after-all-zero : tie.After-all-zero Inv-loop μ-loop = search in
+    let in-loop : tie.In-loop Inv-loop μ-loop = search in
+    let at-loop : tie.At-loop Inv-loop μ-loop = search in
+    group-more _ _ _ (at-loop .loop .inv) (in-loop .loop-test .taken) (after-all-zero .all-zero .ensures) (c .if1 .left)
 
 sub-result-2 : tie.Need-sub-result-2 Inv-loop μ-loop
-sub-result-2 c = omega (arith, c .before .loop .inv .after)
+sub-result-2 c =
+    let at-loop : tie.At-loop Inv-loop μ-loop = search in
+    omega (arith, at-loop .loop .inv .after)
 
 returns-2 : tie.Need-returns-2 Inv-loop μ-loop
-returns-2 c = c .before .loop .inv .bare
+returns-2 c =
+    let at-loop : tie.At-loop Inv-loop μ-loop = search in
+    at-loop .loop .inv .bare
 
 pub bare-groups-spec : {M : Type 1} → statement M
 bare-groups-spec =

@@ -16,58 +16,99 @@ abbrev μ-loop : tie.MeasureT-loop
 μ-loop pairs₀ hops words u chain base count₀ way₀ j₀ pairs count way j = words - j
 
 mul-base : tie.Need-mul-base Inv-loop μ-loop
-mul-base c = let pre = c .before .before .pre in omega (arith, row-fits _ _ _ (pre .1) (pre .0 .table))
+mul-base c =
+    let start : tie.Start Inv-loop μ-loop = search in
+    let pre = start .pre in omega (arith, row-fits _ _ _ (pre .1) (pre .0 .table))
 
 loop-holds : tie.Need-loop-holds Inv-loop μ-loop
-loop-holds c = row-start _ _ _ _ _ (c .before .before .pre .0 .table) (λ i l. c .before .slice-known .given i .fits)
+loop-holds c =
+    let after-slice-known : tie.After-slice-known Inv-loop μ-loop = search in
+    let start : tie.Start Inv-loop μ-loop = search in
+    row-start _ _ _ _ _ (start .pre .0 .table) (λ i l. after-slice-known .slice-known .given i .fits)
 
 add-i : tie.Need-add-i Inv-loop μ-loop
-add-i c = let pre = c .before .before .before .before .pre in omega (arith, row-fits _ _ _ (pre .1) (pre .0 .table), c .loop-test .taken)
+add-i c =
+    let start : tie.Start Inv-loop μ-loop = search in
+    let pre = start .pre in omega (arith, row-fits _ _ _ (pre .1) (pre .0 .table), c .loop-test .taken)
 
 mul-sift : tie.Need-mul-sift Inv-loop μ-loop
-mul-sift c = let pre = c .before .before .before .before .pre in omega (arith, row-fits _ _ _ (pre .1) (pre .0 .table), c .loop-test .taken)
+mul-sift c =
+    let start : tie.Start Inv-loop μ-loop = search in
+    let pre = start .pre in omega (arith, row-fits _ _ _ (pre .1) (pre .0 .table), c .loop-test .taken)
 
 slice-read-sift : tie.Need-slice-read-sift Inv-loop μ-loop
-slice-read-sift c = let pre = c .before .before .before .before .before .pre in omega (arith, row-fits _ _ _ (pre .1) (pre .0 .table), c .before .loop-test .taken, c .before .before .loop .inv .size)
+slice-read-sift c =
+    let in-loop : tie.In-loop Inv-loop μ-loop = search in
+    let at-loop : tie.At-loop Inv-loop μ-loop = search in
+    let start : tie.Start Inv-loop μ-loop = search in
+    let pre = start .pre in omega (arith, row-fits _ _ _ (pre .1) (pre .0 .table), in-loop .loop-test .taken, at-loop .loop .inv .size)
 
 mul-sift-2 : tie.Need-mul-sift-2 Inv-loop μ-loop
-mul-sift-2 c = omega (arith, c .before .loop-test .taken, c .before .before .before .before .before .pre .0 .most)
+mul-sift-2 c =
+    let in-loop : tie.In-loop Inv-loop μ-loop = search in
+    let start : tie.Start Inv-loop μ-loop = search in
+    omega (arith, in-loop .loop-test .taken, start .pre .0 .most)
 
 sift-requires : tie.Need-sift-requires Inv-loop μ-loop
-sift-requires c κs = let pre = c .before .before .before .before .before .pre in (omega (arith, pre .0 .hopped, pre .1), omega (arith, pre .0 .hopped, c .before .loop-test .taken))
+sift-requires c κs =
+    let in-loop : tie.In-loop Inv-loop μ-loop = search in
+    let start : tie.Start Inv-loop μ-loop = search in
+    let pre = start .pre in (omega (arith, pre .0 .hopped, pre .1), omega (arith, pre .0 .hopped, in-loop .loop-test .taken))
 
 mul-pairs : tie.Need-mul-pairs Inv-loop μ-loop
-mul-pairs c = let pre = c .before .before .before .before .before .before .pre in omega (arith, row-fits _ _ _ (pre .1) (pre .0 .table), c .before .before .loop-test .taken)
+mul-pairs c =
+    let in-loop : tie.In-loop Inv-loop μ-loop = search in
+    let start : tie.Start Inv-loop μ-loop = search in
+    let pre = start .pre in omega (arith, row-fits _ _ _ (pre .1) (pre .0 .table), in-loop .loop-test .taken)
 
 slice-write-pairs : tie.Need-slice-write-pairs Inv-loop μ-loop
-slice-write-pairs c = let pre = c .before .before .before .before .before .before .pre in omega (arith, row-fits _ _ _ (pre .1) (pre .0 .table), c .before .before .loop-test .taken, c .before .before .before .loop .inv .size)
-
-count-requires : tie.Need-count-requires Inv-loop μ-loop
-count-requires c κs = search needs
+slice-write-pairs c =
+    let in-loop : tie.In-loop Inv-loop μ-loop = search in
+    let at-loop : tie.At-loop Inv-loop μ-loop = search in
+    let start : tie.Start Inv-loop μ-loop = search in
+    let pre = start .pre in omega (arith, row-fits _ _ _ (pre .1) (pre .0 .table), in-loop .loop-test .taken, at-loop .loop .inv .size)
 
 add-count : tie.Need-add-count Inv-loop μ-loop
 add-count c =
-    let most = c .before .before .before .before .before .before .before .pre .0 .most in
-    let more = row-word _ _ _ _ _ (c .before .before .before .before .loop .inv) (c .before .before .before .before .before .before .before .pre .1) (c .before .before .before .loop-test .taken) (c .before .sift .ensures .0) (c .before .sift .ensures .1) (c .count .ensures) refl in
+    let after-sift : tie.After-sift Inv-loop μ-loop = search in
+    let in-loop : tie.In-loop Inv-loop μ-loop = search in
+    let at-loop : tie.At-loop Inv-loop μ-loop = search in
+    let start : tie.Start Inv-loop μ-loop = search in
+    let most = start .pre .0 .most in
+    let more = row-word _ _ _ _ _ (at-loop .loop .inv) (start .pre .1) (in-loop .loop-test .taken) (after-sift .sift .ensures .0)
+    (after-sift .sift .ensures .1) (c .count .ensures) refl in
     omega (arith, row-few more, more .within, most)
 
-longer-requires : tie.Need-longer-requires Inv-loop μ-loop
-longer-requires c κs = search needs
-
 add-j : tie.Need-add-j Inv-loop μ-loop
-add-j c = omega (arith, c .before .before .before .before .loop-test .taken, c .before .before .before .before .before .before .before .before .pre .0 .most)
+add-j c =
+    let in-loop : tie.In-loop Inv-loop μ-loop = search in
+    let start : tie.Start Inv-loop μ-loop = search in
+    omega (arith, in-loop .loop-test .taken, start .pre .0 .most)
 
 loop-less : tie.Need-loop-less Inv-loop μ-loop
-loop-less c = omega (arith, c .before .before .before .before .loop-test .taken)
+loop-less c =
+    let in-loop : tie.In-loop Inv-loop μ-loop = search in
+    omega (arith, in-loop .loop-test .taken)
 
 loop-again : tie.Need-loop-again Inv-loop μ-loop
-loop-again c = row-word _ _ _ _ _ (c .before .before .before .before .before .loop .inv) (c .before .before .before .before .before .before .before .before .pre .1) (c .before .before .before .before .loop-test .taken) (c .before .before .sift .ensures .0) (c .before .before .sift .ensures .1) (c .before .count .ensures) (c .longer .ensures)
+loop-again c =
+    let after-count : tie.After-count Inv-loop μ-loop = search in
+    let after-sift : tie.After-sift Inv-loop μ-loop = search in
+    let in-loop : tie.In-loop Inv-loop μ-loop = search in
+    let at-loop : tie.At-loop Inv-loop μ-loop = search in
+    let start : tie.Start Inv-loop μ-loop = search in
+    row-word _ _ _ _ _ (at-loop .loop .inv) (start .pre .1) (in-loop .loop-test .taken) (after-sift .sift .ensures .0)
+    (after-sift .sift .ensures .1) (after-count .count .ensures) (c .longer .ensures)
 
 same-length : tie.Need-same-length Inv-loop μ-loop
-same-length c = c .before .loop .inv .size
+same-length c =
+    let at-loop : tie.At-loop Inv-loop μ-loop = search in
+    at-loop .loop .inv .size
 
 returns : tie.Need-returns Inv-loop μ-loop
-returns c = row-end _ _ _ _ _ (c .before .loop .inv) (omega (arith, c .loop-test .left))
+returns c =
+    let at-loop : tie.At-loop Inv-loop μ-loop = search in
+    row-end _ _ _ _ _ (at-loop .loop .inv) (omega (arith, c .loop-test .left))
 
 pub drop-row-spec : {M : Type 1} → statement M
 drop-row-spec =
@@ -84,9 +125,9 @@ drop-row-spec =
     sift-requires
     mul-pairs
     slice-write-pairs
-    count-requires
+    (λ c. search needs)  -- count-requires
     add-count
-    longer-requires
+    (λ c. search needs)  -- longer-requires
     add-j
     loop-less
     loop-again

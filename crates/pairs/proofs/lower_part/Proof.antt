@@ -7,27 +7,27 @@ use borrow.Author.Needs.{needs}
 use Rattle.pairs.proofs.lower_part.Statement.{statement}
 use Rattle.pairs.proofs.lower_part.Tie as tie
 
-mul-first : tie.Need-mul-first
-mul-first c = search needs
-
 returns : tie.Need-returns
 returns c = part-none _ _ _ (c .if1 .taken)
 
-add-if2 : tie.Need-add-if2
-add-if2 c = search needs
-
 returns-2 : tie.Need-returns-2
-returns-2 c = part-all _ _ _ (c .before .before .fits .x .fits) (c .if2 .taken)
-
-sub-below : tie.Need-sub-below
-sub-below c = search needs
-
-below-requires : tie.Need-below-requires
-below-requires c κs = search needs
+returns-2 c =
+    let start : tie.Start = search in
+    part-all _ _ _ (start .fits .x .fits) (c .if2 .taken)
 
 returns-3 : tie.Need-returns-3
-returns-3 c = c .below .ensures ∙ part-some _ _ _ (omega (arith, c .before .before .if1 .left))
+returns-3 c =
+    let else1 : tie.Else1 = search in
+    c .below .ensures ∙ part-some _ _ _ (omega (arith, else1 .if1 .left))
 
 pub lower-part-spec : {M : Type 1} → statement M
 lower-part-spec =
-    tie.close (tie.spec mul-first returns add-if2 returns-2 sub-below below-requires returns-3)
+    tie.close
+    (tie.spec
+    (λ c. search needs)  -- mul-first
+    returns
+    (λ c. search needs)  -- add-if2
+    returns-2
+    (λ c. search needs)  -- sub-below
+    (λ c. search needs)  -- below-requires
+    returns-3)

@@ -14,36 +14,51 @@ abbrev μ-loop : tie.MeasureT-loop
 μ-loop pairs₀ words j x high count sum₀ left₀ pairs sum left = left
 
 loop-holds : tie.Need-loop-holds Inv-loop μ-loop
-loop-holds c = lower-start _ _ _ _ _ (holds-whole (c .before .pre .0) (λ i l. c .slice-known .given i .fits))
+loop-holds c =
+    let start : tie.Start Inv-loop μ-loop = search in
+    lower-start _ _ _ _ _ (holds-whole (start .pre .0) (λ i l. c .slice-known .given i .fits))
 
 mul-low : tie.Need-mul-low Inv-loop μ-loop
-mul-low c = let pre = c .before .before .before .pre in omega (arith, pre .0 .most, pre .2)
-
-least-requires : tie.Need-least-requires Inv-loop μ-loop
-least-requires c κs = search needs
+mul-low c =
+    let start : tie.Start Inv-loop μ-loop = search in
+    let pre = start .pre in omega (arith, pre .0 .most, pre .2)
 
 add-low : tie.Need-add-low Inv-loop μ-loop
-add-low c = let pre = c .before .before .before .before .pre in omega (arith, pre .0 .most, pre .2, c .least .ensures .below)
+add-low c =
+    let start : tie.Start Inv-loop μ-loop = search in
+    let pre = start .pre in omega (arith, pre .0 .most, pre .2, c .least .ensures .below)
 
 put-pair-requires : tie.Need-put-pair-requires Inv-loop μ-loop
 put-pair-requires c κs =
-    let pre = c .before .before .before .before .before .pre in
-    (holds-counted (c .before .before .before .loop .inv .holds) (pre .0 .positive) (pre .0 .most) (pre .0 .table), omega (arith, pre .2, c .before .least .ensures .below), pre .1)
-
-drop-least-requires : tie.Need-drop-least-requires Inv-loop μ-loop
-drop-least-requires c κs = search needs
+    let after-least : tie.After-least Inv-loop μ-loop = search in
+    let at-loop : tie.At-loop Inv-loop μ-loop = search in
+    let start : tie.Start Inv-loop μ-loop = search in
+    let pre = start .pre in (
+      holds-counted (at-loop .loop .inv .holds) (pre .0 .positive) (pre .0 .most) (pre .0 .table),
+      omega (arith, pre .2, after-least .least .ensures .below),
+      pre .1,
+    )
 
 loop-less : tie.Need-loop-less Inv-loop μ-loop
 loop-less c = c .drop-least .ensures .less
 
 loop-again : tie.Need-loop-again Inv-loop μ-loop
-loop-again c = lower-more _ _ _ _ _ (c .before .before .before .before .before .before .before .loop .inv) (c .before .before .before .before .before .least .ensures) (c .drop-least .ensures) (c .before .before .before .put-pair .ensures)
+loop-again c =
+    let after-put-pair : tie.After-put-pair Inv-loop μ-loop = search in
+    let after-least : tie.After-least Inv-loop μ-loop = search in
+    let at-loop : tie.At-loop Inv-loop μ-loop = search in
+    lower-more _ _ _ _ _ (at-loop .loop .inv) (after-least .least .ensures) (c .drop-least .ensures) (after-put-pair .put-pair .ensures)
 
 same-length : tie.Need-same-length Inv-loop μ-loop
-same-length c = holds-length (c .before .loop .inv .holds) (c .before .before .before .pre .0 .table)
+same-length c =
+    let at-loop : tie.At-loop Inv-loop μ-loop = search in
+    let start : tie.Start Inv-loop μ-loop = search in
+    holds-length (at-loop .loop .inv .holds) (start .pre .0 .table)
 
 returns : tie.Need-returns Inv-loop μ-loop
-returns c = lower-end _ _ _ _ _ (c .before .loop .inv) (omega arith)
+returns c =
+    let at-loop : tie.At-loop Inv-loop μ-loop = search in
+    lower-end _ _ _ _ _ (at-loop .loop .inv) (omega arith)
 
 pub put-lower-spec : {M : Type 1} → statement M
 put-lower-spec =
@@ -53,10 +68,10 @@ put-lower-spec =
     μ-loop
     loop-holds
     mul-low
-    least-requires
+    (λ c. search needs)  -- least-requires
     add-low
     put-pair-requires
-    drop-least-requires
+    (λ c. search needs)  -- drop-least-requires
     loop-less
     loop-again
     same-length

@@ -13,46 +13,55 @@ use Rattle.pairs.proofs.put_pair.Statement.{statement}
 use Rattle.pairs.proofs.put_pair.Tie as tie
 
 -- the table as it is lent
-entered : (c : tie.After-slice-known) → let a = c .before .args in Holds (a .words) (tableBit (a .words) (a .pairs .now)) (a .pairs .now) (a .pairs .now) (a .count)
-entered c = holds-whole (c .before .pre .0) (λ i l. c .slice-known .given i .fits)
+entered : (c : tie.After-slice-known) →
+    let start : tie.Start = search in
+    let a = start .args in Holds (a .words) (tableBit (a .words) (a .pairs .now)) (a .pairs .now) (a .pairs .now) (a .count)
+entered c =
+    let start : tie.Start = search in
+    holds-whole (start .pre .0) (λ i l. c .slice-known .given i .fits)
 
 row-test-requires : tie.Need-row-test-requires
 row-test-requires c κs =
-    let pre = c .before .before .pre in
+    let start : tie.Start = search in
+    let pre = start .pre in
     record { row = row-fits _ _ _ (pre .1) (pre .0 .table); below = search needs; column = search needs }
 
-same-length : tie.Need-same-length
-same-length c = search needs
-
 returns : tie.Need-returns
-returns c = put-old _ _ (entered (c .before .before .before)) (sym (c .before .row-test .ensures) ∙ c .if1 .taken) .is
+returns c =
+    let after-row-test : tie.After-row-test = search in
+    let after-slice-known : tie.After-slice-known = search in
+    put-old _ _ (entered after-slice-known) (sym (after-row-test .row-test .ensures) ∙ c .if1 .taken) .is
 
 row-set-requires : tie.Need-row-set-requires
 row-set-requires c κs =
-    let pre = c .before .before .before .before .before .pre in
+    let start : tie.Start = search in
+    let pre = start .pre in
     record { row = row-fits _ _ _ (pre .1) (pre .0 .table); below = search needs; column = search needs }
 
 add-result : tie.Need-add-result
-add-result c = omega (arith, tally-fits (c .before .before .before .before .before .before .before .before .pre .0))
-
-same-length-2 : tie.Need-same-length-2
-same-length-2 c = search needs
+add-result c =
+    let start : tie.Start = search in
+    omega (arith, tally-fits (start .pre .0))
 
 returns-2 : tie.Need-returns-2
 returns-2 c =
-    let s = c .before .before .before .before .before .before .before .before in
-    let out = sym (c .before .before .before .before .before .row-test .ensures) ∙ c .before .before .before .before .if1 .left in
-    ap (λ (t : List ℕ). tally t (s .args .count + 1)) (c .before .before .row-set .ensures)
-    ∙ put-new _ _ (entered (c .before .before .before .before .before .before .before)) out (s .pre .1) (s .pre .2) .is
+    let after-row-set : tie.After-row-set = search in
+    let else1 : tie.Else1 = search in
+    let after-row-test : tie.After-row-test = search in
+    let after-slice-known : tie.After-slice-known = search in
+    let start : tie.Start = search in
+    let out = sym (after-row-test .row-test .ensures) ∙ else1 .if1 .left in
+    ap (λ (t : List ℕ). tally t (start .args .count + 1)) (after-row-set .row-set .ensures)
+    ∙ put-new _ _ (entered after-slice-known) out (start .pre .1) (start .pre .2) .is
 
 pub put-pair-spec : {M : Type 1} → statement M
 put-pair-spec =
     tie.close
     (tie.spec
     row-test-requires
-    same-length
+    (λ c. search needs)  -- same-length
     returns
     row-set-requires
     add-result
-    same-length-2
+    (λ c. search needs)  -- same-length-2
     returns-2)

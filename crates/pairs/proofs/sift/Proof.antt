@@ -13,43 +13,53 @@ abbrev μ-loop : tie.MeasureT-loop
 μ-loop x hops u first chain word₀ way₀ left₀ word way left = left
 
 loop-holds : tie.Need-loop-holds Inv-loop μ-loop
-loop-holds c = sift-start _ _ _ _ _ (c .before .fits .x .fits)
-
-least-requires : tie.Need-least-requires Inv-loop μ-loop
-least-requires c κs = search needs
+loop-holds c =
+    let start : tie.Start Inv-loop μ-loop = search in
+    sift-start _ _ _ _ _ (start .fits .x .fits)
 
 add-way-by : tie.Need-add-way-by Inv-loop μ-loop
-add-way-by c = omega (arith, c .least .ensures .below, c .before .before .before .before .pre)
+add-way-by c =
+    let start : tie.Start Inv-loop μ-loop = search in
+    omega (arith, c .least .ensures .below, start .pre)
 
 way-by-requires : tie.Need-way-by-requires Inv-loop μ-loop
 way-by-requires c κs = (search needs, omega (arith, c .least .ensures .below))
 
-longer-requires : tie.Need-longer-requires Inv-loop μ-loop
-longer-requires c κs = search needs
-
 without-bit-requires : tie.Need-without-bit-requires Inv-loop μ-loop
-without-bit-requires c κs = c .before .before .before .least .ensures .below
-
-drop-least-requires : tie.Need-drop-least-requires Inv-loop μ-loop
-drop-least-requires c κs = search needs
+without-bit-requires c κs =
+    let after-least : tie.After-least Inv-loop μ-loop = search in
+    after-least .least .ensures .below
 
 loop-less : tie.Need-loop-less Inv-loop μ-loop
 loop-less c = c .drop-least .ensures .less
 
 loop-again : tie.Need-loop-again Inv-loop μ-loop
-loop-again c = sift-drop _ _ _ _ _ (c .before .before .before .before .before .before .before .loop .inv) (c .before .before .before .before .before .least .ensures) (c .drop-least .ensures) (c .before .without-bit .ensures) (c .before .before .before .before .way-by .ensures) (c .before .before .before .longer .ensures) (c .before .before .if1 .taken)
-
-drop-least-requires-2 : tie.Need-drop-least-requires-2 Inv-loop μ-loop
-drop-least-requires-2 c κs = search needs
+loop-again c =
+    let after-without-bit : tie.After-without-bit Inv-loop μ-loop = search in
+    let then1 : tie.Then1 Inv-loop μ-loop = search in
+    let after-longer : tie.After-longer Inv-loop μ-loop = search in
+    let after-way-by : tie.After-way-by Inv-loop μ-loop = search in
+    let after-least : tie.After-least Inv-loop μ-loop = search in
+    let at-loop : tie.At-loop Inv-loop μ-loop = search in
+    sift-drop _ _ _ _ _ (at-loop .loop .inv) (after-least .least .ensures) (c .drop-least .ensures)
+    (after-without-bit .without-bit .ensures) (after-way-by .way-by .ensures) (after-longer .longer .ensures) (then1 .if1 .taken)
 
 loop-less-2 : tie.Need-loop-less-2 Inv-loop μ-loop
 loop-less-2 c = c .drop-least2 .ensures .less
 
 loop-again-2 : tie.Need-loop-again-2 Inv-loop μ-loop
-loop-again-2 c = sift-keep _ _ _ _ _ (c .before .before .before .before .before .before .loop .inv) (c .before .before .before .before .least .ensures) (c .drop-least2 .ensures) (c .before .before .before .way-by .ensures) (c .before .before .longer .ensures) (omega arith)
+loop-again-2 c =
+    let after-longer : tie.After-longer Inv-loop μ-loop = search in
+    let after-way-by : tie.After-way-by Inv-loop μ-loop = search in
+    let after-least : tie.After-least Inv-loop μ-loop = search in
+    let at-loop : tie.At-loop Inv-loop μ-loop = search in
+    sift-keep _ _ _ _ _ (at-loop .loop .inv) (after-least .least .ensures) (c .drop-least2 .ensures) (after-way-by .way-by .ensures)
+    (after-longer .longer .ensures) (omega arith)
 
 returns : tie.Need-returns Inv-loop μ-loop
-returns c = sift-end _ _ _ _ _ (c .before .loop .inv) (omega arith)
+returns c =
+    let at-loop : tie.At-loop Inv-loop μ-loop = search in
+    sift-end _ _ _ _ _ (at-loop .loop .inv) (omega arith)
 
 pub sift-spec : {M : Type 1} → statement M
 sift-spec =
@@ -58,15 +68,15 @@ sift-spec =
     Inv-loop
     μ-loop
     loop-holds
-    least-requires
+    (λ c. search needs)  -- least-requires
     add-way-by
     way-by-requires
-    longer-requires
+    (λ c. search needs)  -- longer-requires
     without-bit-requires
-    drop-least-requires
+    (λ c. search needs)  -- drop-least-requires
     loop-less
     loop-again
-    drop-least-requires-2
+    (λ c. search needs)  -- drop-least-requires-2
     loop-less-2
     loop-again-2
     returns)

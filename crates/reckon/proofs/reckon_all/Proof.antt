@@ -9,65 +9,51 @@ use Rattle.reckon.proofs.reckon_all.Statement.{statement}
 use Rattle.reckon.proofs.reckon_all.Tie as tie
 use Rattle.map.proofs.Theorems.{base-shape}
 
--- src/lib.rt:139:9
-reckon-refusal-requires : tie.Need-reckon-refusal-requires
-reckon-refusal-requires c κs = search needs
-
--- src/lib.rt:150:9
 returns : tie.Need-returns
-returns c = refused-call base base-shape _ _ _ _ _ _ _ _ _ (c .before .reckon-refusal .ensures) (c .if1 .taken)
+returns c =
+    let after-reckon-refusal : tie.After-reckon-refusal = search in
+    refused-call base base-shape _ _ _ _ _ _ _ _ _ (after-reckon-refusal .reckon-refusal .ensures) (c .if1 .taken)
 
--- src/lib.rt:156:65
 slice-aggregate-reckon-map : tie.Need-slice-aggregate-reckon-map
 slice-aggregate-reckon-map c = search needs
 
--- src/lib.rt:156:9
 reckon-map-requires : tie.Need-reckon-map-requires
 reckon-map-requires c κs =
-    let z = sym (c .before .before .before .before .before .before .before .before .before .reckon-refusal .ensures) ∙ c .before .before .before .before .before .before .before .before .if1 .left in
-    let l = granted-long base _ _ _ z in
-    (l .links-fit, l .pairs-fit, l .hops-fit, l .bounds-fit, l .skips-fit, l .even-fit, l .odd-fit, omega (arith, slice-aggregate-reckon-map c), granted-net base _ _ _ base-shape z)
+    let else1 : tie.Else1 = search in
+    let after-reckon-refusal : tie.After-reckon-refusal = search in
+    let z = sym (after-reckon-refusal .reckon-refusal .ensures) ∙ else1 .if1 .left in
+    let l = granted-long base _ _ _ z in (
+      l .links-fit,
+      l .pairs-fit,
+      l .hops-fit,
+      l .bounds-fit,
+      l .skips-fit,
+      l .even-fit,
+      l .odd-fit,
+      omega (arith, slice-aggregate-reckon-map c),
+      granted-net base _ _ _ base-shape z,
+    )
 
--- src/lib.rt:127:1
-same-length : tie.Need-same-length
-same-length c = search needs
-
--- src/lib.rt:127:1
-same-length-2 : tie.Need-same-length-2
-same-length-2 c = search needs
-
--- src/lib.rt:127:1
-same-length-3 : tie.Need-same-length-3
-same-length-3 c = search needs
-
--- src/lib.rt:127:1
-same-length-4 : tie.Need-same-length-4
-same-length-4 c = search needs
-
--- src/lib.rt:127:1
-same-length-5 : tie.Need-same-length-5
-same-length-5 c = search needs
-
--- src/lib.rt:127:1
-same-length-6 : tie.Need-same-length-6
-same-length-6 c = search needs
-
--- src/lib.rt:127:1
 returns-2 : tie.Need-returns-2
-returns-2 c = accepted-call base base-shape _ _ _ _ _ _ _ _ (sym (c .before .before .before .before .before .before .before .before .before .before .before .before .before .before .before .before .before .before .before .before .before .if1 .left) ∙ c .before .before .before .before .before .before .before .before .before .before .before .before .before .before .before .before .before .before .before .before .before .before .reckon-refusal .ensures) _ _ _ _ (c .before .before .before .before .before .before .before .before .before .before .before .before .reckon-map .ensures)
+returns-2 c =
+    let after-reckon-map : tie.After-reckon-map = search in
+    let else1 : tie.Else1 = search in
+    let after-reckon-refusal : tie.After-reckon-refusal = search in
+    accepted-call base base-shape _ _ _ _ _ _ _ _ (sym (else1 .if1 .left) ∙ after-reckon-refusal .reckon-refusal .ensures) _ _ _ _
+    (after-reckon-map .reckon-map .ensures)
 
 pub reckon-all-spec : {M : Type 1} → statement M
 reckon-all-spec =
     tie.close
     (tie.spec
-    reckon-refusal-requires
+    (λ c. search needs)  -- reckon-refusal-requires
     returns
     slice-aggregate-reckon-map
     reckon-map-requires
-    same-length
-    same-length-2
-    same-length-3
-    same-length-4
-    same-length-5
-    same-length-6
+    (λ c. search needs)  -- same-length
+    (λ c. search needs)  -- same-length-2
+    (λ c. search needs)  -- same-length-3
+    (λ c. search needs)  -- same-length-4
+    (λ c. search needs)  -- same-length-5
+    (λ c. search needs)  -- same-length-6
     returns-2)

@@ -10,20 +10,32 @@ use Rattle.report.proofs.put_field.Statement.{statement}
 use Rattle.report.proofs.put_field.Tie as tie
 
 slice-write-line : tie.Need-slice-write-line
-slice-write-line c = omega (arith, field-length (decimal (c .before .args .n)))
-
-add-put-number : tie.Need-add-put-number
-add-put-number c = search needs
+slice-write-line c =
+    let start : tie.Start = search in
+    omega (arith, field-length (decimal (start .args .n)))
 
 put-number-requires : tie.Need-put-number-requires
-put-number-requires c κs = simp length-set (omega (arith, field-length (decimal (c .before .before .args .n))))
+put-number-requires c κs =
+    let start : tie.Start = search in
+    simp length-set (omega (arith, field-length (decimal (start .args .n))))
 
 same-length : tie.Need-same-length
-same-length c = c .before .before .put-number .kept .0 ∙ simp length-set
+same-length c =
+    let after-put-number : tie.After-put-number = search in
+    after-put-number .put-number .kept .0 ∙ simp length-set
 
 returns : tie.Need-returns
-returns c = field-placed (c .before .before .put-number .ensures) (omega (arith, field-length (decimal (c .before .before .before .before .before .args .n))))
+returns c =
+    let after-put-number : tie.After-put-number = search in
+    let start : tie.Start = search in
+    field-placed (after-put-number .put-number .ensures) (omega (arith, field-length (decimal (start .args .n))))
 
 pub put-field-spec : {M : Type 1} → statement M
 put-field-spec =
-    tie.close (tie.spec slice-write-line add-put-number put-number-requires same-length returns)
+    tie.close
+    (tie.spec
+    slice-write-line
+    (λ c. search needs)  -- add-put-number
+    put-number-requires
+    same-length
+    returns)

@@ -1,6 +1,5 @@
 -- `report::put_figures` meets its contract: the four fields, each behind the one before it.
 -- Assumes nothing.
-use mathlib.Core.Path.{_∙_}
 use native.Mathlib.Omega.{arith}
 use Rattle.report.specs.Line.{figuresText}
 use Rattle.report.proofs.Places.{placed-join}
@@ -9,44 +8,69 @@ use borrow.Author.Needs.{needs}
 use Rattle.report.proofs.put_figures.Statement.{statement}
 use Rattle.report.proofs.put_figures.Tie as tie
 
-cast-put-field : tie.Need-cast-put-field
-cast-put-field c = search needs
+-- the way back, from each place to the one before it
+abbrev before-put-field4 : tie.After-put-field4 → tie.After-put-field3
+before-put-field4 c = search
+
+abbrev before-put-field3 : tie.After-put-field3 → tie.After-put-field2
+before-put-field3 c = search
+
+abbrev before-put-field2 : tie.After-put-field2 → tie.After-put-field
+before-put-field2 c = search
+
+abbrev before-put-field : tie.After-put-field → tie.Start
+before-put-field c = search
+
+ruleset back = (before-put-field4, before-put-field3, before-put-field2, before-put-field)
 
 put-field-requires : tie.Need-put-field-requires
-put-field-requires c κs = omega (arith, figures-length (c .before .before .before .args .report))
-
-cast-put-field-2 : tie.Need-cast-put-field-2
-cast-put-field-2 c = search needs
+put-field-requires c κs =
+    let start : tie.Start = search back in
+    omega (arith, figures-length (start .args .report))
 
 put-field-requires-2 : tie.Need-put-field-requires-2
-put-field-requires-2 c κs = omega (arith, figures-length (c .before .before .before .before .before .before .before .before .args .report))
+put-field-requires-2 c κs =
+    let start : tie.Start = search back in
+    omega (arith, figures-length (start .args .report))
 
 put-field-requires-3 : tie.Need-put-field-requires-3
-put-field-requires-3 c κs = omega (arith, figures-length (c .before .before .before .before .before .before .before .before .before .before .before .before .args .report))
-
-cast-put-field-3 : tie.Need-cast-put-field-3
-cast-put-field-3 c = search needs
+put-field-requires-3 c κs =
+    let start : tie.Start = search back in
+    omega (arith, figures-length (start .args .report))
 
 put-field-requires-4 : tie.Need-put-field-requires-4
-put-field-requires-4 c κs = omega (arith, figures-length (c .before .before .before .before .before .before .before .before .before .before .before .before .before .before .before .before .before .args .report))
+put-field-requires-4 c κs =
+    let start : tie.Start = search back in
+    omega (arith, figures-length (start .args .report))
 
 same-length : tie.Need-same-length
-same-length c = c .before .before .put-field4 .kept .0 ∙ c .before .before .before .before .before .before .before .put-field3 .kept .0 ∙ c .before .before .before .before .before .before .before .before .before .before .before .put-field2 .kept .0 ∙ c .before .before .before .before .before .before .before .before .before .before .before .before .before .before .before .before .put-field .kept .0
+same-length c =
+    let after-put-field4 : tie.After-put-field4 = search back in
+    let after-put-field3 : tie.After-put-field3 = search back in
+    let after-put-field2 : tie.After-put-field2 = search back in
+    let after-put-field : tie.After-put-field = search back in
+    omega (arith, after-put-field4 .put-field4 .kept, after-put-field3 .put-field3 .kept, after-put-field2 .put-field2 .kept, after-put-field .put-field .kept)
 
 returns : tie.Need-returns
 unfolding figuresText
-returns c = placed-join (placed-join (placed-join (c .before .before .before .before .before .before .before .before .before .before .before .before .before .before .before .before .put-field .ensures) (c .before .before .before .before .before .before .before .before .before .before .before .put-field2 .ensures) (omega arith)) (c .before .before .before .before .before .before .before .put-field3 .ensures) (omega arith)) (c .before .before .put-field4 .ensures) (omega arith)
+returns c =
+    let after-put-field4 : tie.After-put-field4 = search back in
+    let after-put-field3 : tie.After-put-field3 = search back in
+    let after-put-field2 : tie.After-put-field2 = search back in
+    let after-put-field : tie.After-put-field = search back in
+    placed-join (placed-join (placed-join (after-put-field .put-field .ensures) (after-put-field2 .put-field2 .ensures) (omega arith))
+    (after-put-field3 .put-field3 .ensures) (omega arith)) (after-put-field4 .put-field4 .ensures) (omega arith)
 
 pub put-figures-spec : {M : Type 1} → statement M
 put-figures-spec =
     tie.close
     (tie.spec
-    cast-put-field
+    (λ c. search needs)  -- cast-put-field
     put-field-requires
-    cast-put-field-2
+    (λ c. search needs)  -- cast-put-field-2
     put-field-requires-2
     put-field-requires-3
-    cast-put-field-3
+    (λ c. search needs)  -- cast-put-field-3
     put-field-requires-4
     same-length
     returns)

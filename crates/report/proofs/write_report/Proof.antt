@@ -24,26 +24,47 @@ unfolding writtenOf
 returns c = report-short _ _ (omega arith)
 
 put-number-requires : tie.Need-put-number-requires
-put-number-requires c κs = omega (arith, number-fits (c .before .before .before), figures-fit (c .before .before .before))
+put-number-requires c κs =
+    let start : tie.Start = search in
+    omega (arith, number-fits start, figures-fit start)
 
 put-outcome-requires : tie.Need-put-outcome-requires
-put-outcome-requires c κs = omega (arith, number-fits (c .before .before .before .before .before .before .before), figures-fit (c .before .before .before .before .before .before .before))
+put-outcome-requires c κs =
+    let start : tie.Start = search in
+    omega (arith, number-fits start, figures-fit start)
 
 put-figures-requires : tie.Need-put-figures-requires
-put-figures-requires c κs = omega (arith, number-fits (c .before .before .before .before .before .before .before .before .before .before .before), figures-fit (c .before .before .before .before .before .before .before .before .before .before .before))
+put-figures-requires c κs =
+    let start : tie.Start = search in
+    omega (arith, number-fits start, figures-fit start)
 
 slice-write-line : tie.Need-slice-write-line
-slice-write-line c = omega (arith, number-fits (c .before .before .before .before .before .before .before .before .before .before .before .before .before .before), figures-fit (c .before .before .before .before .before .before .before .before .before .before .before .before .before .before))
+slice-write-line c =
+    let start : tie.Start = search in
+    omega (arith, number-fits start, figures-fit start)
 
 add-t7 : tie.Need-add-t7
-add-t7 c = omega (arith, number-fits (c .before .before .before .before .before .before .before .before .before .before .before .before .before .before), figures-fit (c .before .before .before .before .before .before .before .before .before .before .before .before .before .before))
+add-t7 c =
+    let start : tie.Start = search in
+    omega (arith, number-fits start, figures-fit start)
 
 same-length : tie.Need-same-length
-same-length c = simp length-set (c .before .before .put-figures .kept .0 ∙ c .before .before .before .before .before .before .put-outcome .kept .0 ∙ c .before .before .before .before .before .before .before .before .before .before .put-number .kept .0)
+same-length c =
+    let after-put-figures : tie.After-put-figures = search in
+    let after-put-outcome : tie.After-put-outcome = search in
+    let after-put-number : tie.After-put-number = search in
+    simp length-set (after-put-figures .put-figures .kept .0 ∙ after-put-outcome .put-outcome .kept .0 ∙ after-put-number .put-number .kept .0)
 
 returns-2 : tie.Need-returns-2
 unfolding writtenOf
-returns-2 c = report-done _ (line-placed _ (c .before .before .before .before .before .before .before .before .before .before .put-number .ensures) (c .before .before .before .before .before .before .put-outcome .ensures .0) (c .before .before .put-figures .ensures) (omega (arith, number-fits (c .before .before .before .before .before .before .before .before .before .before .before .before .before .before), figures-fit (c .before .before .before .before .before .before .before .before .before .before .before .before .before .before)))) (c .before .before .before .before .before .before .before .before .before .before .before .before .if1 .left)
+returns-2 c =
+    let after-put-figures : tie.After-put-figures = search in
+    let after-put-outcome : tie.After-put-outcome = search in
+    let after-put-number : tie.After-put-number = search in
+    let else1 : tie.Else1 = search in
+    let start : tie.Start = search in
+    report-done _ (line-placed _ (after-put-number .put-number .ensures) (after-put-outcome .put-outcome .ensures .0)
+    (after-put-figures .put-figures .ensures) (omega (arith, number-fits start, figures-fit start))) (else1 .if1 .left)
 
 pub write-report-spec : {M : Type 1} → statement M
 write-report-spec =

@@ -1,9 +1,8 @@
 -- `rounds::run_rounds` meets its contract. The loop's invariant is `AtRound` (Turns.antt): from here the rounds end where they end from the start.
 -- The measure is the number of remaining depots. Assumes nothing.
-use mathlib.Core.Path.{_≡_, refl, subst, _∙_}
+use mathlib.Core.Path.{_≡_, subst}
 use mathlib.Core.Option.{some}
 use Prim.Native.Nat.{_*_}
-use native.Mathlib.Omega.{arith}
 use lib.ListN.{length}
 use Rattle.lists.specs.Lists.{range, countb}
 use Rattle.rows.specs.Rows.{rowBit}
@@ -20,112 +19,84 @@ use Rattle.rounds.proofs.run_rounds.Tie as tie
 
 abbrev Inv-loop : tie.InvT-loop
 Inv-loop hops₀ even₀ odd₀ seen₀ next₀ pairs₀ bounds₀ skips₀ ranks₀ links words mark now₀ hops even odd seen next pairs bounds skips ranks now =
-    AtRound words links mark (workspace (tables hops₀ even₀ odd₀) (tally pairs₀ (now₀ .count)) (marks bounds₀ skips₀ (waitingOf words ranks₀)) (now₀ .candidate) (now₀ .searches)) (workspace (tables hops even odd) (tally pairs (now .count)) (marks bounds skips (waitingOf words ranks)) (now .candidate) (now .searches)) × (length hops ≡ length hops₀) × (length even ≡ length even₀) × (length odd ≡ length odd₀) × (length seen ≡ length seen₀) × (length next ≡ length next₀) × (length pairs ≡ length pairs₀) × (length bounds ≡ length bounds₀) × (length skips ≡ length skips₀) × (length ranks ≡ length ranks₀) × AreRanks words links ranks
+    AtRound words links mark
+    (workspace (tables hops₀ even₀ odd₀) (tally pairs₀ (now₀ .count)) (marks bounds₀ skips₀ (waitingOf words ranks₀)) (now₀ .candidate) (now₀ .searches))
+    (workspace (tables hops even odd) (tally pairs (now .count)) (marks bounds skips (waitingOf words ranks)) (now .candidate) (now .searches))
+    × (length hops ≡ length hops₀)
+    × (length even ≡ length even₀)
+    × (length odd ≡ length odd₀)
+    × (length seen ≡ length seen₀)
+    × (length next ≡ length next₀)
+    × (length pairs ≡ length pairs₀)
+    × (length bounds ≡ length bounds₀)
+    × (length skips ≡ length skips₀)
+    × (length ranks ≡ length ranks₀)
+    × AreRanks words links ranks
 
 abbrev μ-loop : tie.MeasureT-loop
-μ-loop hops₀ even₀ odd₀ seen₀ next₀ pairs₀ bounds₀ skips₀ ranks₀ links words mark now₀ hops even odd seen next pairs bounds skips ranks now = countb (rowBit words (waitingOf words ranks)) (range (64 * words))
+μ-loop hops₀ even₀ odd₀ seen₀ next₀ pairs₀ bounds₀ skips₀ ranks₀ links words mark now₀ hops even odd seen next pairs bounds skips ranks now =
+    countb (rowBit words (waitingOf words ranks)) (range (64 * words))
 
 -- the depot picked
-picked : (c : tie.After-known-told Inv-loop μ-loop) → pickIn (c .before .before .before .before .before .before .before .before .before .before .before .before .before .before .before .before .args .words) (c .before .before .before .before .before .before .before .before .before .before .before .before .before .before .before .before .args .links .now) (waitingOf (c .before .before .before .before .before .before .before .before .before .before .before .before .before .before .before .before .args .words) (c .before .before .before .before .before .loop .ranks)) ≡ some (c .before .found .given .0 .0)
-picked c = ranked-pick _ _ _ (c .before .before .before .before .before .loop .inv .10) _ (subst (PickIs _ _) (c .before .found .given .1) (c .before .before .before .pick-next .ensures))
+picked : (c : tie.After-known-told Inv-loop μ-loop) →
+    let after-found : tie.After-found Inv-loop μ-loop = search in
+    let at-loop : tie.At-loop Inv-loop μ-loop = search in
+    let start : tie.Start Inv-loop μ-loop = search in
+    pickIn (start .args .words) (start .args .links .now) (waitingOf (start .args .words) (at-loop .loop .ranks)) ≡ some
+    (after-found .found .given .0 .0)
+picked c =
+    let after-found : tie.After-found Inv-loop μ-loop = search in
+    let after-pick-next : tie.After-pick-next Inv-loop μ-loop = search in
+    let at-loop : tie.At-loop Inv-loop μ-loop = search in
+    ranked-pick _ _ _ (at-loop .loop .inv .10) _ (subst (PickIs _ _) (after-found .found .given .1) (after-pick-next .pick-next .ensures))
 
--- src/lib.rt:148:5
 loop-holds : tie.Need-loop-holds Inv-loop μ-loop
-loop-holds c = (at-start _ _ _ _ (c .before .before .before .before .before .before .before .before .before .before .pre .1), refl, refl, refl, refl, refl, refl, refl, refl, refl, c .before .before .before .before .before .before .before .before .before .before .pre .3)
+loop-holds c = search at-start
 
--- src/lib.rt:149:13
-pick-next-requires : tie.Need-pick-next-requires Inv-loop μ-loop
-pick-next-requires c κs =
-    let pre = c .before .before .before .before .before .before .before .before .before .before .before .before .pre in
-    let v = c .before .loop .inv in
-    (pre .2 .most, omega (arith, pre .2 .rankPlaces, v .9))
-
--- src/lib.rt:150:22
-enum-known-found : tie.Need-enum-known-found Inv-loop μ-loop
-enum-known-found c = search needs
-
--- src/lib.rt:151:13
-enum-told : tie.Need-enum-told Inv-loop μ-loop
-enum-told c = search needs
-
--- src/lib.rt:151:13
-same-length : tie.Need-same-length Inv-loop μ-loop
-same-length c = search needs
-
--- src/lib.rt:151:13
-same-length-2 : tie.Need-same-length-2 Inv-loop μ-loop
-same-length-2 c = search needs
-
--- src/lib.rt:151:13
-same-length-3 : tie.Need-same-length-3 Inv-loop μ-loop
-same-length-3 c = search needs
-
--- src/lib.rt:151:13
-same-length-4 : tie.Need-same-length-4 Inv-loop μ-loop
-same-length-4 c = search needs
-
--- src/lib.rt:151:13
-same-length-5 : tie.Need-same-length-5 Inv-loop μ-loop
-same-length-5 c = search needs
-
--- src/lib.rt:151:13
-same-length-6 : tie.Need-same-length-6 Inv-loop μ-loop
-same-length-6 c = search needs
-
--- src/lib.rt:151:13
-same-length-7 : tie.Need-same-length-7 Inv-loop μ-loop
-same-length-7 c = search needs
-
--- src/lib.rt:151:13
-same-length-8 : tie.Need-same-length-8 Inv-loop μ-loop
-same-length-8 c = search needs
-
--- src/lib.rt:151:13
-same-length-9 : tie.Need-same-length-9 Inv-loop μ-loop
-same-length-9 c = search needs
-
--- src/lib.rt:151:13
 returns : tie.Need-returns Inv-loop μ-loop
-returns c = going-end _ _ _ _ _ (c .before .before .before .before .loop .inv .0 .going) (ranked-none _ _ _ (c .before .before .before .before .loop .inv .10) (subst (PickIs _ _) (c .enum-told .given .1) (c .before .before .pick-next .ensures)))
+returns c =
+    let after-pick-next : tie.After-pick-next Inv-loop μ-loop = search in
+    let at-loop : tie.At-loop Inv-loop μ-loop = search in
+    going-end _ _ _ _ _ (at-loop .loop .inv .0 .going)
+    (ranked-none _ _ _ (at-loop .loop .inv .10) (subst (PickIs _ _) (c .enum-told .given .1) (after-pick-next .pick-next .ensures)))
 
--- src/lib.rt:153:13
 round-requires : tie.Need-round-requires Inv-loop μ-loop
 round-requires c κs =
-    let pre = c .before .before .before .before .before .before .before .before .before .before .before .before .before .before .before .before .before .before .before .before .before .before .before .before .before .pre in
-    let v = c .before .before .before .before .before .before .before .before .before .before .before .before .before .before .loop .inv in
-    let p = picked-in _ _ _ _ (picked (c .before .before .before .before .before .before .before .before .before)) in (
-      record {
-        table = pre .0 .table;
-        hopPlaces = omega (arith, pre .0 .hopPlaces, v .1);
-        evenRow = omega (arith, pre .0 .evenRow, v .2);
-        oddRow = omega (arith, pre .0 .oddRow, v .3);
-        seenRow = omega (arith, pre .0 .seenRow, v .4);
-        nextRow = omega (arith, pre .0 .nextRow, v .5);
-      },
-      v .0 .counted,
-      record {
-        positive = pre .2 .positive;
-        most = pre .2 .most;
-        boundPlaces = omega (arith, pre .2 .boundPlaces, v .7);
-        skipPlaces = omega (arith, pre .2 .skipPlaces, v .8);
-        rankPlaces = omega (arith, pre .2 .rankPlaces, v .9);
-      },
+    let after-known-told : tie.After-known-told Inv-loop μ-loop = search in
+    let at-loop : tie.At-loop Inv-loop μ-loop = search in
+    let start : tie.Start Inv-loop μ-loop = search in
+    let p = picked-in _ _ _ _ (picked after-known-told) in (
+      search needs,
+      search needs,
+      search needs,
       p .0,
-      room-left _ _ _ _ _ (v .0) (pre .4) (pre .2 .most),
+      search (room-left, needs),
     )
 
--- src/lib.rt:148:5
 loop-less : tie.Need-loop-less Inv-loop μ-loop
 loop-less c =
-    let v = c .before .before .before .before .before .before .before .before .before .before .before .before .before .before .before .before .before .before .before .before .before .before .before .before .before .before .before .before .before .before .before .before .before .loop .inv in
-    fewer-remain _ _ _ _ _ _ _ _ _ _ (picked (c .before .before .before .before .before .before .before .before .before .before .before .before .before .before .before .before .before .before .before .before .before .before .before .before .before .before .before .before)) (waiting-fits _ _) (c .before .before .before .before .before .before .before .before .before .before .before .before .before .before .before .before .before .before .round .ensures .0)
+    let after-round : tie.After-round Inv-loop μ-loop = search in
+    let after-known-told : tie.After-known-told Inv-loop μ-loop = search in
+    fewer-remain _ _ _ _ _ _ _ _ _ _ (picked after-known-told) (waiting-fits _ _) (after-round .round .ensures .0)
 
--- src/lib.rt:148:5
 loop-again : tie.Need-loop-again Inv-loop μ-loop
 loop-again c =
-    let v = c .before .before .before .before .before .before .before .before .before .before .before .before .before .before .before .before .before .before .before .before .before .before .before .before .before .before .before .before .before .before .before .before .before .loop .inv in
-    let k = c .before .before .before .before .before .before .before .before .before .before .before .before .before .before .before .before .before .before .round .kept in
-    (at-next _ _ _ _ _ _ _ _ _ _ _ _ (v .0) (picked (c .before .before .before .before .before .before .before .before .before .before .before .before .before .before .before .before .before .before .before .before .before .before .before .before .before .before .before .before)) (waiting-fits _ _) (c .before .before .before .before .before .before .before .before .before .before .before .before .before .before .before .before .before .before .round .ensures .0), k .0 ∙ v .1, k .1 .0 ∙ v .2, k .1 .1 .0 ∙ v .3, k .1 .1 .1 .0 ∙ v .4, k .1 .1 .1 .1 .0 ∙ v .5, k .1 .1 .1 .1 .1 .0 ∙ v .6, k .1 .1 .1 .1 .1 .1 .0 ∙ v .7, k .1 .1 .1 .1 .1 .1 .1 .0 ∙ v .8, k .1 .1 .1 .1 .1 .1 .1 .1 .0 ∙ v .9, thinned-ranks _ _ _ _ (c .before .before .before .before .before .before .before .before .before .before .before .before .before .before .before .before .before .before .round .ensures .1) (v .10))
+    let after-round : tie.After-round Inv-loop μ-loop = search in
+    let after-known-told : tie.After-known-told Inv-loop μ-loop = search in
+    let at-loop : tie.At-loop Inv-loop μ-loop = search in
+    let v = at-loop .loop .inv in (
+      at-next _ _ _ _ _ _ _ _ _ _ _ _ (v .0) (picked after-known-told) (waiting-fits _ _) (after-round .round .ensures .0),
+      search needs,
+      search needs,
+      search needs,
+      search needs,
+      search needs,
+      search needs,
+      search needs,
+      search needs,
+      search needs,
+      search (thinned-ranks, needs),
+    )
 
 pub run-rounds-spec : {M : Type 1} → statement M
 run-rounds-spec =
@@ -134,18 +105,18 @@ run-rounds-spec =
     Inv-loop
     μ-loop
     loop-holds
-    pick-next-requires
-    enum-known-found
-    enum-told
-    same-length
-    same-length-2
-    same-length-3
-    same-length-4
-    same-length-5
-    same-length-6
-    same-length-7
-    same-length-8
-    same-length-9
+    (λ c. search needs)  -- pick-next-requires
+    (λ c. search needs)  -- enum-known-found
+    (λ c. search needs)  -- enum-told
+    (λ c. search needs)  -- same-length
+    (λ c. search needs)  -- same-length-2
+    (λ c. search needs)  -- same-length-3
+    (λ c. search needs)  -- same-length-4
+    (λ c. search needs)  -- same-length-5
+    (λ c. search needs)  -- same-length-6
+    (λ c. search needs)  -- same-length-7
+    (λ c. search needs)  -- same-length-8
+    (λ c. search needs)  -- same-length-9
     returns
     round-requires
     loop-less

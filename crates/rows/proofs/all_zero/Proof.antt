@@ -15,26 +15,16 @@ abbrev μ-loop : tie.MeasureT-loop
 loop-holds : tie.Need-loop-holds Inv-loop μ-loop
 loop-holds c = union-start _ _ _
 
-add-union : tie.Need-add-union Inv-loop μ-loop
-add-union c = search needs
-
-mul-union : tie.Need-mul-union Inv-loop μ-loop
-mul-union c = search needs
-
-shared-slice-read-union : tie.Need-shared-slice-read-union Inv-loop μ-loop
-shared-slice-read-union c = search needs
-
-add-j : tie.Need-add-j Inv-loop μ-loop
-add-j c = search needs
-
-loop-less : tie.Need-loop-less Inv-loop μ-loop
-loop-less c = search needs
-
 loop-again : tie.Need-loop-again Inv-loop μ-loop
-loop-again c = union-more _ _ _ (c .before .before .loop .inv) (c .before .loop-test .taken)
+loop-again c =
+    let in-loop : tie.In-loop Inv-loop μ-loop = search in
+    let at-loop : tie.At-loop Inv-loop μ-loop = search in
+    union-more _ _ _ (at-loop .loop .inv) (in-loop .loop-test .taken)
 
 returns : tie.Need-returns Inv-loop μ-loop
-returns c = union-end _ _ _ (c .before .loop .inv) (c .loop-test .left)
+returns c =
+    let at-loop : tie.At-loop Inv-loop μ-loop = search in
+    union-end _ _ _ (at-loop .loop .inv) (c .loop-test .left)
 
 pub all-zero-spec : {M : Type 1} → statement M
 all-zero-spec =
@@ -43,10 +33,10 @@ all-zero-spec =
     Inv-loop
     μ-loop
     loop-holds
-    add-union
-    mul-union
-    shared-slice-read-union
-    add-j
-    loop-less
+    (λ c. search needs)  -- add-union
+    (λ c. search needs)  -- mul-union
+    (λ c. search needs)  -- shared-slice-read-union
+    (λ c. search needs)  -- add-j
+    (λ c. search needs)  -- loop-less
     loop-again
     returns)

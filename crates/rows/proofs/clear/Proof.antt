@@ -21,30 +21,18 @@ abbrev μ-loop : tie.MeasureT-loop
 loop-holds : tie.Need-loop-holds Inv-loop μ-loop
 loop-holds c = (omega arith, refl, turn-none _ _)
 
-mul-row : tie.Need-mul-row Inv-loop μ-loop
-mul-row c = search needs
-
-slice-write-row : tie.Need-slice-write-row Inv-loop μ-loop
-slice-write-row c = search needs
-
-add-j : tie.Need-add-j Inv-loop μ-loop
-add-j c = search needs
-
-loop-less : tie.Need-loop-less Inv-loop μ-loop
-loop-less c = search needs
-
 loop-again : tie.Need-loop-again Inv-loop μ-loop
 loop-again c =
-    let l = c .before .loop in
+    let at-loop : tie.At-loop Inv-loop μ-loop = search in
+    let l = at-loop .loop in
     (omega arith, simp length-set (l .inv .1), turn-clear _ (l .row) (l .j) (l .inv .2) (omega arith))
-
-same-length : tie.Need-same-length Inv-loop μ-loop
-same-length c = search needs
 
 returns : tie.Need-returns Inv-loop μ-loop
 returns c =
-    let e : c .before .loop .j ≡ c .before .before .args .words = omega arith in
-    rw e at (c .before .loop .inv .2)
+    let at-loop : tie.At-loop Inv-loop μ-loop = search in
+    let start : tie.Start Inv-loop μ-loop = search in
+    let e : at-loop .loop .j ≡ start .args .words = omega arith in
+    rw e at (at-loop .loop .inv .2)
 
 pub clear-spec : {M : Type 1} → statement M
 clear-spec =
@@ -53,10 +41,10 @@ clear-spec =
     Inv-loop
     μ-loop
     loop-holds
-    mul-row
-    slice-write-row
-    add-j
-    loop-less
+    (λ c. search needs)  -- mul-row
+    (λ c. search needs)  -- slice-write-row
+    (λ c. search needs)  -- add-j
+    (λ c. search needs)  -- loop-less
     loop-again
-    same-length
+    (λ c. search needs)  -- same-length
     returns)

@@ -20,41 +20,16 @@ Inv-loop t words u base sum₀ j₀ sum j = (base ≡ words * u) × (j ≤ words
 abbrev μ-loop : tie.MeasureT-loop
 μ-loop t words u base sum₀ j₀ sum j = words - j
 
-mul-base : tie.Need-mul-base Inv-loop μ-loop
-mul-base c = search needs
-
 loop-holds : tie.Need-loop-holds Inv-loop μ-loop
 unfolding countb range from
 loop-holds c = search needs
 
-add-count : tie.Need-add-count Inv-loop μ-loop
-add-count c = search needs
-
-mul-count : tie.Need-mul-count Inv-loop μ-loop
-mul-count c = search needs
-
-shared-slice-read-count : tie.Need-shared-slice-read-count Inv-loop μ-loop
-shared-slice-read-count c = search needs
-
-count-requires : tie.Need-count-requires Inv-loop μ-loop
-count-requires c κs = search needs
-
-cast-sum : tie.Need-cast-sum Inv-loop μ-loop
-cast-sum c = search needs
-
-add-sum : tie.Need-add-sum Inv-loop μ-loop
-add-sum c = search needs
-
-add-j : tie.Need-add-j Inv-loop μ-loop
-add-j c = search needs
-
-loop-less : tie.Need-loop-less Inv-loop μ-loop
-loop-less c = search needs
-
 loop-again : tie.Need-loop-again Inv-loop μ-loop
 loop-again c =
-    let a = c .before .before .before .before .before .args in
-    let j = c .before .before .before .loop .j in
+    let at-loop : tie.At-loop Inv-loop μ-loop = search in
+    let start : tie.Start Inv-loop μ-loop = search in
+    let a = start .args in
+    let j = at-loop .loop .j in
     let w = getD (a .t .now) (a .words * a .u + j) 0 in
     let more = count-word (a .words) (a .t .now) (a .u) j (omega arith) (omega arith) in
     let few = count-le-length (bit w) (range 64) in
@@ -62,9 +37,11 @@ loop-again c =
 
 returns : tie.Need-returns Inv-loop μ-loop
 returns c =
-    let a = c .before .before .before .args in
-    let e : c .before .loop .j ≡ a .words = omega arith in
-    c .before .loop .inv .2 ∙ ap (λ (n : ℕ). countb (tableBit (a .words) (a .t .now) (a .u)) (range (64 * n))) e
+    let at-loop : tie.At-loop Inv-loop μ-loop = search in
+    let start : tie.Start Inv-loop μ-loop = search in
+    let a = start .args in
+    let e : at-loop .loop .j ≡ a .words = omega arith in
+    at-loop .loop .inv .2 ∙ ap (λ (n : ℕ). countb (tableBit (a .words) (a .t .now) (a .u)) (range (64 * n))) e
 
 pub degree-spec : {M : Type 1} → statement M
 degree-spec =
@@ -72,15 +49,15 @@ degree-spec =
     (tie.spec
     Inv-loop
     μ-loop
-    mul-base
+    (λ c. search needs)  -- mul-base
     loop-holds
-    add-count
-    mul-count
-    shared-slice-read-count
-    count-requires
-    cast-sum
-    add-sum
-    add-j
-    loop-less
+    (λ c. search needs)  -- add-count
+    (λ c. search needs)  -- mul-count
+    (λ c. search needs)  -- shared-slice-read-count
+    (λ c. search needs)  -- count-requires
+    (λ c. search needs)  -- cast-sum
+    (λ c. search needs)  -- add-sum
+    (λ c. search needs)  -- add-j
+    (λ c. search needs)  -- loop-less
     loop-again
     returns)

@@ -19,34 +19,29 @@ abbrev μ-loop : tie.MeasureT-loop
 loop-holds : tie.Need-loop-holds Inv-loop μ-loop
 loop-holds c = (omega arith, λ k l m. absurd (omega arith))
 
-mul-if1 : tie.Need-mul-if1 Inv-loop μ-loop
-mul-if1 c = search needs
-
-shared-slice-read-if1 : tie.Need-shared-slice-read-if1 Inv-loop μ-loop
-shared-slice-read-if1 c = search needs
-
 returns : tie.Need-returns Inv-loop μ-loop
 returns c =
-    let a = c .before .before .before .before .args in
-    let j = c .before .before .before .loop .j in
-    ap not (sym (any-word (a .words) (a .row .now) j (omega arith) (c .before .shared-slice-known .given j .fits) (c .if1 .taken)))
-
-add-j : tie.Need-add-j Inv-loop μ-loop
-add-j c = search needs
-
-loop-less : tie.Need-loop-less Inv-loop μ-loop
-loop-less c = search needs
+    let after-shared-slice-known : tie.After-shared-slice-known Inv-loop μ-loop = search in
+    let at-loop : tie.At-loop Inv-loop μ-loop = search in
+    let start : tie.Start Inv-loop μ-loop = search in
+    let a = start .args in
+    let j = at-loop .loop .j in
+    ap not (sym (any-word (a .words) (a .row .now) j (omega arith) (after-shared-slice-known .shared-slice-known .given j .fits) (c .if1 .taken)))
 
 loop-again : tie.Need-loop-again Inv-loop μ-loop
 loop-again c =
-    let a = c .before .before .before .before .args in
-    let l = c .before .before .before .loop in
+    let at-loop : tie.At-loop Inv-loop μ-loop = search in
+    let start : tie.Start Inv-loop μ-loop = search in
+    let a = start .args in
+    let l = at-loop .loop in
     (omega arith, passed-more (a .words) (a .row .now) 0 (l .j) (omega arith) (c .if1 .left) (l .inv .1))
 
 returns-2 : tie.Need-returns-2 Inv-loop μ-loop
 returns-2 c =
-    let a = c .before .before .args in
-    ap not (sym (any-none (a .words) (a .row .now) (λ v h. c .before .loop .inv .1 v (omega arith) (omega arith))))
+    let at-loop : tie.At-loop Inv-loop μ-loop = search in
+    let start : tie.Start Inv-loop μ-loop = search in
+    let a = start .args in
+    ap not (sym (any-none (a .words) (a .row .now) (λ v h. at-loop .loop .inv .1 v (omega arith) (omega arith))))
 
 pub is-empty-spec : {M : Type 1} → statement M
 is-empty-spec =
@@ -55,10 +50,10 @@ is-empty-spec =
     Inv-loop
     μ-loop
     loop-holds
-    mul-if1
-    shared-slice-read-if1
+    (λ c. search needs)  -- mul-if1
+    (λ c. search needs)  -- shared-slice-read-if1
     returns
-    add-j
-    loop-less
+    (λ c. search needs)  -- add-j
+    (λ c. search needs)  -- loop-less
     loop-again
     returns-2)

@@ -23,26 +23,22 @@ abbrev μ-loop : tie.MeasureT-loop
 loop-holds : tie.Need-loop-holds Inv-loop μ-loop
 loop-holds c = (omega arith, all-none _)
 
-mul-loop : tie.Need-mul-loop Inv-loop μ-loop
-mul-loop c = search needs
-
-is-reached-requires : tie.Need-is-reached-requires Inv-loop μ-loop
-is-reached-requires c κs = search needs
-
 returns : tie.Need-returns Inv-loop μ-loop
-returns c = all-fault _ _ _ (c .before .before .loop-test .taken) (sym (c .before .is-reached .ensures) ∙ not-true _ (c .if1 .taken))
-
-add-v : tie.Need-add-v Inv-loop μ-loop
-add-v c = search needs
-
-loop-less : tie.Need-loop-less Inv-loop μ-loop
-loop-less c = search needs
+returns c =
+    let after-is-reached : tie.After-is-reached Inv-loop μ-loop = search in
+    let in-loop : tie.In-loop Inv-loop μ-loop = search in
+    all-fault _ _ _ (in-loop .loop-test .taken) (sym (after-is-reached .is-reached .ensures) ∙ not-true _ (c .if1 .taken))
 
 loop-again : tie.Need-loop-again Inv-loop μ-loop
-loop-again c = (omega arith, all-more _ _ (c .before .before .before .loop .inv .1) (sym (c .before .is-reached .ensures) ∙ not-false _ (c .if1 .left)))
+loop-again c =
+    let after-is-reached : tie.After-is-reached Inv-loop μ-loop = search in
+    let at-loop : tie.At-loop Inv-loop μ-loop = search in
+    (omega arith, all-more _ _ (at-loop .loop .inv .1) (sym (after-is-reached .is-reached .ensures) ∙ not-false _ (c .if1 .left)))
 
 returns-2 : tie.Need-returns-2 Inv-loop μ-loop
-returns-2 c = all-end _ _ _ (c .before .loop .inv .1) (c .loop-test .left)
+returns-2 c =
+    let at-loop : tie.At-loop Inv-loop μ-loop = search in
+    all-end _ _ _ (at-loop .loop .inv .1) (c .loop-test .left)
 
 pub all-reached-spec : {M : Type 1} → statement M
 all-reached-spec =
@@ -51,10 +47,10 @@ all-reached-spec =
     Inv-loop
     μ-loop
     loop-holds
-    mul-loop
-    is-reached-requires
+    (λ c. search needs)  -- mul-loop
+    (λ c. search needs)  -- is-reached-requires
     returns
-    add-v
-    loop-less
+    (λ c. search needs)  -- add-v
+    (λ c. search needs)  -- loop-less
     loop-again
     returns-2)

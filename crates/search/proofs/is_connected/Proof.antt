@@ -7,69 +7,74 @@ use borrow.Author.Needs.{needs}
 use Rattle.search.proofs.is_connected.Statement.{statement}
 use Rattle.search.proofs.is_connected.Tie as tie
 
+-- the way back, from each call to the one before it
+abbrev before-search-table : tie.After-search-table → tie.After-next-member
+before-search-table c = search
+
+abbrev before-next-member : tie.After-next-member → tie.Start
+before-next-member c = search
+
+ruleset back = (before-search-table, before-next-member)
+
 -- the lowest open code
-is-next : (c : tie.After-known-told) → IsNext (c .before .before .before .before .before .before .before .before .before .before .before .args .words) (c .before .before .before .before .before .before .before .before .before .before .before .args .codes .now) 0 (c .before .lowest .given .0 .0)
-is-next c = subst (NextIs _ _ _) (c .before .lowest .given .1) (c .before .before .before .next-member .ensures)
-
-next-member-requires : tie.Need-next-member-requires
-next-member-requires c κs = search needs
-
-enum-known-lowest : tie.Need-enum-known-lowest
-enum-known-lowest c = search needs
+is-next : (c : tie.After-known-told) →
+    let after-lowest : tie.After-lowest = search back in
+    let start : tie.Start = search back in
+    IsNext (start .args .words) (start .args .codes .now) 0 (after-lowest .lowest .given .0 .0)
+is-next c =
+    let after-lowest : tie.After-lowest = search back in
+    let after-next-member : tie.After-next-member = search back in
+    subst (NextIs _ _ _) (after-lowest .lowest .given .1) (after-next-member .next-member .ensures)
 
 enum-told : tie.Need-enum-told
 enum-told c = search needs
 
 returns : tie.Need-returns
 returns c =
-    let pre = c .before .before .before .before .before .before .before .before .before .before .pre in
-    none-open _ _ _ (pre .0 .positive) (pre .0 .most) (pre .6) (subst (NextIs _ _ _) (c .enum-told .given .1) (c .before .before .next-member .ensures))
+    let after-next-member : tie.After-next-member = search back in
+    let start : tie.Start = search back in
+    let pre = start .pre in
+    none-open _ _ _ (pre .0 .positive) (pre .0 .most) (pre .6)
+    (subst (NextIs _ _ _) (c .enum-told .given .1) (after-next-member .next-member .ensures))
 
 search-table-requires : tie.Need-search-table-requires
 search-table-requires c κs =
-    let pre = c .before .before .before .before .before .before .before .before .before .before .before .before .before .before .before .before .pre in
-    let n = is-next (c .before .before .before .before .before) in
-    (record { positive = pre .0 .positive; most = pre .0 .most; table = pre .0 .rows; places = pre .1 }, pre .2, pre .3, pre .4, pre .5, n .inside)
-
-all-reached-requires : tie.Need-all-reached-requires
-all-reached-requires c κs = search needs
-
-same-length : tie.Need-same-length
-same-length c = search needs
-
-same-length-2 : tie.Need-same-length-2
-same-length-2 c = search needs
-
-same-length-3 : tie.Need-same-length-3
-same-length-3 c = search needs
-
-same-length-4 : tie.Need-same-length-4
-same-length-4 c = search needs
-
-same-length-5 : tie.Need-same-length-5
-same-length-5 c = search needs
+    let after-known-told : tie.After-known-told = search back in
+    let start : tie.Start = search back in
+    let pre = start .pre in
+    let n = is-next after-known-told in (
+      record { positive = pre .0 .positive; most = pre .0 .most; table = pre .0 .rows; places = pre .1 },
+      pre .2,
+      pre .3,
+      pre .4,
+      pre .5,
+      n .inside,
+    )
 
 returns-2 : tie.Need-returns-2
 returns-2 c =
-    let pre = c .before .before .before .before .before .before .before .before .before .before .before .before .before .before .before .before .before .before .before .before .before .before .before .before .before .before .before .before .before .pre in
-    let n = is-next (c .before .before .before .before .before .before .before .before .before .before .before .before .before .before .before .before .before .before) in
+    let after-search-table : tie.After-search-table = search back in
+    let after-known-told : tie.After-known-told = search back in
+    let start : tie.Start = search back in
+    let pre = start .pre in
+    let n = is-next after-known-told in
     c .all-reached .ensures
-    ∙ all-reached-is _ _ _ (pre .0 .positive) (pre .0 .most) (pre .6) _ (n .here) (c .before .before .before .before .before .before .before .before .before .before .before .before .search-table .last .0)
-    (hops-of _ _ _ (pre .0 .positive) (pre .0 .most) (pre .6) _ (n .here) _ _ _ _ _ (c .before .before .before .before .before .before .before .before .before .before .before .before .search-table .ensures))
+    ∙ all-reached-is _ _ _ (pre .0 .positive) (pre .0 .most) (pre .6) _ (n .here) (after-search-table .search-table .last .0)
+    (hops-of _ _ _ (pre .0 .positive) (pre .0 .most) (pre .6) _ (n .here) _ _ _ _ _ (after-search-table .search-table .ensures))
 
 pub is-connected-spec : {M : Type 1} → statement M
 is-connected-spec =
     tie.close
     (tie.spec
-    next-member-requires
-    enum-known-lowest
+    (λ c. search needs)  -- next-member-requires
+    (λ c. search needs)  -- enum-known-lowest
     enum-told
     returns
     search-table-requires
-    all-reached-requires
-    same-length
-    same-length-2
-    same-length-3
-    same-length-4
-    same-length-5
+    (λ c. search needs)  -- all-reached-requires
+    (λ c. search needs)  -- same-length
+    (λ c. search needs)  -- same-length-2
+    (λ c. search needs)  -- same-length-3
+    (λ c. search needs)  -- same-length-4
+    (λ c. search needs)  -- same-length-5
     returns-2)

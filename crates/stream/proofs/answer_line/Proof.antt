@@ -9,106 +9,86 @@ use borrow.Author.Needs.{needs}
 use Rattle.stream.proofs.answer_line.Statement.{statement}
 use Rattle.stream.proofs.answer_line.Tie as tie
 
--- src/lib.rt:112:41
 slice-aggregate-read-notice : tie.Need-slice-aggregate-read-notice
 slice-aggregate-read-notice c = search needs
 
--- src/lib.rt:112:9
-read-notice-requires : tie.Need-read-notice-requires
-read-notice-requires c κs = search needs
+-- the way back, from each call to the one before it
+abbrev before-open-sound : tie.After-open-sound → tie.After-read-notice
+before-open-sound c = search
 
--- src/lib.rt:114:24
-enum-known-got : tie.Need-enum-known-got
-enum-known-got c = search needs
+abbrev before-read-notice : tie.After-read-notice → tie.Start
+before-read-notice c = search
 
--- src/lib.rt:115:24
-array-read-code : tie.Need-array-read-code
-array-read-code c = search needs
+ruleset back = (before-open-sound, before-read-notice)
 
 -- the frame that was read
-read : (c : tie.After-known-told) → (f : List ℕ) × (v : ℕ) × (readLine (c .before .before .before .before .before .before .before .before .before .before .before .before .before .before .args .text .now) ≡ frame f v) × Stands f (c .before .got .given .0 .0) (c .before .before .before .before .read-notice .last .1 .0)
-read c = frame-read _ _ (omega (arith, slice-aggregate-read-notice (c .before .before .before .before .before))) (c .before .got .given .1) (c .before .before .before .before .read-notice .ensures)
+read : (c : tie.After-known-told) →
+    let after-got : tie.After-got = search back in
+    let after-read-notice : tie.After-read-notice = search back in
+    let start : tie.Start = search back in
+    (f : List ℕ)
+    × (v : ℕ)
+    × (readLine (start .args .text .now) ≡ frame f v)
+    × Stands f (after-got .got .given .0 .0) (after-read-notice .read-notice .last .1 .0)
+read c =
+    let after-got : tie.After-got = search back in
+    let after-read-notice : tie.After-read-notice = search back in
+    let after-frame : tie.After-frame = search back in
+    frame-read _ _ (omega (arith, slice-aggregate-read-notice after-frame)) (after-got .got .given .1)
+    (after-read-notice .read-notice .ensures)
 
--- src/lib.rt:126:17
 sub-open-sound : tie.Need-sub-open-sound
-sub-open-sound c = read (c .before .before .before .before .before .before .before) .3 .long
+sub-open-sound c =
+    let after-known-told : tie.After-known-told = search back in
+    read after-known-told .3 .long
 
--- src/lib.rt:126:17
 part-open-sound-start : tie.Need-part-open-sound-start
-part-open-sound-start c = read (c .before .before .before .before .before .before .before .before) .3 .long
+part-open-sound-start c =
+    let after-known-told : tie.After-known-told = search back in
+    read after-known-told .3 .long
 
--- src/lib.rt:126:17
 part-open-sound-end : tie.Need-part-open-sound-end
-part-open-sound-end c = omega (arith, read (c .before .before .before .before .before .before .before .before) .3 .fits, slice-aggregate-read-notice (c .before .before .before .before .before .before .before .before .before .before .before .before .before), c .before .before .before .before .before .before .before .before .before .before .before .before .read-notice .kept)
+part-open-sound-end c =
+    let after-known-told : tie.After-known-told = search back in
+    let after-read-notice : tie.After-read-notice = search back in
+    let after-frame : tie.After-frame = search back in
+    omega (arith, read after-known-told .3 .fits, slice-aggregate-read-notice after-frame, after-read-notice .read-notice .kept)
 
--- src/lib.rt:116:13
-open-sound-requires : tie.Need-open-sound-requires
-open-sound-requires c κs = search needs
-
--- src/lib.rt:129:26
-enum-known-got-2 : tie.Need-enum-known-got-2
-enum-known-got-2 c = search needs
-
--- src/lib.rt:129:32
-garbled-requires : tie.Need-garbled-requires
-garbled-requires c κs = search needs
-
--- src/lib.rt:97:1
-same-length : tie.Need-same-length
-same-length c = search needs
-
--- src/lib.rt:97:1
-same-length-2 : tie.Need-same-length-2
-same-length-2 c = search needs
-
--- src/lib.rt:97:1
-same-length-3 : tie.Need-same-length-3
-same-length-3 c = search needs
-
--- src/lib.rt:97:1
-same-length-4 : tie.Need-same-length-4
-same-length-4 c = search needs
-
--- src/lib.rt:97:1
-same-length-5 : tie.Need-same-length-5
-same-length-5 c = search needs
-
--- src/lib.rt:97:1
-same-length-6 : tie.Need-same-length-6
-same-length-6 c = search needs
-
--- src/lib.rt:97:1
-same-length-7 : tie.Need-same-length-7
-same-length-7 c = search needs
-
--- src/lib.rt:97:1
 returns : tie.Need-returns
-returns c = answered-frame _ _ _ _ _ _ (read (c .before .before .before .before .before .before .before .before .before .before .before .before .before .before .before .before .before .before .before .before .before .before .before .before) .2) (read (c .before .before .before .before .before .before .before .before .before .before .before .before .before .before .before .before .before .before .before .before .before .before .before .before) .3) (c .before .before .before .before .before .before .before .before .before .before .before .before .before .before .open-sound .ensures)
+returns c =
+    let after-open-sound : tie.After-open-sound = search back in
+    let after-known-told : tie.After-known-told = search back in
+    answered-frame _ _ _ _ _ _ (read after-known-told .2) (read after-known-told .3) (after-open-sound .open-sound .ensures)
 
--- src/lib.rt:97:1
 returns-2 : tie.Need-returns-2
-returns-2 c = answered-garbled _ _ _ _ (garbled-read _ _ (omega (arith, slice-aggregate-read-notice (c .before .before .before .before .before .before))) (c .before .before .got2 .given .1) (c .before .before .before .before .before .read-notice .ensures)) (c .garbled .ensures)
+returns-2 c =
+    let after-got2 : tie.After-got2 = search back in
+    let after-read-notice : tie.After-read-notice = search back in
+    let after-frame : tie.After-frame = search back in
+    answered-garbled _ _ _ _
+    (garbled-read _ _ (omega (arith, slice-aggregate-read-notice after-frame)) (after-got2 .got2 .given .1)
+    (after-read-notice .read-notice .ensures)) (c .garbled .ensures)
 
 pub answer-line-spec : {M : Type 1} → statement M
 answer-line-spec =
     tie.close
     (tie.spec
     slice-aggregate-read-notice
-    read-notice-requires
-    enum-known-got
-    array-read-code
+    (λ c. search needs)  -- read-notice-requires
+    (λ c. search needs)  -- enum-known-got
+    (λ c. search needs)  -- array-read-code
     sub-open-sound
     part-open-sound-start
     part-open-sound-end
-    open-sound-requires
-    enum-known-got-2
-    garbled-requires
-    same-length
-    same-length-2
-    same-length-3
-    same-length-4
-    same-length-5
-    same-length-6
-    same-length-7
+    (λ c. search needs)  -- open-sound-requires
+    (λ c. search needs)  -- enum-known-got-2
+    (λ c. search needs)  -- garbled-requires
+    (λ c. search needs)  -- same-length
+    (λ c. search needs)  -- same-length-2
+    (λ c. search needs)  -- same-length-3
+    (λ c. search needs)  -- same-length-4
+    (λ c. search needs)  -- same-length-5
+    (λ c. search needs)  -- same-length-6
+    (λ c. search needs)  -- same-length-7
     returns
     returns-2)

@@ -9,72 +9,56 @@ use borrow.Author.Needs.{needs}
 use Rattle.stream.proofs.finish.Statement.{statement}
 use Rattle.stream.proofs.finish.Tie as tie
 
--- src/lib.rt:297:9
 returns : tie.Need-returns
 returns c = (finish-none _ _ _ _ _ (c .if1 .taken), zero-le)
 
--- src/lib.rt:299:8
-is-stopped-requires : tie.Need-is-stopped-requires
-is-stopped-requires c κs = search needs
+-- the way back, from each call to the one before it
+abbrev before-take-line : tie.After-take-line → tie.After-is-stopped
+before-take-line c = search
 
--- src/lib.rt:300:9
+abbrev before-is-stopped : tie.After-is-stopped → tie.Start
+before-is-stopped c = search
+
+ruleset back = (before-take-line, before-is-stopped)
+
 returns-2 : tie.Need-returns-2
-returns-2 c = (finish-stopped _ _ _ _ _ (sym (c .if2 .taken) ∙ c .before .is-stopped .ensures), zero-le)
+returns-2 c =
+    let after-is-stopped : tie.After-is-stopped = search back in
+    (finish-stopped _ _ _ _ _ (sym (c .if2 .taken) ∙ after-is-stopped .is-stopped .ensures), zero-le)
 
--- src/lib.rt:302:5
 take-line-requires : tie.Need-take-line-requires
-take-line-requires c κs = let g = going _ _ _ (sym (c .before .before .before .before .before .before .before .before .before .is-stopped .ensures) ∙ c .before .before .before .before .before .before .before .before .if2 .left) in (free-sizes _ _ _ _ _ _ _ _ (c .before .before .before .before .before .before .before .before .before .before .before .before .before .before .before .before .before .before .before .before .before .pre .free), omega (arith, c .before .before .before .before .before .before .before .before .before .before .before .before .before .before .before .before .before .before .before .before .before .pre .held, c .before .before .before .before .before .before .before .before .before .before .before .before .before .before .before .before .before .before .before .before .before .pre .room), g .0, g .1)
+take-line-requires c κs =
+    let else2 : tie.Else2 = search back in
+    let after-is-stopped : tie.After-is-stopped = search back in
+    let start : tie.Start = search back in
+    let g = going _ _ _ (sym (after-is-stopped .is-stopped .ensures) ∙ else2 .if2 .left) in
+    (free-sizes _ _ _ _ _ _ _ _ (start .pre .free), omega (arith, start .pre .held, start .pre .room), g .0, g .1)
 
--- src/lib.rt:276:1
-same-length : tie.Need-same-length
-same-length c = search needs
-
--- src/lib.rt:276:1
-same-length-2 : tie.Need-same-length-2
-same-length-2 c = search needs
-
--- src/lib.rt:276:1
-same-length-3 : tie.Need-same-length-3
-same-length-3 c = search needs
-
--- src/lib.rt:276:1
-same-length-4 : tie.Need-same-length-4
-same-length-4 c = search needs
-
--- src/lib.rt:276:1
-same-length-5 : tie.Need-same-length-5
-same-length-5 c = search needs
-
--- src/lib.rt:276:1
-same-length-6 : tie.Need-same-length-6
-same-length-6 c = search needs
-
--- src/lib.rt:276:1
-same-length-7 : tie.Need-same-length-7
-same-length-7 c = search needs
-
--- src/lib.rt:276:1
-same-length-8 : tie.Need-same-length-8
-same-length-8 c = search needs
-
--- src/lib.rt:276:1
 returns-3 : tie.Need-returns-3
-returns-3 c = (c .before .before .before .before .before .before .before .before .before .before .before .before .before .before .before .before .take-line .ensures .0 ∙ finish-took _ _ _ _ _ (c .before .before .before .before .before .before .before .before .before .before .before .before .before .before .before .before .before .before .before .before .before .before .before .before .before .before .before .if1 .left) (sym (c .before .before .before .before .before .before .before .before .before .before .before .before .before .before .before .before .before .before .before .before .before .before .before .before .before .before .is-stopped .ensures) ∙ c .before .before .before .before .before .before .before .before .before .before .before .before .before .before .before .before .before .before .before .before .before .before .before .before .before .if2 .left), c .before .before .before .before .before .before .before .before .before .before .before .before .before .before .before .before .take-line .ensures .1)
+returns-3 c =
+    let after-take-line : tie.After-take-line = search back in
+    let else2 : tie.Else2 = search back in
+    let after-is-stopped : tie.After-is-stopped = search back in
+    let else1 : tie.Else1 = search back in (
+      after-take-line .take-line .ensures .0 ∙ finish-took _ _ _ _ _ (else1 .if1 .left)
+          (sym (after-is-stopped .is-stopped .ensures) ∙ else2 .if2 .left),
+      after-take-line .take-line .ensures .1,
+    )
 
 pub finish-spec : {M : Type 1} → statement M
 finish-spec =
     tie.close
     (tie.spec
     returns
-    is-stopped-requires
+    (λ c. search needs)  -- is-stopped-requires
     returns-2
     take-line-requires
-    same-length
-    same-length-2
-    same-length-3
-    same-length-4
-    same-length-5
-    same-length-6
-    same-length-7
-    same-length-8
+    (λ c. search needs)  -- same-length
+    (λ c. search needs)  -- same-length-2
+    (λ c. search needs)  -- same-length-3
+    (λ c. search needs)  -- same-length-4
+    (λ c. search needs)  -- same-length-5
+    (λ c. search needs)  -- same-length-6
+    (λ c. search needs)  -- same-length-7
+    (λ c. search needs)  -- same-length-8
     returns-3)

@@ -8,9 +8,6 @@ use Rattle.words.proofs.Bits.{word-below}
 use Rattle.words.proofs.below.Statement.{statement}
 use Rattle.words.proofs.below.Tie as tie
 
-shl-result : tie.Need-shl-result
-shl-result c = search needs
-
 sub-result : tie.Need-sub-result
 sub-result c = omega (arith, shl-one 64 (c .args .b) (c .pre), pow-pos (c .args .b))
 
@@ -18,4 +15,9 @@ returns : tie.Need-returns
 returns c = rw (shl-one 64 (c .args .b) (c .pre)) (word-below 64 (c .args .w) (c .args .b) (c .fits .w .fits))
 
 pub below-spec : {M : Type 1} → statement M
-below-spec = tie.close (tie.spec shl-result sub-result returns)
+below-spec =
+    tie.close
+    (tie.spec
+    (λ c. search needs)  -- shl-result
+    sub-result
+    returns)

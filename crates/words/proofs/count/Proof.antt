@@ -8,4 +8,7 @@ returns : tie.Need-returns
 returns c = ones-count 64 (c .args .w) (c .fits .w .fits)
 
 pub count-spec : {M : Type 1} → statement M
-count-spec = tie.close (tie.spec returns)
+count-spec =
+    tie.close
+    (tie.spec
+    returns)

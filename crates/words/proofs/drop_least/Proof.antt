@@ -5,11 +5,12 @@ use Rattle.words.proofs.Lowest.{drop-is}
 use Rattle.words.proofs.drop_least.Statement.{statement}
 use Rattle.words.proofs.drop_least.Tie as tie
 
-sub-result : tie.Need-sub-result
-sub-result c = search needs
-
 returns : tie.Need-returns
 returns c = drop-is (c .args .w) (c .pre) (c .fits .w .fits)
 
 pub drop-least-spec : {M : Type 1} → statement M
-drop-least-spec = tie.close (tie.spec sub-result returns)
+drop-least-spec =
+    tie.close
+    (tie.spec
+    (λ c. search needs)  -- sub-result
+    returns)

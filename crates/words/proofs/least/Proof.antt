@@ -13,4 +13,8 @@ returns : tie.Need-returns
 returns c = least-is (c .args .w) (c .pre) (c .fits .w .fits)
 
 pub least-spec : {M : Type 1} → statement M
-least-spec = tie.close (tie.spec cast-result returns)
+least-spec =
+    tie.close
+    (tie.spec
+    cast-result
+    returns)

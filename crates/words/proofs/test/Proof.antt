@@ -9,12 +9,13 @@ use Rattle.words.proofs.Digits.{digit, and-one}
 use Rattle.words.proofs.test.Statement.{statement}
 use Rattle.words.proofs.test.Tie as tie
 
-shr-result : tie.Need-shr-result
-shr-result c = search needs
-
 returns : tie.Need-returns
 unfolding bit digit
 returns c = ap (λ (x : ℕ). eqb x 1) (and-one (c .args .w) (c .args .b))
 
 pub test-spec : {M : Type 1} → statement M
-test-spec = tie.close (tie.spec shr-result returns)
+test-spec =
+    tie.close
+    (tie.spec
+    (λ c. search needs)  -- shr-result
+    returns)

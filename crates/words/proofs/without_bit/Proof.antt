@@ -6,11 +6,12 @@ use Rattle.words.proofs.Bits.{word-without}
 use Rattle.words.proofs.without_bit.Statement.{statement}
 use Rattle.words.proofs.without_bit.Tie as tie
 
-shl-result : tie.Need-shl-result
-shl-result c = search needs
-
 returns : tie.Need-returns
 returns c = rw (shl-one 64 (c .args .b) (c .pre)) (word-without 64 (c .args .w) (c .args .b) (c .fits .w .fits) (c .pre))
 
 pub without-bit-spec : {M : Type 1} → statement M
-without-bit-spec = tie.close (tie.spec shl-result returns)
+without-bit-spec =
+    tie.close
+    (tie.spec
+    (λ c. search needs)  -- shl-result
+    returns)

@@ -13,45 +13,18 @@ Inv-loop words₀ table start n i₀ words i = (i ≤ n) × (length words ≡ le
 abbrev μ-loop : tie.MeasureT-loop
 μ-loop words₀ table start n i₀ words i = n - i
 
-loop-holds : tie.Need-loop-holds Inv-loop μ-loop
-loop-holds c = search needs
-
-add-get : tie.Need-add-get Inv-loop μ-loop
-add-get c = search needs
-
-get-requires : tie.Need-get-requires Inv-loop μ-loop
-get-requires c κs = search needs
-
-copy-bit-requires : tie.Need-copy-bit-requires Inv-loop μ-loop
-copy-bit-requires c κs = search needs
-
-add-i : tie.Need-add-i Inv-loop μ-loop
-add-i c = search needs
-
-loop-less : tie.Need-loop-less Inv-loop μ-loop
-loop-less c = search needs
-
-loop-again : tie.Need-loop-again Inv-loop μ-loop
-loop-again c = search needs
-
-same-length : tie.Need-same-length Inv-loop μ-loop
-same-length c = search needs
-
-returns : tie.Need-returns Inv-loop μ-loop
-returns c = search needs
-
 pub pack-spec : {M : Type 1} → statement M
 pack-spec =
     tie.close
     (tie.spec
     Inv-loop
     μ-loop
-    loop-holds
-    add-get
-    get-requires
-    copy-bit-requires
-    add-i
-    loop-less
-    loop-again
-    same-length
-    returns)
+    (λ c. search needs)  -- loop-holds
+    (λ c. search needs)  -- add-get
+    (λ c. search needs)  -- get-requires
+    (λ c. search needs)  -- copy-bit-requires
+    (λ c. search needs)  -- add-i
+    (λ c. search needs)  -- loop-less
+    (λ c. search needs)  -- loop-again
+    (λ c. search needs)  -- same-length
+    (λ c. search needs))  -- returns

@@ -7,14 +7,13 @@ use borrow.Author.Needs.{needs}
 use Rattle.testbed.proofs.lent.first_words.Statement.{statement}
 use Rattle.testbed.proofs.lent.first_words.Tie as tie
 
-returns : tie.Need-returns
-returns c = search needs
-
 slice-aggregate-result : tie.Need-slice-aggregate-result
 slice-aggregate-result c = simp length-take (omega arith)
 
-returns-2 : tie.Need-returns-2
-returns-2 c = search needs
-
 pub first-words-spec : {M : Type 1} → statement M
-first-words-spec = tie.close (tie.spec returns slice-aggregate-result returns-2)
+first-words-spec =
+    tie.close
+    (tie.spec
+    (λ c. search needs)  -- returns
+    slice-aggregate-result
+    (λ c. search needs))  -- returns-2

@@ -11,41 +11,17 @@ Inv-loop a b n i₀ i = i ≤ n
 abbrev μ-loop : tie.MeasureT-loop
 μ-loop a b n i₀ i = n - i
 
-loop-holds : tie.Need-loop-holds Inv-loop μ-loop
-loop-holds c = search needs
-
-number-requires : tie.Need-number-requires Inv-loop μ-loop
-number-requires c κs = search needs
-
-number-requires-2 : tie.Need-number-requires-2 Inv-loop μ-loop
-number-requires-2 c κs = search needs
-
-returns : tie.Need-returns Inv-loop μ-loop
-returns c = search needs
-
-add-i : tie.Need-add-i Inv-loop μ-loop
-add-i c = search needs
-
-loop-less : tie.Need-loop-less Inv-loop μ-loop
-loop-less c = search needs
-
-loop-again : tie.Need-loop-again Inv-loop μ-loop
-loop-again c = search needs
-
-returns-2 : tie.Need-returns-2 Inv-loop μ-loop
-returns-2 c = search needs
-
 pub same-numbers-spec : {M : Type 1} → statement M
 same-numbers-spec =
     tie.close
     (tie.spec
     Inv-loop
     μ-loop
-    loop-holds
-    number-requires
-    number-requires-2
-    returns
-    add-i
-    loop-less
-    loop-again
-    returns-2)
+    (λ c. search needs)  -- loop-holds
+    (λ c. search needs)  -- number-requires
+    (λ c. search needs)  -- number-requires-2
+    (λ c. search needs)  -- returns
+    (λ c. search needs)  -- add-i
+    (λ c. search needs)  -- loop-less
+    (λ c. search needs)  -- loop-again
+    (λ c. search needs))  -- returns-2

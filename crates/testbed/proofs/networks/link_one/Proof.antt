@@ -13,37 +13,16 @@ Inv-loop links₀ p j i₀ links i = (i ≤ j) × (length links ≡ length links
 abbrev μ-loop : tie.MeasureT-loop
 μ-loop links₀ p j i₀ links i = j - i
 
-loop-holds : tie.Need-loop-holds Inv-loop μ-loop
-loop-holds c = search needs
-
-link-two-requires : tie.Need-link-two-requires Inv-loop μ-loop
-link-two-requires c κs = search needs
-
-add-i : tie.Need-add-i Inv-loop μ-loop
-add-i c = search needs
-
-loop-less : tie.Need-loop-less Inv-loop μ-loop
-loop-less c = search needs
-
-loop-again : tie.Need-loop-again Inv-loop μ-loop
-loop-again c = search needs
-
-same-length : tie.Need-same-length Inv-loop μ-loop
-same-length c = search needs
-
-returns : tie.Need-returns Inv-loop μ-loop
-returns c = search needs
-
 pub link-one-spec : {M : Type 1} → statement M
 link-one-spec =
     tie.close
     (tie.spec
     Inv-loop
     μ-loop
-    loop-holds
-    link-two-requires
-    add-i
-    loop-less
-    loop-again
-    same-length
-    returns)
+    (λ c. search needs)  -- loop-holds
+    (λ c. search needs)  -- link-two-requires
+    (λ c. search needs)  -- add-i
+    (λ c. search needs)  -- loop-less
+    (λ c. search needs)  -- loop-again
+    (λ c. search needs)  -- same-length
+    (λ c. search needs))  -- returns

@@ -13,37 +13,16 @@ Inv-loop dist₀ start links u d v₀ dist v = (v ≤ 256) × (length dist ≡ l
 abbrev μ-loop : tie.MeasureT-loop
 μ-loop dist₀ start links u d v₀ dist v = 256 - v
 
-loop-holds : tie.Need-loop-holds Inv-loop μ-loop
-loop-holds c = search needs
-
-relax-requires : tie.Need-relax-requires Inv-loop μ-loop
-relax-requires c κs = search needs
-
-add-v : tie.Need-add-v Inv-loop μ-loop
-add-v c = search needs
-
-loop-less : tie.Need-loop-less Inv-loop μ-loop
-loop-less c = search needs
-
-loop-again : tie.Need-loop-again Inv-loop μ-loop
-loop-again c = search needs
-
-same-length : tie.Need-same-length Inv-loop μ-loop
-same-length c = search needs
-
-returns : tie.Need-returns Inv-loop μ-loop
-returns c = search needs
-
 pub relax-all-spec : {M : Type 1} → statement M
 relax-all-spec =
     tie.close
     (tie.spec
     Inv-loop
     μ-loop
-    loop-holds
-    relax-requires
-    add-v
-    loop-less
-    loop-again
-    same-length
-    returns)
+    (λ c. search needs)  -- loop-holds
+    (λ c. search needs)  -- relax-requires
+    (λ c. search needs)  -- add-v
+    (λ c. search needs)  -- loop-less
+    (λ c. search needs)  -- loop-again
+    (λ c. search needs)  -- same-length
+    (λ c. search needs))  -- returns

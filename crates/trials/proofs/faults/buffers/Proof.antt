@@ -13,41 +13,17 @@ Inv-loop links₀ rec t₀ i₀ links t i = (i ≤ 81) × (length links ≡ leng
 abbrev μ-loop : tie.MeasureT-loop
 μ-loop links₀ rec t₀ i₀ links t i = 81 - i
 
-start-requires : tie.Need-start-requires Inv-loop μ-loop
-start-requires c κs = search needs
-
-loop-holds : tie.Need-loop-holds Inv-loop μ-loop
-loop-holds c = search needs
-
-try-sizes-requires : tie.Need-try-sizes-requires Inv-loop μ-loop
-try-sizes-requires c κs = search needs
-
-add-i : tie.Need-add-i Inv-loop μ-loop
-add-i c = search needs
-
-loop-less : tie.Need-loop-less Inv-loop μ-loop
-loop-less c = search needs
-
-loop-again : tie.Need-loop-again Inv-loop μ-loop
-loop-again c = search needs
-
-same-length : tie.Need-same-length Inv-loop μ-loop
-same-length c = search needs
-
-returns : tie.Need-returns Inv-loop μ-loop
-returns c = search needs
-
 pub buffers-spec : {M : Type 1} → statement M
 buffers-spec =
     tie.close
     (tie.spec
     Inv-loop
     μ-loop
-    start-requires
-    loop-holds
-    try-sizes-requires
-    add-i
-    loop-less
-    loop-again
-    same-length
-    returns)
+    (λ c. search needs)  -- start-requires
+    (λ c. search needs)  -- loop-holds
+    (λ c. search needs)  -- try-sizes-requires
+    (λ c. search needs)  -- add-i
+    (λ c. search needs)  -- loop-less
+    (λ c. search needs)  -- loop-again
+    (λ c. search needs)  -- same-length
+    (λ c. search needs))  -- returns

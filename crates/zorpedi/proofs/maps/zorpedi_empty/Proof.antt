@@ -4,77 +4,46 @@ use borrow.Author.Needs.{needs}
 use Rattle.zorpedi.proofs.maps.zorpedi_empty.Statement.{statement}
 use Rattle.zorpedi.proofs.maps.zorpedi_empty.Tie as tie
 
--- src/maps.rt:20:9
 returns : tie.Need-returns
 returns c = empty-short _ _ _ (c .if1 .taken)
 
--- src/maps.rt:22:9
-record-of-requires : tie.Need-record-of-requires
-record-of-requires c κs = search needs
-
--- src/maps.rt:23:9
-empty-map-requires : tie.Need-empty-map-requires
-empty-map-requires c κs = search needs
-
--- src/maps.rt:28:24
 enum-told : tie.Need-enum-told
 enum-told c = search needs
 
--- src/maps.rt:28:13
-put-record-requires : tie.Need-put-record-requires
-put-record-requires c κs = search needs
-
--- src/maps.rt:31:27
-enum-known-answer : tie.Need-enum-known-answer
-enum-known-answer c = search needs
-
--- src/maps.rt:15:1
-same-length : tie.Need-same-length
-same-length c = search needs
-
--- src/maps.rt:15:1
-same-length-2 : tie.Need-same-length-2
-same-length-2 c = search needs
-
--- src/maps.rt:15:1
-same-length-3 : tie.Need-same-length-3
-same-length-3 c = search needs
-
--- src/maps.rt:15:1
 returns-2 : tie.Need-returns-2
-returns-2 c = empty-done _ _ _ (c .before .before .before .before .before .before .before .before .before .before .before .before .before .before .before .before .if1 .left) (c .before .before .before .before .before .before .before .before .before .before .before .before .before .before .record-of .ensures) _ (c .before .before .before .before .before .before .before .before .before .before .before .empty-map .ensures) (c .before .before .before .before .enum-told .given .1) (c .before .before .put-record .ensures)
+returns-2 c =
+    let after-put-record : tie.After-put-record = search in
+    let after-enum-told : tie.After-enum-told = search in
+    let after-empty-map : tie.After-empty-map = search in
+    let after-record-of : tie.After-record-of = search in
+    let else1 : tie.Else1 = search in
+    empty-done _ _ _ (else1 .if1 .left) (after-record-of .record-of .ensures) _ (after-empty-map .empty-map .ensures)
+    (after-enum-told .enum-told .given .1) (after-put-record .put-record .ensures)
 
--- src/maps.rt:15:1
-same-length-4 : tie.Need-same-length-4
-same-length-4 c = search needs
-
--- src/maps.rt:15:1
-same-length-5 : tie.Need-same-length-5
-same-length-5 c = search needs
-
--- src/maps.rt:15:1
-same-length-6 : tie.Need-same-length-6
-same-length-6 c = search needs
-
--- src/maps.rt:15:1
 returns-3 : tie.Need-returns-3
-returns-3 c = empty-refused _ _ _ (c .before .before .before .before .before .before .before .before .before .before .before .before .before .if1 .left) (c .before .before .before .before .before .before .before .before .before .before .before .record-of .ensures) _ (c .before .before .before .before .before .before .before .before .empty-map .ensures) (c .before .answer .given .1)
+returns-3 c =
+    let after-answer : tie.After-answer = search in
+    let after-empty-map : tie.After-empty-map = search in
+    let after-record-of : tie.After-record-of = search in
+    let else1 : tie.Else1 = search in
+    empty-refused _ _ _ (else1 .if1 .left) (after-record-of .record-of .ensures) _ (after-empty-map .empty-map .ensures)
+    (after-answer .answer .given .1)
 
 pub zorpedi-empty-spec : {M : Type 1} → statement M
 zorpedi-empty-spec =
     tie.close
     (tie.spec
     returns
-    record-of-requires
-    empty-map-requires
+    (λ c. search needs)  -- record-of-requires
+    (λ c. search needs)  -- empty-map-requires
     enum-told
-    put-record-requires
-    enum-known-answer
-    same-length
-    same-length-2
-    same-length-3
+    (λ c. search needs)  -- put-record-requires
+    (λ c. search needs)  -- enum-known-answer
+    (λ c. search needs)  -- same-length
+    (λ c. search needs)  -- same-length-2
+    (λ c. search needs)  -- same-length-3
     returns-2
-    same-length-4
-    same-length-5
-    same-length-6
+    (λ c. search needs)  -- same-length-4
+    (λ c. search needs)  -- same-length-5
+    (λ c. search needs)  -- same-length-6
     returns-3)

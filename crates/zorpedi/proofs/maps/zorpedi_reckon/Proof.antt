@@ -4,117 +4,60 @@ use borrow.Author.Needs.{needs}
 use Rattle.zorpedi.proofs.maps.zorpedi_reckon.Statement.{statement}
 use Rattle.zorpedi.proofs.maps.zorpedi_reckon.Tie as tie
 
--- src/maps.rt:78:9
 returns : tie.Need-returns
 returns c = reckon-short _ _ _ _ (c .if1 .taken)
 
--- src/maps.rt:80:9
-record-of-requires : tie.Need-record-of-requires
-record-of-requires c κs = search needs
+-- the way back, from each call to the one before it
+abbrev before-put-record : tie.After-put-record → tie.After-reckon-all
+before-put-record c = search
 
--- src/maps.rt:81:9
-reckon-all-requires : tie.Need-reckon-all-requires
-reckon-all-requires c κs = search needs
+abbrev before-reckon-all : tie.After-reckon-all → tie.After-record-of
+before-reckon-all c = search
 
--- src/maps.rt:85:29
-enum-known-answer : tie.Need-enum-known-answer
-enum-known-answer c = search needs
+ruleset back = (before-put-record, before-reckon-all)
 
--- src/maps.rt:86:13
-put-record-requires : tie.Need-put-record-requires
-put-record-requires c κs = search needs
-
--- src/maps.rt:90:28
-enum-known-answer-2 : tie.Need-enum-known-answer-2
-enum-known-answer-2 c = search needs
-
--- src/maps.rt:63:1
-same-length : tie.Need-same-length
-same-length c = search needs
-
--- src/maps.rt:63:1
-same-length-2 : tie.Need-same-length-2
-same-length-2 c = search needs
-
--- src/maps.rt:63:1
-same-length-3 : tie.Need-same-length-3
-same-length-3 c = search needs
-
--- src/maps.rt:63:1
-same-length-4 : tie.Need-same-length-4
-same-length-4 c = search needs
-
--- src/maps.rt:63:1
-same-length-5 : tie.Need-same-length-5
-same-length-5 c = search needs
-
--- src/maps.rt:63:1
-same-length-6 : tie.Need-same-length-6
-same-length-6 c = search needs
-
--- src/maps.rt:63:1
-same-length-7 : tie.Need-same-length-7
-same-length-7 c = search needs
-
--- src/maps.rt:63:1
 returns-2 : tie.Need-returns-2
-returns-2 c = reckon-done _ _ _ _ (c .before .before .before .before .before .before .before .before .before .before .before .before .before .before .before .before .before .before .before .before .before .before .before .before .before .before .before .before .before .if1 .left) (c .before .before .before .before .before .before .before .before .before .before .before .before .before .before .before .before .before .before .before .before .before .before .before .before .before .before .before .record-of .ensures) _ (c .before .before .before .before .before .before .before .before .before .before .before .before .before .before .before .before .before .before .before .before .reckon-all .ensures) (c .before .before .before .before .before .answer .given .1) (c .before .before .put-record .ensures)
+returns-2 c =
+    let after-put-record : tie.After-put-record = search back in
+    let after-answer : tie.After-answer = search back in
+    let after-reckon-all : tie.After-reckon-all = search back in
+    let after-record-of : tie.After-record-of = search back in
+    let else1 : tie.Else1 = search back in
+    reckon-done _ _ _ _ (else1 .if1 .left) (after-record-of .record-of .ensures) _ (after-reckon-all .reckon-all .ensures)
+    (after-answer .answer .given .1) (after-put-record .put-record .ensures)
 
--- src/maps.rt:63:1
-same-length-8 : tie.Need-same-length-8
-same-length-8 c = search needs
-
--- src/maps.rt:63:1
-same-length-9 : tie.Need-same-length-9
-same-length-9 c = search needs
-
--- src/maps.rt:63:1
-same-length-10 : tie.Need-same-length-10
-same-length-10 c = search needs
-
--- src/maps.rt:63:1
-same-length-11 : tie.Need-same-length-11
-same-length-11 c = search needs
-
--- src/maps.rt:63:1
-same-length-12 : tie.Need-same-length-12
-same-length-12 c = search needs
-
--- src/maps.rt:63:1
-same-length-13 : tie.Need-same-length-13
-same-length-13 c = search needs
-
--- src/maps.rt:63:1
-same-length-14 : tie.Need-same-length-14
-same-length-14 c = search needs
-
--- src/maps.rt:63:1
 returns-3 : tie.Need-returns-3
-returns-3 c = reckon-refused _ _ _ _ (c .before .before .before .before .before .before .before .before .before .before .before .before .before .before .before .before .before .before .before .before .before .before .before .before .before .if1 .left) (c .before .before .before .before .before .before .before .before .before .before .before .before .before .before .before .before .before .before .before .before .before .before .before .record-of .ensures) _ (c .before .before .before .before .before .before .before .before .before .before .before .before .before .before .before .before .reckon-all .ensures) (c .before .answer2 .given .1)
+returns-3 c =
+    let after-answer2 : tie.After-answer2 = search back in
+    let after-reckon-all : tie.After-reckon-all = search back in
+    let after-record-of : tie.After-record-of = search back in
+    let else1 : tie.Else1 = search back in
+    reckon-refused _ _ _ _ (else1 .if1 .left) (after-record-of .record-of .ensures) _ (after-reckon-all .reckon-all .ensures)
+    (after-answer2 .answer2 .given .1)
 
 pub zorpedi-reckon-spec : {M : Type 1} → statement M
 zorpedi-reckon-spec =
     tie.close
     (tie.spec
     returns
-    record-of-requires
-    reckon-all-requires
-    enum-known-answer
-    put-record-requires
-    enum-known-answer-2
-    same-length
-    same-length-2
-    same-length-3
-    same-length-4
-    same-length-5
-    same-length-6
-    same-length-7
+    (λ c. search needs)  -- record-of-requires
+    (λ c. search needs)  -- reckon-all-requires
+    (λ c. search needs)  -- enum-known-answer
+    (λ c. search needs)  -- put-record-requires
+    (λ c. search needs)  -- enum-known-answer-2
+    (λ c. search needs)  -- same-length
+    (λ c. search needs)  -- same-length-2
+    (λ c. search needs)  -- same-length-3
+    (λ c. search needs)  -- same-length-4
+    (λ c. search needs)  -- same-length-5
+    (λ c. search needs)  -- same-length-6
+    (λ c. search needs)  -- same-length-7
     returns-2
-    same-length-8
-    same-length-9
-    same-length-10
-    same-length-11
-    same-length-12
-    same-length-13
-    same-length-14
+    (λ c. search needs)  -- same-length-8
+    (λ c. search needs)  -- same-length-9
+    (λ c. search needs)  -- same-length-10
+    (λ c. search needs)  -- same-length-11
+    (λ c. search needs)  -- same-length-12
+    (λ c. search needs)  -- same-length-13
+    (λ c. search needs)  -- same-length-14
     returns-3)

@@ -5,97 +5,71 @@ use borrow.Author.Needs.{needs}
 use Rattle.zorpedi.proofs.streams.zorpedi_finish.Statement.{statement}
 use Rattle.zorpedi.proofs.streams.zorpedi_finish.Tie as tie
 
--- src/streams.rt:120:9
-step-refusal-requires : tie.Need-step-refusal-requires
-step-refusal-requires c κs = search needs
+-- the way back, from each call to the one before it
+abbrev before-put-record : tie.After-put-record → tie.After-finish
+before-put-record c = search
 
--- src/streams.rt:134:9
-same-length : tie.Need-same-length
-same-length c = search needs
+abbrev before-finish : tie.After-finish → tie.After-record-of
+before-finish c = search
 
--- src/streams.rt:134:9
-same-length-2 : tie.Need-same-length-2
-same-length-2 c = search needs
+abbrev before-record-of : tie.After-record-of → tie.After-step-refusal
+before-record-of c = search
 
--- src/streams.rt:134:9
-same-length-3 : tie.Need-same-length-3
-same-length-3 c = search needs
+ruleset back = (before-put-record, before-finish, before-record-of)
 
--- src/streams.rt:134:9
 returns : tie.Need-returns
-returns c = finish-refused _ _ _ _ _ _ _ _ _ _ _ _ _ _ (c .before .step-refusal .ensures) (c .if1 .taken)
+returns c =
+    let after-step-refusal : tie.After-step-refusal = search back in
+    finish-refused _ _ _ _ _ _ _ _ _ _ _ _ _ _ (after-step-refusal .step-refusal .ensures) (c .if1 .taken)
 
--- src/streams.rt:136:9
 record-of-requires : tie.Need-record-of-requires
-record-of-requires c κs = step-room _ _ _ _ _ _ _ (c .before .before .step-refusal .ensures) (c .before .if1 .left)
+record-of-requires c κs =
+    let else1 : tie.Else1 = search back in
+    let after-step-refusal : tie.After-step-refusal = search back in
+    step-room _ _ _ _ _ _ _ (after-step-refusal .step-refusal .ensures) (else1 .if1 .left)
 
--- src/streams.rt:142:9
 finish-requires : tie.Need-finish-requires
-finish-requires c κs = step-ready _ _ _ _ _ _ _ _ _ _ _ _ (c .before .before .before .before .before .before .before .before .before .before .before .before .step-refusal .ensures) (c .before .before .before .before .before .before .before .before .before .before .before .if1 .left) (c .before .before .before .before .before .before .before .before .before .record-of .ensures)
+finish-requires c κs =
+    let after-record-of : tie.After-record-of = search back in
+    let else1 : tie.Else1 = search back in
+    let after-step-refusal : tie.After-step-refusal = search back in
+    step-ready _ _ _ _ _ _ _ _ _ _ _ _ (after-step-refusal .step-refusal .ensures) (else1 .if1 .left) (after-record-of .record-of .ensures)
 
--- src/streams.rt:147:5
 put-record-requires : tie.Need-put-record-requires
-put-record-requires c κs = step-room _ _ _ _ _ _ _ (c .before .before .before .before .before .before .before .before .before .before .before .before .before .before .before .before .before .before .before .before .before .before .before .before .before .before .before .before .before .before .before .before .step-refusal .ensures) (c .before .before .before .before .before .before .before .before .before .before .before .before .before .before .before .before .before .before .before .before .before .before .before .before .before .before .before .before .before .before .before .if1 .left)
+put-record-requires c κs =
+    let else1 : tie.Else1 = search back in
+    let after-step-refusal : tie.After-step-refusal = search back in
+    step-room _ _ _ _ _ _ _ (after-step-refusal .step-refusal .ensures) (else1 .if1 .left)
 
--- src/streams.rt:102:1
-same-length-4 : tie.Need-same-length-4
-same-length-4 c = search needs
-
--- src/streams.rt:102:1
-same-length-5 : tie.Need-same-length-5
-same-length-5 c = search needs
-
--- src/streams.rt:102:1
-same-length-6 : tie.Need-same-length-6
-same-length-6 c = search needs
-
--- src/streams.rt:102:1
-same-length-7 : tie.Need-same-length-7
-same-length-7 c = search needs
-
--- src/streams.rt:102:1
-same-length-8 : tie.Need-same-length-8
-same-length-8 c = search needs
-
--- src/streams.rt:102:1
-same-length-9 : tie.Need-same-length-9
-same-length-9 c = search needs
-
--- src/streams.rt:102:1
-same-length-10 : tie.Need-same-length-10
-same-length-10 c = search needs
-
--- src/streams.rt:102:1
-same-length-11 : tie.Need-same-length-11
-same-length-11 c = search needs
-
--- src/streams.rt:102:1
-same-length-12 : tie.Need-same-length-12
-same-length-12 c = search needs
-
--- src/streams.rt:102:1
 returns-2 : tie.Need-returns-2
-returns-2 c = finish-done _ _ _ _ _ _ _ _ _ _ _ _ _ _ (c .before .before .before .before .before .before .before .before .before .before .before .before .before .before .before .before .before .before .before .before .before .before .before .before .before .before .before .before .before .before .before .before .before .before .before .step-refusal .ensures) (c .before .before .before .before .before .before .before .before .before .before .before .before .before .before .before .before .before .before .before .before .before .before .before .before .before .before .before .before .before .before .before .before .before .before .if1 .left) (c .before .before .before .before .before .before .before .before .before .before .before .before .before .before .before .before .before .before .before .before .before .before .before .before .before .before .before .before .before .before .before .before .record-of .ensures) _ _ _ _ _ _ (c .before .before .put-record .ensures) (c .before .before .before .before .before .before .before .before .before .before .before .before .before .before .before .before .before .before .before .before .before .before .finish .ensures .0)
+returns-2 c =
+    let after-put-record : tie.After-put-record = search back in
+    let after-finish : tie.After-finish = search back in
+    let after-record-of : tie.After-record-of = search back in
+    let else1 : tie.Else1 = search back in
+    let after-step-refusal : tie.After-step-refusal = search back in
+    finish-done _ _ _ _ _ _ _ _ _ _ _ _ _ _ (after-step-refusal .step-refusal .ensures) (else1 .if1 .left)
+    (after-record-of .record-of .ensures) _ _ _ _ _ _ (after-put-record .put-record .ensures) (after-finish .finish .ensures .0)
 
 pub zorpedi-finish-spec : {M : Type 1} → statement M
 zorpedi-finish-spec =
     tie.close
     (tie.spec
-    step-refusal-requires
-    same-length
-    same-length-2
-    same-length-3
+    (λ c. search needs)  -- step-refusal-requires
+    (λ c. search needs)  -- same-length
+    (λ c. search needs)  -- same-length-2
+    (λ c. search needs)  -- same-length-3
     returns
     record-of-requires
     finish-requires
     put-record-requires
-    same-length-4
-    same-length-5
-    same-length-6
-    same-length-7
-    same-length-8
-    same-length-9
-    same-length-10
-    same-length-11
-    same-length-12
+    (λ c. search needs)  -- same-length-4
+    (λ c. search needs)  -- same-length-5
+    (λ c. search needs)  -- same-length-6
+    (λ c. search needs)  -- same-length-7
+    (λ c. search needs)  -- same-length-8
+    (λ c. search needs)  -- same-length-9
+    (λ c. search needs)  -- same-length-10
+    (λ c. search needs)  -- same-length-11
+    (λ c. search needs)  -- same-length-12
     returns-2)

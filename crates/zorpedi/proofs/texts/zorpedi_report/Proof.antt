@@ -4,47 +4,31 @@ use borrow.Author.Needs.{needs}
 use Rattle.zorpedi.proofs.texts.zorpedi_report.Statement.{statement}
 use Rattle.zorpedi.proofs.texts.zorpedi_report.Tie as tie
 
--- src/texts.rt:77:9
-outcome-of-requires : tie.Need-outcome-of-requires
-outcome-of-requires c κs = search needs
-
--- src/texts.rt:86:9
-write-report-requires : tie.Need-write-report-requires
-write-report-requires c κs = search needs
-
--- src/texts.rt:88:23
-enum-known-got : tie.Need-enum-known-got
-enum-known-got c = search needs
-
--- src/texts.rt:92:26
-enum-known-got-2 : tie.Need-enum-known-got-2
-enum-known-got-2 c = search needs
-
--- src/texts.rt:64:1
-same-length : tie.Need-same-length
-same-length c = search needs
-
--- src/texts.rt:64:1
 returns : tie.Need-returns
-returns c = report-line-out _ _ _ _ _ _ (c .before .before .before .before .before .before .before .outcome-of .ensures) _ _ _ (c .before .before .before .before .before .write-report .ensures) (c .before .got .given .1)
+returns c =
+    let after-got : tie.After-got = search in
+    let after-write-report : tie.After-write-report = search in
+    let after-outcome-of : tie.After-outcome-of = search in
+    report-line-out _ _ _ _ _ _ (after-outcome-of .outcome-of .ensures) _ _ _ (after-write-report .write-report .ensures)
+    (after-got .got .given .1)
 
--- src/texts.rt:64:1
-same-length-2 : tie.Need-same-length-2
-same-length-2 c = search needs
-
--- src/texts.rt:64:1
 returns-2 : tie.Need-returns-2
-returns-2 c = report-refused-out _ _ _ _ _ _ (c .before .before .before .before .before .before .before .outcome-of .ensures) _ _ _ (c .before .before .before .before .before .write-report .ensures) (c .before .got2 .given .1)
+returns-2 c =
+    let after-got2 : tie.After-got2 = search in
+    let after-write-report : tie.After-write-report = search in
+    let after-outcome-of : tie.After-outcome-of = search in
+    report-refused-out _ _ _ _ _ _ (after-outcome-of .outcome-of .ensures) _ _ _ (after-write-report .write-report .ensures)
+    (after-got2 .got2 .given .1)
 
 pub zorpedi-report-spec : {M : Type 1} → statement M
 zorpedi-report-spec =
     tie.close
     (tie.spec
-    outcome-of-requires
-    write-report-requires
-    enum-known-got
-    enum-known-got-2
-    same-length
+    (λ c. search needs)  -- outcome-of-requires
+    (λ c. search needs)  -- write-report-requires
+    (λ c. search needs)  -- enum-known-got
+    (λ c. search needs)  -- enum-known-got-2
+    (λ c. search needs)  -- same-length
     returns
-    same-length-2
+    (λ c. search needs)  -- same-length-2
     returns-2)
