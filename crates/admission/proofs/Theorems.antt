@@ -1,20 +1,19 @@
 -- WHAT A CALLER HAS: the refusals 5 to 8 do not look at links, and the linked table is the network with the new depot. Assumes nothing.
-use mathlib.Core.Path.{_≡_, refl, sym, ap, ap₂, _∙_, fun-ext}
-use mathlib.Core.Logic.{_≢_, _⊎_, inl, inr}
+use mathlib.Core.Path.{_≡_, refl, ap, ap₂, _∙_, fun-ext}
+use mathlib.Core.Logic.{_⊎_, inl, inr}
 use mathlib.Core.Bool.{Bool, true, false, _&&_, _||_}
 use mathlib.Core.List.{List, [], _∷_}
 use Prim.Native.Nat.{ℕ, suc, _*_, _≤_, _<_}
 use native.Mathlib.Omega.{arith}
 use lib.Dec.{eqb}
 use lib.ListN.{length, getD}
-use borrow.Author.Tests.{eq-eqb, ne-eqb}
+use borrow.Author.Tests.{ne-eqb}
 use Rattle.lists.specs.Lists.{anyb, memb, overwrite}
-use Rattle.lists.proofs.Tests.{or-left, lt-or-ge, eq-or-ne}
+use Rattle.lists.proofs.Tests.{lt-or-ge}
 use Rattle.graph.specs.Network.{Network}
 use Rattle.graph.specs.Opening.{Notice, noticeFaults, addDepot}
-use Rattle.rows.specs.Rows.{rowBit, tableBit, encodeTable, putBit, InTable}
-use Rattle.rows.proofs.Written.{table-zero, table-agree, table-at}
-use Rattle.rows.proofs.Puts.{put-here, put-rest}
+use Rattle.rows.specs.Rows.{rowBit, tableBit, encodeTable}
+use Rattle.rows.proofs.Written.{table-agree, table-at}
 use Rattle.map.specs.Memory.{networkOf}
 
 -- `notice_refusal` is lent no links, and its answer is that of the map with any
@@ -29,20 +28,6 @@ unfolding addDepot networkOf
 linked-is W codes links code ns = refl
 
 -- ---- the network after an opening
-
--- the open set after `row_set` at row 0, as `linked-after` asks for it
-pub open-after : (W code : ℕ) (codes : List ℕ) → W ≤ length codes → code < 64 * W → (v : ℕ) → rowBit W (putBit W 0 code true codes) v ≡ (eqb v code || rowBit W codes v)
-open-after W code codes l m v = sym (table-zero W (putBit W 0 code true codes) v) ∙ go (eq-or-ne v code)
-  where
-    inside : InTable W codes 0 code
-    inside = record { row = omega arith; below = omega arith; column = m }
-
-    go : (v ≡ code) ⊎ (v ≢ code) → tableBit W (putBit W 0 code true codes) 0 v ≡ (eqb v code || rowBit W codes v)
-    go (inl q) = ap (tableBit W (putBit W 0 code true codes) 0) q ∙ put-here W 0 code true codes inside ∙ sym (or-left (rowBit W codes v) (eq-eqb v code q))
-    go (inr q) =
-        put-rest W 0 code true codes inside 0 v (λ r. q (r .1))
-        ∙ table-zero W codes v
-        ∙ sym (ap (λ (b : Bool). b || rowBit W codes v) (ne-eqb v code q))
 
 -- no number past the bytes is listed
 memb-past : (v : ℕ) (ns : List ℕ) → ((k : ℕ) → k < length ns → getD ns k 0 < 256) → 256 ≤ v → memb v ns ≡ false

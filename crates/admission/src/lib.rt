@@ -1,8 +1,8 @@
 // Whether a notice may be opened (refusals 5 to 8), and the links of the depot that it opens. A row of words may be 4 to 512 long: a code is a
 // byte, and so stands in a row.
+ghost use mathlib.Core.List.{[]};
 ghost use mathlib.Core.Path.{_≡_};
 ghost use mathlib.Core.Bool.{_&&_, _||_, not};
-ghost use mathlib.Core.List.{[]};
 ghost use Prim.Native.Nat.{_*_, _<_, _≤_};
 ghost use lib.Dec.{eqb};
 ghost use lib.ListN.{length};

@@ -17,9 +17,9 @@ use Rattle.graph.specs.Cases.{pairList, path}
 use Rattle.graph.proofs.Connected.{connected-iff}
 use Rattle.graph.proofs.Theorems.{reckoning-correct}
 use Rattle.map.specs.Memory.{base, networkOf}
-use Rattle.map.specs.Sound.{soundLinks}
+use Rattle.checks.specs.Sound.{soundLinks}
 use Rattle.map.specs.declared.Record.{Record}
-use Rattle.map.proofs.Theorems.{sound-links-iff}
+use Rattle.checks.proofs.Theorems.{sound-links-iff}
 use Rattle.rounds.specs.Leaves.{Lent, roundsLeave}
 use Rattle.rounds.specs.Sizes.{sizesOf}
 use Rattle.reckon.specs.ReckonCall.{reckonRefusal, figuredBy, ReckonLeft, reckonGiven, reckonCall}

@@ -23,7 +23,8 @@ use Rattle.layers.specs.Layers.{tables, Tables, Searched, searched, searchLeave
 use Rattle.layers.proofs.Theorems.{table-depth, table-leaves, depth-is}
 use Rattle.map.specs.Memory.{base, networkOf}
 use Rattle.outcome.specs.declared.Change.the-variants.{Grew, Kept, Shrank}
-use Rattle.pairs.specs.Pairs.{Tally, tally, tallyOf, pairsWith, settleOf, dropped, dropOf}
+use Rattle.pairs.specs.Pairs.{Tally, tally, tallyOf, pairsWith, settleOf}
+use Rattle.stale_pairs.specs.Stale.{dropped, dropOf}
 use Rattle.pairs.proofs.Tallies.{tally-ext, table-over}
 use Rattle.rounds.specs.Leaves.{Lent, lent, Ran, ran, ranBy, roundsLeave}
 use Rattle.rounds.specs.Workspace.{lastRow}

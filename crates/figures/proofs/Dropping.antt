@@ -19,10 +19,11 @@ use Rattle.graph.specs.Correct.{IsNet}
 use Rattle.graph.proofs.Charts.{depot-in, depot-out}
 use Rattle.rows.specs.Rows.{tableBit}
 use Rattle.layers.specs.Layers.{Tables, searchLeaves}
-use Rattle.pairs.specs.Pairs.{Tally, tally, tallyOf, Dropped, dropped, staying, greatestWay, dropOf}
+use Rattle.pairs.specs.Pairs.{Tally, tally, tallyOf}
+use Rattle.stale_pairs.specs.Stale.{Dropped, dropped, staying, greatestWay, dropOf}
 use Rattle.pairs.proofs.PairCounts.{pairs-none, pairs-zero}
 use Rattle.pairs.proofs.Tallies.{tally-ext}
-use Rattle.pairs.proofs.Theorems.{drop-way}
+use Rattle.stale_pairs.proofs.Theorems.{drop-way}
 
 -- ---- the greatest of a list
 

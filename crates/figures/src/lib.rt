@@ -1,5 +1,5 @@
-ghost use mathlib.Core.Path.{_≡_};
 ghost use mathlib.Core.List.{[]};
+ghost use mathlib.Core.Path.{_≡_};
 ghost use Prim.Native.Nat.{_<_, _≤_};
 ghost use lib.ListN.{length};
 ghost use Rattle.graph.specs.Chart.{chart};
@@ -194,7 +194,7 @@ fn settle_low(
         let G = networkOf 4 (now (codes .entry)) (now (links .entry)) in
         ⌜ figured (r .change) (ran after (r .chain) (r .count) (r .searches)) ≡ figuredBy base G a chain before ⌝ }
 {
-    let left = pairs::drop_stale(pairs, &*hops, 4, chain);
+    let left = stale_pairs::drop_stale(pairs, &*hops, 4, chain);
     if e == chain {
         let sum = join(pairs, bounds, skips, &*even, &*odd, a, e, chain, left.count);
         return Figures {

@@ -18,7 +18,7 @@ use Rattle.graph.specs.Distance.{connected}
 use Rattle.graph.specs.Chart.{Pairs, countPairs}
 use Rattle.rows.specs.Rows.{tableBit}
 use Rattle.map.specs.Memory.{base, networkOf}
-use Rattle.map.specs.Sound.{allSet, soundLink, soundLinks, soundPair, soundFigures}
+use Rattle.checks.specs.Sound.{allSet, soundLink, soundLinks, soundPair, soundFigures}
 use Rattle.pairs.proofs.PairCounts.{pairs-few}
 use Rattle.rounds.specs.Sizes.{Sizes, longEnough}
 use Rattle.opening.specs.Steps.{mapRefusal}

@@ -6,6 +6,8 @@ pub mod Members
 pub mod Counts
 -- counts of the numbers below n
 pub mod RangeCounts
+-- sums, counts and greatest values over the numbers below n, a number at a time
+pub mod Ranges
 -- a loop that stores one element a turn
 pub mod Fills
 -- buffers whose first places are filled

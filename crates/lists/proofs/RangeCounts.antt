@@ -1,7 +1,7 @@
 -- How many numbers below n pass a test: the count a part at a time, and after one number is put in or taken out. Assumes nothing.
 use mathlib.Core.Path.{_≡_, refl, sym, ap, _∙_}
 use mathlib.Core.Logic.{_≢_}
-use mathlib.Core.Bool.{Bool, true, false, cond, not, _&&_, _||_, and-true, and-false}
+use mathlib.Core.Bool.{Bool, false, cond, not, _&&_, _||_, and-true, and-false}
 use Prim.Native.Nat.{ℕ, zero, suc, _+_, _<_, suc-le-suc}
 use native.Mathlib.Nat.{zero-lt-suc, le-of-suc-le-suc, not-suc-le-zero, zero-add, suc-add}
 use native.Mathlib.Omega.{arith}
@@ -70,9 +70,6 @@ count-with n p b l =
 pub count-with-new : (n : ℕ) (p : ℕ → Bool) (b : ℕ) → b < n → p b ≡ false → countb (λ k. eqb k b || p k) (range n) ≡ countb p (range n) + 1
 count-with-new n p b l e = omega (arith, count-with n p b l, weigh e)
 
-pub count-with-old : (n : ℕ) (p : ℕ → Bool) (b : ℕ) → b < n → p b ≡ true → countb (λ k. eqb k b || p k) (range n) ≡ countb p (range n)
-count-with-old n p b l e = omega (arith, count-with n p b l, weigh e)
-
 -- taken out: one less where it was in, as many where it was out
 count-without : (n : ℕ) (p : ℕ → Bool) (b : ℕ) → b < n → countb (λ k. p k && not (eqb k b)) (range n) + cond (p b) 1 0 ≡ countb p (range n)
 count-without n p b l =
@@ -81,9 +78,3 @@ count-without n p b l =
       count-but n (λ k. p k && not (eqb k b)) p b l (λ k m ne. ap (λ (x : Bool). p k && not x) (ne-eqb k b ne) ∙ and-true (p k)),
       weigh (ap (λ (x : Bool). p b && not x) (eq-eqb b b refl) ∙ and-false (p b)),
     )
-
-pub count-without-old : (n : ℕ) (p : ℕ → Bool) (b : ℕ) → b < n → p b ≡ true → countb (λ k. p k && not (eqb k b)) (range n) + 1 ≡ countb p (range n)
-count-without-old n p b l e = omega (arith, count-without n p b l, weigh e)
-
-pub count-without-new : (n : ℕ) (p : ℕ → Bool) (b : ℕ) → b < n → p b ≡ false → countb (λ k. p k && not (eqb k b)) (range n) ≡ countb p (range n)
-count-without-new n p b l e = omega (arith, count-without n p b l, weigh e)

@@ -1,7 +1,8 @@
 -- Tests as facts, and which of two orders holds. Assumes nothing.
 use mathlib.Core.Path.{_≡_, refl, sym, _∙_, subst}
 use mathlib.Core.Logic.{_≢_, _⊎_, inl, inr}
-use mathlib.Core.Bool.{Bool, true, false, _&&_, _||_}
+use mathlib.Core.Bool.{Bool, true, false, _&&_, _||_, not}
+use borrow.Author.Tests.{not-true, not-false}
 use Prim.Native.Nat.{ℕ, zero, suc, _≤_, _<_, zero-le, suc-le-suc}
 use native.Mathlib.Nat.{eq-or-lt-of-le, ne-of-lt}
 use lib.Dec.{T}
@@ -72,3 +73,11 @@ eq-or-ne a b = go (lt-or-ge a b)
     go : (a < b) ⊎ (b ≤ a) → (a ≡ b) ⊎ (a ≢ b)
     go (inl l) = inr (ne-of-lt l)
     go (inr l) = up (eq-or-lt-of-le l)
+
+-- ---- `if !f(..)`: what the branch shows of the test that f answers
+
+pub test-failed : {r b : Bool} → r ≡ b → not r ≡ true → b ≡ false
+test-failed {r} e h = sym e ∙ not-true r h
+
+pub test-passed : {r b : Bool} → r ≡ b → not r ≡ false → b ≡ true
+test-passed {r} e h = sym e ∙ not-false r h

@@ -1,12 +1,4 @@
--- Tests: what a branch shows of one, and that every set bit passes one.
-pub mod Sets
--- The scan of a table's set bits, over any test.
-pub mod Scans
--- The ones of a table, row by row.
-pub mod Sums
--- Sound links and figures, from what the code finds.
-pub mod Checks
 -- What an emptying leaves: zeros.
 pub mod Empties
--- What the tests and the emptying mean.
+-- What words mean as a network, and what the emptying means.
 pub mod Theorems

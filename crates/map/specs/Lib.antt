@@ -1,7 +1,5 @@
 -- The memory of one map. Order of reading:
 -- 1. the shape of a map, and what its words mean
 pub mod Memory
--- 2. when links and figures are sound
-pub mod Sound
--- 3. emptying a map
+-- 2. emptying a map
 pub mod Empty

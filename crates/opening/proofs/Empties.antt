@@ -20,7 +20,7 @@ use Rattle.graph.specs.Opening.{emptyNetwork}
 use Rattle.graph.proofs.Theorems.{diameter-is, farthest-is}
 use Rattle.map.specs.Memory.{Shape, IsShape, places}
 use Rattle.map.specs.Empty.{zeros, emptyRecord}
-use Rattle.map.proofs.Sums.{sum-none}
+use Rattle.lists.proofs.Ranges.{sum-none}
 use Rattle.map.proofs.Empties.{none-zeros}
 use Rattle.opening.specs.History.{emptyMemory}
 use Rattle.opening.proofs.Memories.{IsHeld, record-path, memory-path, memoryFor, number-is}

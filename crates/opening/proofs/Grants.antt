@@ -24,9 +24,9 @@ use Rattle.graph.proofs.Connected.{connected-iff}
 use Rattle.graph.proofs.Opened.{IsAdmitted, admitted-of, opened-net}
 use Rattle.graph.proofs.Theorems.{distance-below, diameter-is, farthest-is}
 use Rattle.map.specs.Memory.{Shape, IsShape, places, networkOf}
-use Rattle.map.specs.Sound.{soundLinks, soundFigures, AreLinksSound, AreFiguresSound}
+use Rattle.checks.specs.Sound.{soundLinks, soundFigures, AreLinksSound, AreFiguresSound}
 use Rattle.map.specs.declared.Record.{Record}
-use Rattle.map.proofs.Theorems.{sound-links-iff, sound-figures-iff}
+use Rattle.checks.proofs.Theorems.{sound-links-iff, sound-figures-iff}
 use Rattle.rounds.specs.Sizes.{Sizes, longEnough}
 use Rattle.opening.specs.OpenCall.{openRefusal, networkAfter}
 use Rattle.opening.proofs.Memories.{IsHeld, Stores, number-is}

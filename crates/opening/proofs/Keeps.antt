@@ -24,7 +24,7 @@ use Rattle.graph.proofs.Charts.{chart-metric}
 use Rattle.graph.proofs.SoundFigures.{AreSound, opening-sound, ecc-below}
 use Rattle.layers.specs.Layers.{layerBit, depthFrom, Tables, searchLeaves}
 use Rattle.map.specs.Memory.{Shape, IsShape, places, networkOf}
-use Rattle.map.specs.Sound.{AreFiguresSound}
+use Rattle.checks.specs.Sound.{AreFiguresSound}
 use Rattle.map.specs.declared.Record.{Record}
 use Rattle.map.proofs.Theorems.{network-linked-below}
 use Rattle.rounds.specs.Leaves.{searchAfter, Lent, roundsLeave}
@@ -160,17 +160,6 @@ module _ (K : Shape) (shape : IsShape K) (rec : Record) (links : List ℕ) (B : 
       go : (k : ℕ) → refusal ≡ k → sizesOf (openGiven k K rec links B o .links) (openGiven k K rec links B o .lent) ≡ sizesOf links B
       go zero ok = given-sizes K rec links B o (granted-long K shape rec links (B .pairs) (sizesOf links B) o ok)
       go (suc k) ko = refl
-
-  -- and the open set, which has a row's words
-  pub codes-kept : K .words ≤ length (rec .codes) → length (openCall K rec links B o .after .codes) ≡ length (rec .codes)
-  unfolding openCall openGiven
-  codes-kept row = go refusal
-    where
-      go : (k : ℕ) → length (openGiven k K rec links B o .after .codes) ≡ length (rec .codes)
-      go zero =
-          let opens = networkAfter K rec links o .isOpen in
-          overwrite-length (encodeRow (K .words) opens) (rec .codes) (omega (arith, row, encode-row-length (K .words) opens))
-      go (suc k) = refl
 
   -- after an opening call on memory that nothing refuses, nothing refuses it: sizes, soundness of links and figures, connectedness stay
   pub map-kept : o .code < places K → mapRefusal K rec links (B .pairs) (sizesOf links B) ≡ 0

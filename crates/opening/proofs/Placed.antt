@@ -23,7 +23,7 @@ use Rattle.rows.proofs.Wholes.{row-whole, encode-row-ext}
 use Rattle.rows.proofs.Written.{row-read}
 use Rattle.layers.specs.Layers.{tables}
 use Rattle.map.specs.Memory.{base, networkOf}
-use Rattle.map.specs.Sound.{AreFiguresSound}
+use Rattle.checks.specs.Sound.{AreFiguresSound}
 use Rattle.map.specs.declared.Record.{Record}
 use Rattle.map.proofs.Theorems.{network-linked-below, base-shape}
 use Rattle.rounds.specs.Leaves.{Lent, lent, Ran, ran, ranBy}

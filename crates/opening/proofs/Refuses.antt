@@ -13,7 +13,7 @@ use Rattle.graph.specs.Opening.{Notice, noticeFaults}
 use Rattle.rows.specs.Rows.{tableBit}
 use Rattle.layers.specs.Layers.{tables}
 use Rattle.map.specs.Memory.{Shape, networkOf}
-use Rattle.map.specs.Sound.{soundLinks, soundFigures}
+use Rattle.checks.specs.Sound.{soundLinks, soundFigures}
 use Rattle.map.specs.declared.Record.{Record}
 use Rattle.rounds.specs.Leaves.{Lent, lent}
 use Rattle.rounds.specs.Sizes.{Sizes, sizes, sizesOf, longEnough}

@@ -11,7 +11,7 @@ use Rattle.graph.specs.Chart.{chart, countPairs}
 use Rattle.graph.specs.Opening.{Notice, addDepot, noticeFaults, Change, grew, kept, shrank, Opened, opening}
 use Rattle.rows.specs.Rows.{tableBit, encodeRow, encodeTable}
 use Rattle.map.specs.Memory.{Shape, places, networkOf}
-use Rattle.map.specs.Sound.{soundLinks, soundFigures}
+use Rattle.checks.specs.Sound.{soundLinks, soundFigures}
 use Rattle.map.specs.declared.Record.{Record}
 use Rattle.rounds.specs.Leaves.{Lent, roundsLeave}
 use Rattle.rounds.specs.Sizes.{Sizes, sizesOf, longEnough}

@@ -8,7 +8,7 @@ use Rattle.graph.specs.Distance.{connected}
 use Rattle.graph.specs.Opening.{Notice}
 use Rattle.rows.specs.Rows.{tableBit}
 use Rattle.map.specs.Memory.{Shape, networkOf}
-use Rattle.map.specs.Sound.{soundLinks, soundFigures}
+use Rattle.checks.specs.Sound.{soundLinks, soundFigures}
 use Rattle.map.specs.declared.Record.{Record}
 use Rattle.rounds.specs.Sizes.{Sizes, longEnough}
 use Rattle.outcome.specs.declared.Outcome.the-variants.{Refused}

@@ -46,10 +46,10 @@ pub fn map_refusal(
         return 1;
     }
     let codes = rec.codes;
-    if !map::links_are_sound(links, &codes, 4, rec.number) {
+    if !checks::links_are_sound(links, &codes, 4, rec.number) {
         return 2;
     }
-    if !map::figures_are_sound(pairs, &codes, 4, rec.chain, rec.count) {
+    if !checks::figures_are_sound(pairs, &codes, 4, rec.chain, rec.count) {
         return 2;
     }
     if !search::map_is_connected(links, &codes) {

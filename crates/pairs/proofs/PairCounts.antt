@@ -11,7 +11,7 @@ use Rattle.lists.proofs.Members.{length-range, range-in, range-out}
 use Rattle.lists.proofs.Counts.{count-le-length, count-none, count-zero}
 use Rattle.lists.proofs.RangeCounts.{count-same, count-with-new}
 use Rattle.graph.specs.Chart.{Pairs, countPairs}
-use Rattle.pairs.proofs.Ranges.{sum-nothing, sum-same, sum-but, sum-few, sum-has, sum-skip, count-block}
+use Rattle.lists.proofs.Ranges.{sum-nothing, sum-same, sum-but, sum-few, sum-has, sum-skip, count-block}
 
 module _ (n : ℕ) where
   pub pairs-same : (P Q : Pairs) → ((u v : ℕ) → u < n → v < n → P u v ≡ Q u v) → countPairs (range n) P ≡ countPairs (range n) Q

@@ -27,7 +27,7 @@ use Rattle.rows.proofs.WordPuts.{put-word}
 use Rattle.pairs.specs.Pairs.{tally, tallyOf, inWord}
 use Rattle.pairs.proofs.PairCounts.{pairs-with-part}
 use Rattle.pairs.proofs.Tallies.{Holds, holds-table, holds-count, holds-bit, holds-ext, tally-again}
-use Rattle.pairs.proofs.Sifting.{without-inside, without-here, without-other}
+use Rattle.words.proofs.Lowest.{without-inside, without-here, without-other}
 
 -- ---- small laws of tests
 

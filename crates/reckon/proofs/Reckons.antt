@@ -16,9 +16,9 @@ use Rattle.graph.specs.Correct.{IsNet}
 use Rattle.graph.proofs.Connected.{connected-iff}
 use Rattle.layers.specs.Layers.{tables}
 use Rattle.map.specs.Memory.{Shape, IsShape, networkOf}
-use Rattle.map.specs.Sound.{soundLinks}
+use Rattle.checks.specs.Sound.{soundLinks}
 use Rattle.map.specs.declared.Record.{Record}
-use Rattle.map.proofs.Theorems.{sound-links-iff}
+use Rattle.checks.proofs.Theorems.{sound-links-iff}
 use Rattle.pairs.specs.Pairs.{tally, tallyOf, Counted}
 use Rattle.pairs.proofs.Tallies.{holds-counted}
 use Rattle.bounds.specs.Bounds.{marks}

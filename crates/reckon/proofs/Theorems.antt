@@ -19,7 +19,8 @@ use Rattle.rows.proofs.Written.{table-at, encode-table-length}
 use Rattle.layers.specs.Layers.{Tables, searchLeaves}
 use Rattle.map.specs.Memory.{Shape, IsShape, places, base, networkOf}
 use Rattle.map.specs.declared.Record.{Record}
-use Rattle.map.proofs.Theorems.{network-open-below, sound-links-iff, base-shape}
+use Rattle.map.proofs.Theorems.{network-open-below, base-shape}
+use Rattle.checks.proofs.Theorems.{sound-links-iff}
 use Rattle.search.specs.SearchCall.{searchRefusal, SearchLeft, searchLeft, searchGiven, searchCall}
 use Rattle.search.specs.Demand2.{IsSearch}
 use Rattle.search.specs.declared.Found.the-variants.{Reached}

@@ -9,7 +9,7 @@ use Rattle.graph.specs.Distance.{connected}
 use Rattle.graph.specs.Chart.{chart, countPairs}
 use Rattle.graph.specs.Rounds.{State, reckon}
 use Rattle.map.specs.Memory.{Shape, places, networkOf}
-use Rattle.map.specs.Sound.{soundLinks}
+use Rattle.checks.specs.Sound.{soundLinks}
 use Rattle.map.specs.declared.Record.{Record}
 use Rattle.rounds.specs.Leaves.{Lent, roundsLeave}
 use Rattle.rounds.specs.Sizes.{Sizes, sizesOf, longEnough}

@@ -74,7 +74,7 @@ fn reckon_refusal(
         return 1;
     }
     let codes = rec.codes;
-    if !map::links_are_sound(links, &codes, 4, rec.number) {
+    if !checks::links_are_sound(links, &codes, 4, rec.number) {
         return 2;
     }
     if !search::map_is_connected(links, &codes) {

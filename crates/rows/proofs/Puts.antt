@@ -1,13 +1,13 @@
 -- One bit put: what it changes, what it leaves, and that it is the same as encoding the changed set. For any number of words per row. Assumes nothing.
 use mathlib.Core.Path.{_≡_, refl, sym, ap, ap₂, _∙_}
 use mathlib.Core.Logic.{_≢_, _⊎_, inl, inr}
-use mathlib.Core.Bool.{Bool, true, false, cond, not, _&&_, _||_}
+use mathlib.Core.Bool.{Bool, true, false, cond, _&&_, _||_}
 use mathlib.Core.List.{List}
 use Prim.Native.Nat.{ℕ, _+_, _*_, _/_, _%_, _<_}
 use native.Mathlib.Nat.{mod-lt, zero-lt-suc}
 use native.Mathlib.Omega.{arith}
 use lib.Dec.{eqb}
-use lib.ListN.{length, getD, set, length-set}
+use lib.ListN.{getD, set}
 use lib.Seq.{getD-set-same, getD-set-other}
 use borrow.Author.Tests.{eq-eqb, ne-eqb}
 use Rattle.lists.specs.Lists.{overwrite}
@@ -29,20 +29,7 @@ put-with w b = wordOf-ext 64 (λ k. eqb k b || bit w k) (λ k. cond (eqb k b) tr
     go true y = refl
     go false y = refl
 
-pub put-without : (w b : ℕ) → wordOf 64 (λ k. bit w k && not (eqb k b)) ≡ wordOf 64 (λ k. cond (eqb k b) false (bit w k))
-put-without w b = wordOf-ext 64 (λ k. bit w k && not (eqb k b)) (λ k. cond (eqb k b) false (bit w k)) (λ k l. go (eqb k b) (bit w k))
-  where
-    go : (x y : Bool) → (y && not x) ≡ cond x false y
-    go true true = refl
-    go true false = refl
-    go false true = refl
-    go false false = refl
-
 -- ---- what is read after it
-
-pub put-length : (W u v : ℕ) (x : Bool) (t : List ℕ) → length (putBit W u v x t) ≡ length t
-unfolding putBit
-put-length W u v x t = simp length-set
 
 module _ (W u v : ℕ) (x : Bool) (t : List ℕ) (i : InTable W t u v) where
   -- the words: that of the bit, and the others

@@ -12,22 +12,13 @@ use Rattle.words.proofs.Bits.{word-is, word-ext, wordOf-ext}
 use Rattle.rows.specs.Rows.{rowBit, tableBit, encodeRow, encodeTable}
 use Rattle.lists.proofs.Buffers.{buffer-ext, fill-whole}
 use Rattle.rows.proofs.Places.{row-lt, word-lt, place-is}
-use Rattle.rows.proofs.Written.{row-word, table-word, row-at, encode-row-length}
+use Rattle.rows.proofs.Written.{row-word, table-word, encode-row-length}
 
 -- ---- rows
 
 -- a word of a row is the word of the row's bits there
 pub row-word-is : (W : ℕ) (row : List ℕ) (j : ℕ) → j < W → getD row j 0 < 2 ^ 64 → getD row j 0 ≡ wordOf 64 (λ b. rowBit W row (64 * j + b))
 row-word-is W row j h fits = word-is 64 (getD row j 0) (λ b. rowBit W row (64 * j + b)) fits (λ b l. sym (row-word W row j b h l))
-
-pub row-ext : (W : ℕ) (s t : List ℕ) → length s ≡ length t
-    → ((i : ℕ) → i < W → getD s i 0 < 2 ^ 64) → ((i : ℕ) → i < W → getD t i 0 < 2 ^ 64)
-    → ((v : ℕ) → v < 64 * W → rowBit W s v ≡ rowBit W t v) → ((i : ℕ) → W ≤ i → getD s i 0 ≡ getD t i 0) → s ≡ t
-row-ext W s t e ws wt h rest =
-    buffer-ext W s t e
-    (λ i l. word-ext 64 (getD s i 0) (getD t i 0) (ws i l) (wt i l)
-    (λ b m. sym (row-word W s i b l m) ∙ h (64 * i + b) (omega arith) ∙ row-word W t i b l m))
-    rest
 
 -- a row is what its bits encode
 pub row-whole : (W : ℕ) (l : List ℕ) → W ≤ length l → ((i : ℕ) → i < W → getD l i 0 < 2 ^ 64) → l ≡ overwrite (encodeRow W (rowBit W l)) l
@@ -43,14 +34,6 @@ encode-row-ext W f g h =
 -- a second row over the first, as a caller of two functions has it
 pub row-over : (W : ℕ) (f g : ℕ → Bool) (l : List ℕ) → overwrite (encodeRow W f) (overwrite (encodeRow W g) l) ≡ overwrite (encodeRow W f) l
 row-over W f g l = overwrite-twice (encodeRow W f) (encodeRow W g) l (omega (arith, encode-row-length W f, encode-row-length W g))
-
--- a change of each bit, made on an encoded row: the contracts of `add_row` and `remove_row` after another
-pub row-again : (W : ℕ) (f : ℕ → Bool) (g : Bool → ℕ → Bool) (l : List ℕ)
-    → overwrite (encodeRow W (λ v. g (rowBit W (overwrite (encodeRow W f) l) v) v)) (overwrite (encodeRow W f) l) ≡ overwrite (encodeRow W (λ v. g (f v) v)) l
-row-again W f g l =
-    row-over W (λ v. g (rowBit W (overwrite (encodeRow W f) l) v) v) f l
-    ∙ ap (λ (r : List ℕ). overwrite r l)
-    (encode-row-ext W (λ v. g (rowBit W (overwrite (encodeRow W f) l) v) v) (λ v. g (f v) v) (λ v h. ap (λ (x : Bool). g x v) (row-at W f l v h)))
 
 -- ---- tables
 

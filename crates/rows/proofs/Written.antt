@@ -3,7 +3,7 @@ use mathlib.Core.Path.{_≡_, refl, sym, ap, ap₂, _∙_}
 use mathlib.Core.Logic.{_⊎_, inl, inr}
 use mathlib.Core.Bool.{Bool, true, false, _&&_}
 use mathlib.Core.List.{List}
-use Prim.Native.Nat.{ℕ, _+_, _*_, _/_, _%_, _^_, _≤_, _<_}
+use Prim.Native.Nat.{ℕ, _+_, _*_, _/_, _%_, _≤_, _<_}
 use native.Mathlib.Nat.{mod-lt, zero-lt-suc, div-add-mod}
 use native.Mathlib.Omega.{arith}
 use lib.Dec.{ltb}
@@ -12,9 +12,9 @@ use lib.Seq.{getD-take, getD-drop}
 use borrow.Author.Tests.{ltb-true, lt-ltb, le-ltb}
 use Rattle.lists.specs.Lists.{overwrite}
 use Rattle.lists.proofs.Tests.{look}
-use Rattle.lists.proofs.Fills.{length-fill, getD-range, fill-at}
+use Rattle.lists.proofs.Fills.{length-fill, fill-at}
 use Rattle.words.specs.Bits.{bit, wordOf}
-use Rattle.words.proofs.Bits.{bit-wordOf, wordOf-lt}
+use Rattle.words.proofs.Bits.{bit-wordOf}
 use Rattle.rows.specs.Rows.{rowBit, tableBit, encodeRow, encodeTable}
 use Rattle.rows.proofs.Places.{place-lt, place-row, place-word}
 
@@ -110,15 +110,6 @@ pub encode-table-word : (W : ℕ) (f : ℕ → ℕ → Bool) (old : List ℕ) (i
     → getD (overwrite (encodeTable W f) old) i 0 ≡ wordOf 64 (λ b. f (i / W) (64 * (i % W) + b))
 unfolding encodeTable
 encode-table-word W f old i h = fill-at (λ i. wordOf 64 (λ b. f (i / W) (64 * (i % W) + b))) old (W * (64 * W)) i 0 h
-
--- each is a word of 64 bits
-pub encode-row-lt : (W : ℕ) (f : ℕ → Bool) (i : ℕ) → i < W → getD (encodeRow W f) i 0 < 2 ^ 64
-unfolding encodeRow
-encode-row-lt W f i h = rw (getD-range (λ w. wordOf 64 (λ b. f (64 * w + b))) W i 0 h) (wordOf-lt 64 (λ b. f (64 * i + b)))
-
-pub encode-table-lt : (W : ℕ) (f : ℕ → ℕ → Bool) (i : ℕ) → i < W * (64 * W) → getD (encodeTable W f) i 0 < 2 ^ 64
-unfolding encodeTable
-encode-table-lt W f i h = rw (getD-range (λ i. wordOf 64 (λ b. f (i / W) (64 * (i % W) + b))) (W * (64 * W)) i 0 h) (wordOf-lt 64 (λ b. f (i / W) (64 * (i % W) + b)))
 
 -- ---- A ROW WRITTEN IS READ, whatever stands behind it
 

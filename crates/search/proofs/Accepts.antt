@@ -20,9 +20,9 @@ use Rattle.rows.specs.Rows.{tableBit}
 use Rattle.layers.specs.Layers.{Tables, tables, Searched, searched, searchLeaves, searchTable}
 use Rattle.layers.proofs.Theorems.{table-depth, table-leaves, depth-is}
 use Rattle.map.specs.Memory.{Shape, places, tableWords, IsShape, networkOf}
-use Rattle.map.specs.Sound.{soundLinks}
+use Rattle.checks.specs.Sound.{soundLinks}
 use Rattle.map.specs.declared.Record.{Record}
-use Rattle.map.proofs.Theorems.{sound-links-iff}
+use Rattle.checks.proofs.Theorems.{sound-links-iff}
 use Rattle.search.specs.SearchCall.{searchRoom, searchRefusal, SearchLeft, searchLeft, searchGiven, searchCall, lastLayer, rowsLeft, rowsOf}
 use Rattle.search.specs.declared.Found.{Found}
 use Rattle.search.specs.declared.Found.the-variants.{Reached, Refused}

@@ -26,9 +26,10 @@ use Rattle.rows.proofs.Written.{row-past, row-at, row-of-table, table-zero, enc
 use Rattle.layers.specs.Layers.{depthFrom, layerBit, searchLeaves}
 use Rattle.layers.proofs.Theorems.{depth-is, layer-is}
 use Rattle.map.specs.Memory.{Shape, places, tableWords, IsShape, networkOf}
-use Rattle.map.specs.Sound.{soundLinks, AreLinksSound}
+use Rattle.checks.specs.Sound.{soundLinks, AreLinksSound}
 use Rattle.map.specs.declared.Record.{Record}
-use Rattle.map.proofs.Theorems.{network-open-below, sound-links-iff}
+use Rattle.map.proofs.Theorems.{network-open-below}
+use Rattle.checks.proofs.Theorems.{sound-links-iff}
 use Rattle.search.specs.SearchCall.{searchRoom, searchRefusal, SearchLeft, searchGiven, searchCall, lastLayer}
 use Rattle.search.specs.Refusals.{FirstHolds, IsShort, IsSpoilt, IsApart, IsAbsent, searchConditions}
 use Rattle.search.specs.Demand2.{HoldsLayer, HoldsBefore, KeepsPast, IsSearch, Demand2}

@@ -9,7 +9,7 @@ use lib.Dec.{T}
 use lib.ListN.{length}
 use Rattle.graph.specs.Network.{Network, Walk}
 use Rattle.map.specs.Memory.{Shape, places, tableWords, networkOf}
-use Rattle.map.specs.Sound.{AreLinksSound}
+use Rattle.checks.specs.Sound.{AreLinksSound}
 use Rattle.map.specs.declared.Record.{Record}
 
 -- "The first that applies, in rising order, is given, and none otherwise": k is the number of the first condition that holds, 0 where none does.

@@ -10,7 +10,7 @@ use Rattle.graph.specs.Distance.{connected}
 use Rattle.graph.specs.Chart.{chart, ecc}
 use Rattle.layers.specs.Layers.{Tables, searchLeaves}
 use Rattle.map.specs.Memory.{Shape, places, tableWords, networkOf}
-use Rattle.map.specs.Sound.{soundLinks}
+use Rattle.checks.specs.Sound.{soundLinks}
 use Rattle.map.specs.declared.Record.{Record}
 use Rattle.search.specs.declared.Found.{Found}
 use Rattle.search.specs.declared.Found.the-variants.{Reached, Refused}

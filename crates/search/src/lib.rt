@@ -10,7 +10,7 @@ ghost use Rattle.graph.specs.Distance.{unreached, connected};
 ghost use Rattle.rows.specs.Rows.{rowBit};
 ghost use Rattle.layers.specs.Slices.{tablesAt, tablesBefore, tablesAfter};
 ghost use Rattle.map.specs.Memory.{base, networkOf};
-ghost use Rattle.map.specs.Sound.{IsLent};
+ghost use Rattle.checks.specs.Sound.{IsLent};
 ghost use Rattle.search.specs.SearchCall.{searchRefusal, searchLeft, searchCall, lastLayer, rowsLeft, rowsOf};
 use map::Record;
 use rows::Next;
@@ -119,7 +119,7 @@ fn search_refusal(rec: Record, links: &[u64], hops: usize, even: usize, odd: usi
         return 1;
     }
     let codes = rec.codes;
-    if !map::links_are_sound(links, &codes, 4, rec.number) {
+    if !checks::links_are_sound(links, &codes, 4, rec.number) {
         return 2;
     }
     if !map_is_connected(links, &codes) {

@@ -1,7 +1,7 @@
 -- A LINE ON LENT MEMORY IS THE LINE ON THE NETWORK: on memory that says a network with its figures, the line's answer has the report that
 -- Stream.antt gives it, and what it leaves says the network after it. Assumes nothing.
 use mathlib.Core.Path.{_≡_, refl, sym, ap, ap₂, _∙_, subst}
-use mathlib.Core.Bool.{Bool, true, false, not}
+use mathlib.Core.Bool.{Bool, true, not}
 use mathlib.Core.List.{List, _∷_}
 use Prim.Native.Nat.{ℕ, zero, suc, _<_}
 use native.Mathlib.Omega.{arith}

@@ -22,7 +22,7 @@ fn equal(a: bool, b: bool) -> bool {
 // ---- links
 
 fn links_are(t: Tally, links: &[u64; 1024], codes: &[u64; 4], number: u16, want: bool) -> Tally {
-    t.seen(equal(map::links_are_sound(links, codes, 4, number), want))
+    t.seen(equal(checks::links_are_sound(links, codes, 4, number), want))
 }
 
 // A random network of 200 depots: sound, wrongly numbered, and with a bit turned over.
@@ -54,7 +54,10 @@ fn figures_are(
     count: u32,
     want: bool,
 ) -> Tally {
-    t.seen(equal(map::figures_are_sound(pairs, codes, 4, chain, count), want))
+    t.seen(equal(
+        checks::figures_are_sound(pairs, codes, 4, chain, count),
+        want,
+    ))
 }
 
 // Whether a pair bit may stand, the codes 0 to 99 being open.

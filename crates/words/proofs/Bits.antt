@@ -134,9 +134,6 @@ word-ext n a b ha hb h = digit-ext n a b ha hb (λ k l. digit-of a k (bit b k) (
 pub word-is : (n w : ℕ) (f : ℕ → Bool) → w < 2 ^ n → ((k : ℕ) → k < n → bit w k ≡ f k) → w ≡ wordOf n f
 word-is n w f h p = word-ext n w (wordOf n f) h (wordOf-lt n f) (λ k l. p k l ∙ sym (bit-wordOf n f k l))
 
-pub word-whole : (n w : ℕ) → w < 2 ^ n → wordOf n (bit w) ≡ w
-word-whole n w h = sym (word-is n w (bit w) h (λ k l. refl))
-
 -- ---- the operations as words of bits
 
 -- `a | b`: the union

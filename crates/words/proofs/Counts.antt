@@ -1,14 +1,12 @@
 -- The count of the bits of a word: by `count_ones`, and after the least is dropped. Assumes nothing.
-use mathlib.Core.Path.{_≡_, sym, ap}
-use mathlib.Core.Bool.{Bool, not, _&&_}
-use Prim.Native.Nat.{ℕ, zero, suc, _+_, _/_, _^_, _<_}
+use mathlib.Core.Path.{_≡_, sym}
+use mathlib.Core.Bool.{Bool}
+use Prim.Native.Nat.{ℕ, zero, suc, _/_, _^_, _<_}
 use native.Mathlib.Omega.{arith}
-use lib.Dec.{eqb}
 use lib.Count.{ones, ones-step, ones-le}
 use Rattle.lists.specs.Lists.{from, range, countb}
-use Rattle.lists.proofs.RangeCounts.{count-first, count-same, count-without-old}
+use Rattle.lists.proofs.RangeCounts.{count-first, count-same}
 use Rattle.words.specs.Bits.{bit, wordOf}
-use Rattle.words.specs.Least.{IsLeast, WithoutLeast}
 use Rattle.words.proofs.Digits.{half-lt, digit-zero}
 use Rattle.words.proofs.Bits.{digit-bit, bit-suc, bit-wordOf}
 
@@ -23,13 +21,3 @@ ones-count (suc n) a h =
     let rest = ones-count n (a / 2) (half-lt n h) in
     let same = count-same n (bit (a / 2)) (λ k. bit a (suc k)) (λ k l. sym (bit-suc a k)) in
     omega (arith, ones-step a, count-first n (bit a), digit-zero a, digit-bit a 0)
-
--- one bit less after the least is dropped
-pub count-dropped : (w r b : ℕ) → IsLeast w b → WithoutLeast w r → countb (bit r) (range 64) + 1 ≡ countb (bit w) (range 64)
-count-dropped w r b l d =
-    omega (
-      arith,
-      ap (λ (x : ℕ). countb (bit x) (range 64)) (d .rest b l),
-      count-wordOf 64 (λ k. bit w k && not (eqb k b)),
-      count-without-old 64 (bit w) b (l .below) (l .here),
-    )

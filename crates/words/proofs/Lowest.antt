@@ -10,11 +10,11 @@ use lib.Arith.{lt-of-le-ne}
 use lib.Bits.{bitAnd, and-le-l, and-le-r}
 use lib.Count.{trailingZeros, under}
 use borrow.Author.Tests.{eq-eqb, ne-eqb}
-use Rattle.lists.proofs.Tests.{clash, lt-or-ge, eq-or-ne}
+use Rattle.lists.proofs.Tests.{clash, lt-or-ge, eq-or-ne, and-true as and-parts}
 use Rattle.words.specs.Bits.{bit, wordOf}
 use Rattle.words.specs.Least.{IsLeast, WithoutLeast}
 use Rattle.words.proofs.Digits.{digit, half-lt, digit-zero, digit-suc}
-use Rattle.words.proofs.Bits.{digit-bit, bit-is, bit-and, word-is}
+use Rattle.words.proofs.Bits.{digit-bit, bit-is, bit-and, bit-wordOf, word-is}
 
 -- ---- the trailing zeros of n digits
 
@@ -113,3 +113,17 @@ drop-is w p h = record {
   less = omega (arith, and-le-r w (w - 1));
   rest = λ b l. subst (λ (x : ℕ). bitAnd w (w - 1) ≡ wordOf 64 (λ k. bit w k && not (eqb k x))) (least-unique w (trailingZeros 64 w) b (least-is w p h) l) (drop-word 64 w p h);
 }
+
+-- ---- the bits of a word without its least
+pub without-bit : {w y b : ℕ} → IsLeast w b → WithoutLeast w y → (k : ℕ) → k < 64 → bit y k ≡ (bit w k && not (eqb k b))
+without-bit {w} {y} {b} l d k m = ap (λ (r : ℕ). bit r k) (d .rest b l) ∙ bit-wordOf 64 (λ k. bit w k && not (eqb k b)) k m
+
+-- a bit that is left was there before
+pub without-inside : {w y b : ℕ} → IsLeast w b → WithoutLeast w y → (k : ℕ) → k < 64 → bit y k ≡ true → bit w k ≡ true
+without-inside {w} {y} {b} l d k m h = and-parts (bit w k) (not (eqb k b)) (sym (without-bit l d k m) ∙ h) .0
+
+pub without-here : {w y b : ℕ} → IsLeast w b → WithoutLeast w y → bit y b ≡ false
+without-here {w} {y} {b} l d = without-bit l d b (l .below) ∙ rw (eq-eqb b b refl, l .here)
+
+pub without-other : {w y b : ℕ} → IsLeast w b → WithoutLeast w y → (k : ℕ) → k < 64 → k ≢ b → bit y k ≡ bit w k
+without-other {w} {y} {b} l d k m ne = without-bit l d k m ∙ ap (λ (x : Bool). bit w k && not x) (ne-eqb k b ne) ∙ and-true (bit w k)

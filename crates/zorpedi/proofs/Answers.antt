@@ -13,7 +13,7 @@ use Rattle.graph.specs.Opening.{Notice, noticeFaults}
 use Rattle.rows.specs.Rows.{tableBit}
 use Rattle.layers.specs.Layers.{Tables}
 use Rattle.map.specs.Memory.{base, networkOf}
-use Rattle.map.specs.Sound.{soundLinks, soundFigures}
+use Rattle.checks.specs.Sound.{soundLinks, soundFigures}
 use Rattle.map.specs.Empty.{EmptyLeft, emptyLeft, emptyRefusal, emptyGiven, emptyCall}
 use Rattle.map.specs.declared.Record.{Record}
 use Rattle.map.specs.declared.Emptied.{Emptied}

@@ -6,7 +6,7 @@ use Prim.Native.Nat.{ℕ, _-_, _<_}
 use native.Mathlib.Omega.{arith}
 use lib.ListN.{length, getD}
 use Rattle.rows.specs.Rows.{rowBit}
-use Rattle.map.proofs.Sets.{test-failed, test-passed}
+use Rattle.lists.proofs.Tests.{test-failed, test-passed}
 use Rattle.admission.proofs.Listed.{listed-more, listed-end, listed-fault}
 use borrow.Author.Needs.{needs}
 use Rattle.admission.proofs.all_open.Statement.{statement}

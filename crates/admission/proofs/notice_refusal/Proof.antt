@@ -2,7 +2,7 @@
 -- Assumes nothing.
 use mathlib.Core.Path.{sym, _∙_}
 use native.Mathlib.Omega.{arith}
-use Rattle.map.proofs.Sets.{test-failed, test-passed}
+use Rattle.lists.proofs.Tests.{test-failed, test-passed}
 use Rattle.admission.proofs.Notices.{refused-taken, refused-lonely, refused-unsorted, refused-unknown, refused-never}
 use borrow.Author.Needs.{needs}
 use Rattle.admission.proofs.notice_refusal.Statement.{statement}

@@ -1,7 +1,7 @@
 -- `figures::settle_low` meets its contract: each end is one of the network's opening, by the tests before it.
 -- Assumes nothing.
 use native.Mathlib.Omega.{arith}
-use Rattle.pairs.proofs.Theorems.{drop-counted}
+use Rattle.stale_pairs.proofs.Theorems.{drop-counted}
 use Rattle.figures.proofs.Cases.{equal-is, kept-is, shrank-is}
 use borrow.Author.Needs.{needs}
 use Rattle.figures.proofs.settle_low.Statement.{statement}

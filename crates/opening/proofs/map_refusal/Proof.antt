@@ -1,16 +1,16 @@
 -- `opening::map_refusal` meets its contract: the tests stand in the order of the refusals, and each answer is that of the first that holds.
 -- Assumes nothing.
+use mathlib.Core.List.{[]}
 use mathlib.Core.Path.{_≡_, sym, _∙_}
 use mathlib.Core.Bool.{true}
-use mathlib.Core.List.{[]}
 use native.Mathlib.Omega.{arith}
 use borrow.Author.Tests.{not-true, not-false}
 use lib.ListN.{length}
 use Rattle.rows.specs.Rows.{tableBit}
 use Rattle.map.specs.Memory.{base, networkOf}
-use Rattle.map.specs.Sound.{soundLinks, soundFigures}
+use Rattle.checks.specs.Sound.{soundLinks, soundFigures}
 use Rattle.rounds.specs.Sizes.{sizes, longEnough}
-use Rattle.map.proofs.Theorems.{figures-any-links}
+use Rattle.checks.proofs.Theorems.{figures-any-links}
 use Rattle.reckon.proofs.Longs.{are-long}
 use Rattle.reckon.proofs.Reckons.{sound-by}
 use Rattle.opening.proofs.Refuses.{refused-short, refused-links, refused-figures, refused-apart, refused-never}

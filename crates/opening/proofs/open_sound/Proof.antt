@@ -1,6 +1,6 @@
 -- `opening::open_sound` meets its contract: of a memory that nothing refuses the notice alone is judged. Assumes nothing.
-use mathlib.Core.Path.{sym, ap, _∙_}
 use mathlib.Core.List.{[]}
+use mathlib.Core.Path.{sym, ap, _∙_}
 use native.Mathlib.Omega.{arith}
 use Rattle.lists.specs.Lists.{firstOf}
 use Rattle.map.specs.Memory.{base}

@@ -1,0 +1,58 @@
+-- Sound links and figures, from what the code finds. Assumes nothing.
+use mathlib.Core.Path.{_≡_, sym, _∙_}
+use mathlib.Core.Bool.{Bool, true, false, and-true, and-false}
+use mathlib.Core.List.{List}
+use Prim.Native.Nat.{ℕ, _*_, _≤_, _<_}
+use lib.Dec.{eqb, ltb}
+use borrow.Author.Tests.{eq-eqb, ne-eqb, lt-ltb, le-ltb}
+use Rattle.lists.specs.Lists.{range, countb}
+use Rattle.lists.proofs.RangeCounts.{count-same}
+use Rattle.rows.specs.Rows.{rowBit, tableBit}
+use Rattle.rows.proofs.Written.{table-zero}
+use Rattle.graph.specs.Chart.{countPairs}
+use Rattle.map.specs.Memory.{networkOf}
+use Rattle.checks.specs.Sound.{allSet, soundLink, soundLinks, soundPair, soundFigures}
+
+-- ---- links
+
+-- the open set is lent as row 0 of a table
+codes-count : (W : ℕ) (codes : List ℕ) {r : ℕ} → r ≡ countb (tableBit W codes 0) (range (64 * W)) → r ≡ countb (rowBit W codes) (range (64 * W))
+codes-count W codes e = e ∙ count-same (64 * W) (tableBit W codes 0) (rowBit W codes) (λ v l. table-zero W codes v)
+
+module _ (W : ℕ) (codes links : List ℕ) {r number : ℕ} (e : r ≡ countb (tableBit W codes 0) (range (64 * W))) where
+  pub links-miscounted : (r ≡ number → ⊥) → false ≡ soundLinks (networkOf W codes links) number
+  unfolding soundLinks networkOf
+  links-miscounted ne =
+      let q : eqb number (countb (rowBit W codes) (range (64 * W))) ≡ false = ne-eqb number _ (λ p. ne (codes-count W codes e ∙ sym p)) in
+      rw q
+
+  pub links-scanned : r ≡ number → {f : Bool} → f ≡ allSet (64 * W) (tableBit W links) (soundLink (networkOf W codes links)) → f ≡ soundLinks (networkOf W codes links) number
+  unfolding soundLinks networkOf
+  links-scanned p h =
+      let q : eqb number (countb (rowBit W codes) (range (64 * W))) ≡ true = eq-eqb number _ (sym p ∙ codes-count W codes e) in
+      rw q h
+
+-- ---- figures, whatever the links are
+
+module _ (W : ℕ) (codes links pairs : List ℕ) (chain count : ℕ) where
+  pub figures-miscounted : {r : ℕ} → r ≡ countPairs (range (64 * W)) (tableBit W pairs) → (r ≡ count → ⊥)
+      → false ≡ soundFigures (networkOf W codes links) (tableBit W pairs) chain count
+  unfolding soundFigures networkOf
+  figures-miscounted e ne =
+      let q : eqb count (countPairs (range (64 * W)) (tableBit W pairs)) ≡ false = ne-eqb count _ (λ p. ne (e ∙ sym p)) in
+      rw (q, and-false (allSet (64 * W) (tableBit W pairs) (soundPair (networkOf W codes links))))
+
+  pub figures-too-long : 64 * W ≤ chain → false ≡ soundFigures (networkOf W codes links) (tableBit W pairs) chain count
+  unfolding soundFigures networkOf
+  figures-too-long l =
+      let q : ltb chain (64 * W) ≡ false = le-ltb chain (64 * W) l in
+      rw (q, and-false _)
+
+  pub figures-scanned : {r : ℕ} → r ≡ countPairs (range (64 * W)) (tableBit W pairs) → r ≡ count → chain < 64 * W
+      → {f : Bool} → f ≡ allSet (64 * W) (tableBit W pairs) (soundPair (networkOf W codes links))
+      → f ≡ soundFigures (networkOf W codes links) (tableBit W pairs) chain count
+  unfolding soundFigures networkOf
+  figures-scanned e p l h =
+      let q : eqb count (countPairs (range (64 * W)) (tableBit W pairs)) ≡ true = eq-eqb count _ (sym p ∙ e) in
+      let s : ltb chain (64 * W) ≡ true = lt-ltb chain (64 * W) l in
+      rw (q, s) (h ∙ sym (and-true _ ∙ and-true _))

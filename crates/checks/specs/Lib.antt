@@ -1,0 +1,2 @@
+-- when links and figures are sound
+pub mod Sound

@@ -1,0 +1,120 @@
+// The checks of a lent map: whether its links and its figures are sound. Only set bits are walked, so that a check costs what is there.
+ghost use mathlib.Core.List.{[]};
+ghost use mathlib.Core.Path.{_≡_};
+ghost use Prim.Native.Nat.{_*_, _<_, _≤_};
+ghost use lib.ListN.{length};
+ghost use Rattle.lists.specs.Lists.{range};
+ghost use Rattle.rows.specs.Rows.{tableBit};
+ghost use Rattle.graph.specs.Chart.{countPairs};
+ghost use Rattle.map.specs.Memory.{networkOf};
+ghost use Rattle.checks.specs.Sound.{IsLent, soundLink, soundLinks, soundPair, soundFigures};
+
+// ---- sound links
+
+// Whether a bit v of row u may stand: u and v are open and differ, and row v has bit u.
+fn link_is_sound(links: &[u64], codes: &[u64], words: usize, u: usize, v: usize) -> bool
+    requires { ⌜ IsLent words (now links) (now codes) × (u < 64 * words) × (v < 64 * words) ⌝ }
+    ensures { λ r. ⌜ r ≡ soundLink (networkOf words (now (codes .entry)) (now (links .entry))) u v ⌝ }
+{
+    if !map::is_open(codes, words, u) {
+        return false;
+    }
+    if !map::is_open(codes, words, v) {
+        return false;
+    }
+    if u == v {
+        return false;
+    }
+    rows::row_test(links, words, v, u)
+}
+
+// Whether links and number open are sound. Only set bits are walked, and the walk ends at the first faulty one.
+pub fn links_are_sound(links: &[u64], codes: &[u64], words: usize, number: u16) -> bool
+    requires { ⌜ IsLent words (now links) (now codes) ⌝ }
+    ensures { λ r. ⌜ r ≡ soundLinks (networkOf words (now (codes .entry)) (now (links .entry))) number ⌝ }
+{
+    if rows::degree(codes, words, 0) != number as usize {
+        return false;
+    }
+    let mut fine = true;
+    let mut u: usize = 0;
+    'rows: while u < 64 * words {
+        let mut w: usize = 0;
+        while w < words {
+            let mut x = links[words * u + w];
+            while x != 0 {
+                let v = 64 * w + words::least(x);
+                if !link_is_sound(links, codes, words, u, v) {
+                    fine = false;
+                    break 'rows;
+                }
+                x = words::drop_least(x);
+            }
+            w += 1;
+        }
+        u += 1;
+    }
+    fine
+}
+
+// ---- sound figures
+
+// Whether bit `high` of row `low` of the pair table may stand: low < high, and both are open.
+fn pair_is_sound(codes: &[u64], words: usize, low: usize, high: usize) -> bool
+    requires { ⌜ (words ≤ length (now codes)) × (low < 64 * words) × (high < 64 * words) ⌝ }
+    ensures { λ r. ⌜ r ≡ soundPair (networkOf words (now (codes .entry)) []) low high ⌝ }
+{
+    if high <= low {
+        return false;
+    }
+    if !map::is_open(codes, words, low) {
+        return false;
+    }
+    map::is_open(codes, words, high)
+}
+
+// The ones of the pair table, row by row.
+fn count_pairs(pairs: &[u64], words: usize) -> usize
+    requires { ⌜ (words < 513) × (words * (64 * words) ≤ length (now pairs)) ⌝ }
+    ensures { λ r. ⌜ r ≡ countPairs (range (64 * words)) (tableBit words (now (pairs .entry))) ⌝ }
+{
+    let mut sum: usize = 0;
+    let mut u: usize = 0;
+    while u < 64 * words {
+        sum += rows::degree(pairs, words, u);
+        u += 1;
+    }
+    sum
+}
+
+// Whether the figures are sound. They ask only which codes are open, so no link is lent.
+pub fn figures_are_sound(pairs: &[u64], codes: &[u64], words: usize, chain: u16, count: u32) -> bool
+    requires { ⌜ IsLent words (now pairs) (now codes) ⌝ }
+    ensures { λ r. ⌜ r ≡ soundFigures (networkOf words (now (codes .entry)) []) (tableBit words (now (pairs .entry))) chain count ⌝ }
+{
+    if count_pairs(pairs, words) != count as usize {
+        return false;
+    }
+    if 64 * words <= chain as usize {
+        return false;
+    }
+    let mut paired = true;
+    let mut low: usize = 0;
+    'rows: while low < 64 * words {
+        let mut w: usize = 0;
+        while w < words {
+            let mut x = pairs[words * low + w];
+            while x != 0 {
+                let high = 64 * w + words::least(x);
+                if !pair_is_sound(codes, words, low, high) {
+                    paired = false;
+                    break 'rows;
+                }
+                x = words::drop_least(x);
+            }
+            w += 1;
+        }
+        low += 1;
+    }
+    paired
+}

@@ -1,0 +1,135 @@
+-- `stale_pairs::drop_row` meets its contract. The loop's invariant (StaleRow.antt): the row's pairs in the words passed are dropped or counted, and their
+-- greatest way is known. The measure is the words left. Assumes nothing.
+use mathlib.Core.Path.{refl}
+use Prim.Native.Nat.{_-_, _*_}
+use native.Mathlib.Omega.{arith}
+use Rattle.rows.proofs.Places.{row-fits}
+use Rattle.stale_pairs.proofs.StaleRow.{RowDropping, row-start, row-word, row-end, row-few}
+use borrow.Author.Needs.{needs}
+use Rattle.stale_pairs.proofs.drop_row.Statement.{statement}
+use Rattle.stale_pairs.proofs.drop_row.Tie as tie
+
+abbrev Inv-loop : tie.InvT-loop
+Inv-loop pairs₀ hops words u chain base count₀ way₀ j₀ pairs count way j = RowDropping words hops chain u pairs₀ pairs count way (64 * j)
+
+abbrev μ-loop : tie.MeasureT-loop
+μ-loop pairs₀ hops words u chain base count₀ way₀ j₀ pairs count way j = words - j
+
+mul-base : tie.Need-mul-base Inv-loop μ-loop
+mul-base c =
+    let start : tie.Start Inv-loop μ-loop = search in
+    let pre = start .pre in omega (arith, row-fits _ _ _ (pre .1) (pre .0 .table))
+
+loop-holds : tie.Need-loop-holds Inv-loop μ-loop
+loop-holds c =
+    let after-slice-known : tie.After-slice-known Inv-loop μ-loop = search in
+    let start : tie.Start Inv-loop μ-loop = search in
+    row-start _ _ _ _ _ (start .pre .0 .table) (λ i l. after-slice-known .slice-known .given i .fits)
+
+add-i : tie.Need-add-i Inv-loop μ-loop
+add-i c =
+    let start : tie.Start Inv-loop μ-loop = search in
+    let pre = start .pre in omega (arith, row-fits _ _ _ (pre .1) (pre .0 .table), c .loop-test .taken)
+
+mul-sift : tie.Need-mul-sift Inv-loop μ-loop
+mul-sift c =
+    let start : tie.Start Inv-loop μ-loop = search in
+    let pre = start .pre in omega (arith, row-fits _ _ _ (pre .1) (pre .0 .table), c .loop-test .taken)
+
+slice-read-sift : tie.Need-slice-read-sift Inv-loop μ-loop
+slice-read-sift c =
+    let in-loop : tie.In-loop Inv-loop μ-loop = search in
+    let at-loop : tie.At-loop Inv-loop μ-loop = search in
+    let start : tie.Start Inv-loop μ-loop = search in
+    let pre = start .pre in omega (arith, row-fits _ _ _ (pre .1) (pre .0 .table), in-loop .loop-test .taken, at-loop .loop .inv .size)
+
+mul-sift-2 : tie.Need-mul-sift-2 Inv-loop μ-loop
+mul-sift-2 c =
+    let in-loop : tie.In-loop Inv-loop μ-loop = search in
+    let start : tie.Start Inv-loop μ-loop = search in
+    omega (arith, in-loop .loop-test .taken, start .pre .0 .most)
+
+sift-requires : tie.Need-sift-requires Inv-loop μ-loop
+sift-requires c κs =
+    let in-loop : tie.In-loop Inv-loop μ-loop = search in
+    let start : tie.Start Inv-loop μ-loop = search in
+    let pre = start .pre in (omega (arith, pre .0 .hopped, pre .1), omega (arith, pre .0 .hopped, in-loop .loop-test .taken))
+
+mul-pairs : tie.Need-mul-pairs Inv-loop μ-loop
+mul-pairs c =
+    let in-loop : tie.In-loop Inv-loop μ-loop = search in
+    let start : tie.Start Inv-loop μ-loop = search in
+    let pre = start .pre in omega (arith, row-fits _ _ _ (pre .1) (pre .0 .table), in-loop .loop-test .taken)
+
+slice-write-pairs : tie.Need-slice-write-pairs Inv-loop μ-loop
+slice-write-pairs c =
+    let in-loop : tie.In-loop Inv-loop μ-loop = search in
+    let at-loop : tie.At-loop Inv-loop μ-loop = search in
+    let start : tie.Start Inv-loop μ-loop = search in
+    let pre = start .pre in omega (arith, row-fits _ _ _ (pre .1) (pre .0 .table), in-loop .loop-test .taken, at-loop .loop .inv .size)
+
+add-count : tie.Need-add-count Inv-loop μ-loop
+add-count c =
+    let after-sift : tie.After-sift Inv-loop μ-loop = search in
+    let in-loop : tie.In-loop Inv-loop μ-loop = search in
+    let at-loop : tie.At-loop Inv-loop μ-loop = search in
+    let start : tie.Start Inv-loop μ-loop = search in
+    let most = start .pre .0 .most in
+    let more = row-word _ _ _ _ _ (at-loop .loop .inv) (start .pre .1) (in-loop .loop-test .taken) (after-sift .sift .ensures .0)
+    (after-sift .sift .ensures .1) (c .count .ensures) refl in
+    omega (arith, row-few more, more .within, most)
+
+add-j : tie.Need-add-j Inv-loop μ-loop
+add-j c =
+    let in-loop : tie.In-loop Inv-loop μ-loop = search in
+    let start : tie.Start Inv-loop μ-loop = search in
+    omega (arith, in-loop .loop-test .taken, start .pre .0 .most)
+
+loop-less : tie.Need-loop-less Inv-loop μ-loop
+loop-less c =
+    let in-loop : tie.In-loop Inv-loop μ-loop = search in
+    omega (arith, in-loop .loop-test .taken)
+
+loop-again : tie.Need-loop-again Inv-loop μ-loop
+loop-again c =
+    let after-count : tie.After-count Inv-loop μ-loop = search in
+    let after-sift : tie.After-sift Inv-loop μ-loop = search in
+    let in-loop : tie.In-loop Inv-loop μ-loop = search in
+    let at-loop : tie.At-loop Inv-loop μ-loop = search in
+    let start : tie.Start Inv-loop μ-loop = search in
+    row-word _ _ _ _ _ (at-loop .loop .inv) (start .pre .1) (in-loop .loop-test .taken) (after-sift .sift .ensures .0)
+    (after-sift .sift .ensures .1) (after-count .count .ensures) (c .longer .ensures)
+
+same-length : tie.Need-same-length Inv-loop μ-loop
+same-length c =
+    let at-loop : tie.At-loop Inv-loop μ-loop = search in
+    at-loop .loop .inv .size
+
+returns : tie.Need-returns Inv-loop μ-loop
+returns c =
+    let at-loop : tie.At-loop Inv-loop μ-loop = search in
+    row-end _ _ _ _ _ (at-loop .loop .inv) (omega (arith, c .loop-test .left))
+
+pub drop-row-spec : {M : Type 1} → statement M
+drop-row-spec =
+    tie.close
+    (tie.spec
+    Inv-loop
+    μ-loop
+    mul-base
+    loop-holds
+    add-i
+    mul-sift
+    slice-read-sift
+    mul-sift-2
+    sift-requires
+    mul-pairs
+    slice-write-pairs
+    (λ c. search needs)  -- count-requires
+    add-count
+    (λ c. search needs)  -- longer-requires
+    add-j
+    loop-less
+    loop-again
+    same-length
+    returns)

@@ -1,0 +1,2 @@
+-- the pairs that stay after a search, and the dropping of the others
+pub mod Stale

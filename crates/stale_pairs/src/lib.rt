@@ -1,0 +1,150 @@
+// Stale pairs dropped from the pair table itself: those that a search shows to be nearer than the chain. A row of words may be up to 512 long.
+// What a function ensures of table, count and way is one equation, so that callers rewrite by it.
+ghost use mathlib.Core.Path.{_≡_};
+ghost use Prim.Native.Nat.{_+_, _*_, _%_, _<_, _≤_, min, max};
+ghost use lib.ListN.{length, getD};
+ghost use Rattle.words.specs.Bits.{wordOf};
+ghost use Rattle.pairs.specs.Pairs.{tally};
+ghost use Rattle.stale_pairs.specs.Stale.{Reckoned, Bare, dropped, stayingBit, greatestBit, dropRowOf, dropOf};
+
+// How many pairs stay, and the greatest way of those that were there.
+pub struct Dropping {
+    pub count: u32,
+    pub way: u16,
+}
+
+// The greater of two ways.
+fn longer(a: u16, b: u16) -> u16
+    ensures { λ r. ⌜ r ≡ max a b ⌝ }
+{
+    if a < b {
+        return b;
+    }
+    a
+}
+
+// The way from u to v by the hops of a search, and no more than chain. Two hops may pass 65,535, so they are summed at 32 bits.
+fn way_by(hops: &[u16], u: usize, v: usize, chain: u16) -> u16
+    requires { ⌜ (u < length (now hops)) × (v < length (now hops)) ⌝ }
+    ensures { λ r. ⌜ r ≡ min chain (getD (now (hops .entry)) u 0 + getD (now (hops .entry)) v 0) ⌝ }
+{
+    let near = hops[u] as u32;
+    let far = hops[v] as u32;
+    let sum = near + far;
+    if sum < chain as u32 {
+        return sum as u16;
+    }
+    chain
+}
+
+// The members of a word that stay, and the greatest way of those that were there.
+pub struct Sifted {
+    pub word: u64,
+    pub way: u16,
+}
+
+// Takes the stale members out of x, whose bit b stands for the pair of u and first + b: those whose way is below chain.
+fn sift(x: u64, hops: &[u16], u: usize, first: usize, chain: u16) -> Sifted
+    requires { ⌜ (u < length (now hops)) × (first + 64 ≤ length (now hops)) ⌝ }
+    ensures { λ r. ⌜ (r .word ≡ wordOf 64 (stayingBit (now (hops .entry)) chain u first x)) × (r .way ≡ greatestBit (now (hops .entry)) chain u first x) ⌝ }
+{
+    let mut word = x;
+    let mut way: u16 = 0;
+    let mut left = x;
+    while left != 0 {
+        let b = words::least(left);
+        let d = way_by(hops, u, first + b, chain);
+        way = longer(way, d);
+        if d < chain {
+            word = words::without_bit(word, b);
+            left = words::drop_least(left);
+        } else {
+            left = words::drop_least(left);
+        }
+    }
+    Sifted {
+        word: word,
+        way: way,
+    }
+}
+
+// Drops the stale pairs of row u, a word at a time.
+fn drop_row(pairs: &mut [u64], hops: &[u16], words: usize, u: usize, chain: u16) -> Dropping
+    requires { ⌜ Reckoned words (now pairs) (now hops) × (u < 64 * words) ⌝ }
+    ensures { λ r. ⌜ dropped (tally (now (pairs .exit)) (r .count)) (r .way) ≡ dropRowOf words (now (hops .entry)) chain u (now (pairs .entry)) ⌝ }
+{
+    let base = words * u;
+    let mut count: u32 = 0;
+    let mut way: u16 = 0;
+    let mut j = 0;
+    while j < words {
+        let i = base + j;
+        let left = sift(pairs[i], hops, u, 64 * j, chain);
+        pairs[i] = left.word;
+        count += words::count(left.word);
+        way = longer(way, left.way);
+        j += 1;
+    }
+    Dropping {
+        count: count,
+        way: way,
+    }
+}
+
+// How many rows from u on have no pair, as far as whole groups of 8 tell. The first group begins at u.
+fn bare_groups(pairs: &[u64], words: usize, u: usize) -> usize
+    requires { ⌜ (words < 513) × (words * (64 * words) ≤ length (now pairs)) × (u < 64 * words) × (u % 8 ≡ 0) ⌝ }
+    ensures { λ r. ⌜ Bare words (now (pairs .entry)) u r ⌝ }
+{
+    let mut p = u;
+    while p < 64 * words {
+        if !rows::all_zero(pairs, words * p, 8 * words) {
+            return p - u;
+        }
+        p += 8;
+    }
+    p - u
+}
+
+// How many rows from u on have no pair, as far as one look tells: groups of 8 where u begins one, row u alone, or none.
+// Most rows have none, and so most are passed 8 at a time.
+fn bare_rows(pairs: &[u64], words: usize, u: usize) -> usize
+    requires { ⌜ (words < 513) × (words * (64 * words) ≤ length (now pairs)) × (u < 64 * words) ⌝ }
+    ensures { λ r. ⌜ Bare words (now (pairs .entry)) u r ⌝ }
+{
+    if u % 8 == 0 {
+        let bare = bare_groups(pairs, words, u);
+        if bare != 0 {
+            return bare;
+        }
+    }
+    if rows::all_zero(pairs, words * u, words) {
+        return 1;
+    }
+    0
+}
+
+// Drops the stale pairs of the table, row by row in the table itself, and answers what is left of them and the greatest way that was there.
+pub fn drop_stale(pairs: &mut [u64], hops: &[u16], words: usize, chain: u16) -> Dropping
+    requires { ⌜ Reckoned words (now pairs) (now hops) ⌝ }
+    ensures { λ r. ⌜ dropped (tally (now (pairs .exit)) (r .count)) (r .way) ≡ dropOf words (now (hops .entry)) chain (now (pairs .entry)) ⌝ }
+{
+    let mut count: u32 = 0;
+    let mut way: u16 = 0;
+    let mut u = 0;
+    while u < 64 * words {
+        let bare = bare_rows(&*pairs, words, u);
+        if bare != 0 {
+            u += bare;
+        } else {
+            let row = drop_row(pairs, hops, words, u, chain);
+            count += row.count;
+            way = longer(way, row.way);
+            u += 1;
+        }
+    }
+    Dropping {
+        count: count,
+        way: way,
+    }
+}
