@@ -19,8 +19,9 @@ use Rattle.rows.proofs.Written.{row-at}
 use Rattle.rows.proofs.Wholes.{encode-row-ext, row-over}
 use Rattle.rows.proofs.Puts.{put-row}
 use Rattle.layers.specs.Layers.{layerBit, Tables, tables}
-use Rattle.layers.specs.Steps.{reaches, fresh, Stepped, stepped, stepOf, Begun, begun, beginOf}
-use Rattle.layers.proofs.Frontier.{near, fresh-is, seen-is, hops-visit}
+use Rattle.frontier.specs.Steps.{reaches, fresh, Stepped, stepped, stepOf}
+use Rattle.layers.specs.Begin.{Begun, begun, beginOf}
+use Rattle.layers.proofs.Hops.{near, fresh-is, seen-is, hops-visit}
 
 -- ---- the start
 

@@ -18,8 +18,9 @@ use Rattle.graph.proofs.Layers.{hops-range}
 use Rattle.rows.specs.Rows.{tableBit, encodeRow}
 use Rattle.rows.proofs.Wholes.{encode-row-ext, row-over}
 use Rattle.layers.specs.Layers.{tableNetwork, depthFrom, layerBit, Tables, tables, searchLeaves, searched, searchTable}
-use Rattle.layers.specs.Steps.{stepped, stepOf, Begun, begun, beginOf}
-use Rattle.layers.proofs.Frontier.{layer-stays, hops-stay, hops-final, reached-more}
+use Rattle.frontier.specs.Steps.{stepped, stepOf}
+use Rattle.layers.specs.Begin.{Begun, begun, beginOf}
+use Rattle.layers.proofs.Hops.{layer-stays, hops-stay, hops-final, reached-more}
 use Rattle.layers.proofs.Searching.{H, AtLayer, at-start, more-is, hops-now, other-stays, other-next, seen-next}
 
 -- ---- the rows by parity

@@ -224,7 +224,7 @@ pub fn begin(
         × AreRanks words (now (links .entry)) (now (ranks .exit)) ⌝ }
 {
     rows::clear(pairs, words * (64 * words));
-    layers::fill(bounds, 64 * words, 65535);
-    layers::fill(skips, 64 * words, other);
+    rows::fill(bounds, 64 * words, 65535);
+    rows::fill(skips, 64 * words, other);
     bounds::rank_all(ranks, codes, links, words);
 }

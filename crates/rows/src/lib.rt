@@ -5,7 +5,7 @@ ghost use mathlib.Core.Bool.{true, false, not};
 ghost use Prim.Native.Nat.{_+_, _*_, _^_, _<_, _≤_};
 ghost use lib.Dec.{eqb};
 ghost use lib.ListN.{length, getD};
-ghost use Rattle.lists.specs.Lists.{range, countb, anyb, allb, overwrite};
+ghost use Rattle.lists.specs.Lists.{range, mapl, countb, anyb, allb, overwrite};
 ghost use Rattle.rows.specs.Rows.{rowBit, tableBit, encodeRow, putBit, InTable};
 ghost use Rattle.rows.specs.Next.{NextIs};
 
@@ -119,4 +119,18 @@ pub fn all_zero(t: &[u64], base: usize, n: usize) -> bool
         j += 1;
     }
     union == 0
+}
+
+// ---- tables of numbers
+
+// Puts x into the first n places of a table of numbers.
+pub fn fill(table: &mut [u16], n: usize, x: u16)
+    requires { ⌜ n ≤ length (now table) ⌝ }
+    ensures { λ r. ⌜ now (table .exit) ≡ overwrite (mapl (λ v. x) (range n)) (now (table .entry)) ⌝ }
+{
+    let mut v = 0;
+    while v < n {
+        table[v] = x;
+        v += 1;
+    }
 }

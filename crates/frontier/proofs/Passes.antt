@@ -23,7 +23,7 @@ use Rattle.rows.specs.Rows.{rowBit, tableBit, encodeRow}
 use Rattle.rows.proofs.Written.{encode-row-word, table-zero}
 use Rattle.rows.proofs.Wholes.{encode-row-ext}
 use Rattle.rows.proofs.Turns.{turn-none, turn-copy, turn-union, turn-minus}
-use Rattle.layers.specs.Steps.{isUnseen, unseen, unseenOf, passed, passOn}
+use Rattle.frontier.specs.Steps.{isUnseen, unseen, unseenOf, passed, passOn}
 
 -- ---- next without the codes that are seen
 

@@ -1,11 +1,11 @@
--- `layers::keep_unseen` meets its contract. The loop's invariant (Passes.antt): the first j words are kept, and their or tells whether a code is left.
+-- `frontier::keep_unseen` meets its contract. The loop's invariant (Passes.antt): the first j words are kept, and their or tells whether a code is left.
 -- The measure is the words left. Assumes nothing.
 use Prim.Native.Nat.{_-_}
 use native.Mathlib.Omega.{arith}
 use borrow.Author.Needs.{needs}
-use Rattle.layers.proofs.Passes.{Keeping, keep-start, keep-next, keep-end}
-use Rattle.layers.proofs.keep_unseen.Statement.{statement}
-use Rattle.layers.proofs.keep_unseen.Tie as tie
+use Rattle.frontier.proofs.Passes.{Keeping, keep-start, keep-next, keep-end}
+use Rattle.frontier.proofs.keep_unseen.Statement.{statement}
+use Rattle.frontier.proofs.keep_unseen.Tie as tie
 
 abbrev Inv-loop : tie.InvT-loop
 Inv-loop next₀ seen words all₀ j₀ next all j = Keeping words seen next₀ next all j

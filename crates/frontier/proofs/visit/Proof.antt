@@ -1,12 +1,12 @@
--- `layers::visit` meets its contract. The loop's invariant (Visits.antt): the words before j are next's, and the hops are in place. The measure is the
+-- `frontier::visit` meets its contract. The loop's invariant (Visits.antt): the words before j are next's, and the hops are in place. The measure is the
 -- words left. Assumes nothing.
 use mathlib.Core.Path.{_∙_}
 use Prim.Native.Nat.{_-_}
 use native.Mathlib.Omega.{arith}
 use borrow.Author.Needs.{needs}
-use Rattle.layers.proofs.Visits.{FoursVisited, fours-start, fours-next, fours-end}
-use Rattle.layers.proofs.visit.Statement.{statement}
-use Rattle.layers.proofs.visit.Tie as tie
+use Rattle.frontier.proofs.Visits.{FoursVisited, fours-start, fours-next, fours-end}
+use Rattle.frontier.proofs.visit.Statement.{statement}
+use Rattle.frontier.proofs.visit.Tie as tie
 
 abbrev Inv-loop : tie.InvT-loop
 Inv-loop next₀ hops₀ links layer words k j₀ next hops j = FoursVisited words links k layer next₀ hops₀ next hops j

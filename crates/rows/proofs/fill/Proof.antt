@@ -1,4 +1,4 @@
--- `layers::fill` meets its contract. The loop's invariant: the first v places hold x, and the others are as they were. The measure is the places left.
+-- `rows::fill` meets its contract. The loop's invariant: the first v places hold x, and the others are as they were. The measure is the places left.
 -- Assumes nothing.
 use mathlib.Core.Path.{_≡_, refl, sym, ap, _∙_}
 use mathlib.Core.List.{List}
@@ -9,8 +9,8 @@ use lib.ListN.{length, set, length-set}
 use borrow.Author.Needs.{needs}
 use Rattle.lists.specs.Lists.{range, mapl, overwrite}
 use Rattle.lists.proofs.Fills.{fill-none, fill-more}
-use Rattle.layers.proofs.fill.Statement.{statement}
-use Rattle.layers.proofs.fill.Tie as tie
+use Rattle.rows.proofs.fill.Statement.{statement}
+use Rattle.rows.proofs.fill.Tie as tie
 
 abbrev Inv-loop : tie.InvT-loop
 Inv-loop table₀ n x v₀ table v = (v ≤ n) × (table ≡ overwrite (mapl (λ i. x) (range v)) table₀) × (length table ≡ length table₀)

@@ -10,7 +10,7 @@ use Rattle.lists.proofs.Members.{any-ext, range-out}
 use Rattle.rows.specs.Rows.{rowBit, encodeRow}
 use Rattle.rows.proofs.Written.{row-at}
 use Rattle.rows.proofs.Wholes.{encode-row-ext}
-use Rattle.layers.specs.Steps.{reaches, fresh, Visited, visited, visitOf, isUnseen, Unseen, unseen, unseenOf, Passed, passed, passOn, stepped, stepOf}
+use Rattle.frontier.specs.Steps.{reaches, fresh, Visited, visited, visitOf, isUnseen, Unseen, unseen, unseenOf, Passed, passed, passOn, stepped, stepOf}
 
 module _ (W : ℕ) (links layer seen : List ℕ) (next₀ next₁ next₂ : List ℕ) (k : ℕ) (hops₀ hops₁ : List ℕ) (b : Bool)
     (visit : visited next₁ hops₁ ≡ visitOf W links layer k (visited next₀ hops₀))

@@ -1,9 +1,9 @@
--- `layers::step` meets its contract: next holds the fresh codes (Stepping.antt), and is passed on where there are any.
+-- `frontier::step` meets its contract: next holds the fresh codes (Stepping.antt), and is passed on where there are any.
 -- Assumes nothing.
-use Rattle.layers.proofs.Stepping.{step-none, step-more}
+use Rattle.frontier.proofs.Stepping.{step-none, step-more}
 use borrow.Author.Needs.{needs}
-use Rattle.layers.proofs.step.Statement.{statement}
-use Rattle.layers.proofs.step.Tie as tie
+use Rattle.frontier.proofs.step.Statement.{statement}
+use Rattle.frontier.proofs.step.Tie as tie
 
 -- the way back, from each place to the one before it
 abbrev before-pass-on : tie.After-pass-on → tie.Else1

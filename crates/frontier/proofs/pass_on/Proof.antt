@@ -1,11 +1,11 @@
--- `layers::pass_on` meets its contract. The loop's invariant (Passes.antt): the first j words stand in the other row, and are seen.
+-- `frontier::pass_on` meets its contract. The loop's invariant (Passes.antt): the first j words stand in the other row, and are seen.
 -- The measure is the words left. Assumes nothing.
 use Prim.Native.Nat.{_-_}
 use native.Mathlib.Omega.{arith}
 use borrow.Author.Needs.{needs}
-use Rattle.layers.proofs.Passes.{Passing, pass-start, pass-next, pass-end}
-use Rattle.layers.proofs.pass_on.Statement.{statement}
-use Rattle.layers.proofs.pass_on.Tie as tie
+use Rattle.frontier.proofs.Passes.{Passing, pass-start, pass-next, pass-end}
+use Rattle.frontier.proofs.pass_on.Statement.{statement}
+use Rattle.frontier.proofs.pass_on.Tie as tie
 
 abbrev Inv-loop : tie.InvT-loop
 Inv-loop other₀ seen₀ next words j₀ other seen j = Passing words next other₀ seen₀ other seen j

@@ -1,12 +1,12 @@
--- `layers::reach_layer` meets its contract. The loop's invariant (Visits.antt): the members in the first w words are visited. The measure is the words
+-- `frontier::reach_layer` meets its contract. The loop's invariant (Visits.antt): the members in the first w words are visited. The measure is the words
 -- left. Assumes nothing.
 use Prim.Native.Nat.{_-_}
 use native.Mathlib.Omega.{arith}
 use borrow.Author.Needs.{needs}
-use Rattle.layers.specs.Steps.{reached}
-use Rattle.layers.proofs.Visits.{WordsVisited, words-start, words-fit, words-next, words-end}
-use Rattle.layers.proofs.reach_layer.Statement.{statement}
-use Rattle.layers.proofs.reach_layer.Tie as tie
+use Rattle.frontier.specs.Steps.{reached}
+use Rattle.frontier.proofs.Visits.{WordsVisited, words-start, words-fit, words-next, words-end}
+use Rattle.frontier.proofs.reach_layer.Statement.{statement}
+use Rattle.frontier.proofs.reach_layer.Tie as tie
 
 abbrev Inv-loop : tie.InvT-loop
 Inv-loop hops₀ links layer words j k got₀ w₀ hops got w = WordsVisited words links k j layer hops₀ (reached got hops) w

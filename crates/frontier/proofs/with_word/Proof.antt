@@ -1,10 +1,10 @@
--- `layers::with_word` meets its contract: the word of row v is joined by or, and past the row no bit is set. Assumes nothing.
+-- `frontier::with_word` meets its contract: the word of row v is joined by or, and past the row no bit is set. Assumes nothing.
 use Prim.Native.Nat.{_+_, _*_}
 use native.Mathlib.Omega.{arith}
 use borrow.Author.Needs.{needs}
-use Rattle.layers.proofs.Links.{with-none, with-more}
-use Rattle.layers.proofs.with_word.Statement.{statement}
-use Rattle.layers.proofs.with_word.Tie as tie
+use Rattle.frontier.proofs.Links.{with-none, with-more}
+use Rattle.frontier.proofs.with_word.Statement.{statement}
+use Rattle.frontier.proofs.with_word.Tie as tie
 
 returns : tie.Need-returns
 returns c =

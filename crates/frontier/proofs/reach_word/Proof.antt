@@ -1,12 +1,12 @@
--- `layers::reach_word` meets its contract. The loop's invariant (Visits.antt): the members that have left the word are visited. The measure is
+-- `frontier::reach_word` meets its contract. The loop's invariant (Visits.antt): the members that have left the word are visited. The measure is
 -- what is left of the word. Assumes nothing.
 use native.Mathlib.Omega.{arith}
 use borrow.Author.Needs.{needs}
 use Rattle.rows.proofs.Places.{row-fits}
-use Rattle.layers.proofs.Links.{four, side}
-use Rattle.layers.proofs.Visits.{BitsVisited, bits-start, bits-next, bits-end}
-use Rattle.layers.proofs.reach_word.Statement.{statement}
-use Rattle.layers.proofs.reach_word.Tie as tie
+use Rattle.frontier.proofs.Links.{four, side}
+use Rattle.frontier.proofs.Visits.{BitsVisited, bits-start, bits-next, bits-end}
+use Rattle.frontier.proofs.reach_word.Statement.{statement}
+use Rattle.frontier.proofs.reach_word.Tie as tie
 
 abbrev Inv-loop : tie.InvT-loop
 Inv-loop hops₀ links words w word j k a₀ b₀ c₀ d₀ x₀ hops a b c d x = BitsVisited words links k j w word (four a₀ b₀ c₀ d₀) hops₀ (side a b c d hops) x

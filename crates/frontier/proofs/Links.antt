@@ -18,8 +18,8 @@ use Rattle.words.specs.Bits.{bit, wordOf}
 use Rattle.words.proofs.Bits.{bit-wordOf, wordOf-ext, wordOf-lt, word-is, word-or}
 use Rattle.rows.specs.Rows.{tableBit}
 use Rattle.rows.proofs.Written.{table-word}
-use Rattle.layers.specs.declared.Four.{Four}
-use Rattle.layers.specs.Steps.{hopSet, linkWord, Reached, reached, reachSet, AreWords, putWord}
+use Rattle.frontier.specs.declared.Four.{Four}
+use Rattle.frontier.specs.Steps.{hopSet, linkWord, Reached, reached, reachSet, AreWords, putWord}
 
 pub or-false : (b : Bool) → (b || false) ≡ b
 or-false true = refl

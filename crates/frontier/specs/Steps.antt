@@ -1,16 +1,14 @@
--- THE STEPS OF THE SEARCH'S LOOP, over lists of words. Nobody has to believe these: searchLeaves (Layers.antt) is proved of the whole.
+-- ONE STEP OF A SEARCH, over lists of words. Nobody has to believe these: `searchLeaves` (crate `layers`) is proved of the whole.
 -- Assumes nothing.
-use mathlib.Core.Bool.{Bool, false, cond, not, _&&_, _||_}
+use mathlib.Core.Bool.{Bool, cond, not, _&&_, _||_}
 use mathlib.Core.List.{List}
 use Prim.Native.Nat.{ℕ, _+_, _*_, _/_, _%_, _^_, _≤_, _<_}
 use lib.Dec.{eqb, ltb}
 use lib.ListN.{length, getD, set}
 use Rattle.lists.specs.Lists.{range, mapl, anyb, overwrite}
-use Rattle.graph.specs.Distance.{unreached}
 use Rattle.words.specs.Bits.{bit, wordOf}
 use Rattle.rows.specs.Rows.{rowBit, tableBit, encodeRow}
-use Rattle.layers.specs.Layers.{Tables}
-use Rattle.layers.specs.declared.Four.{Four}
+use Rattle.frontier.specs.declared.Four.{Four}
 
 -- some member of the layer is linked to v
 unfoldable pub reaches : ℕ → List ℕ → List ℕ → ℕ → Bool
@@ -132,24 +130,6 @@ stepOf W links layer k hops other seen =
       other = cond more (overwrite (encodeRow W new) other) other;
       seen = cond more (overwrite (encodeRow W (λ v. rowBit W seen v || new v)) seen) seen;
     }
-
--- the start of a search from s: no hop, s alone in the even row and seen
-pub record Begun : Type 0 where
-  pub lent : Tables
-  pub seen : List ℕ
-
-abbrev pub begun : Tables → List ℕ → Begun
-begun B l = record { lent = B; seen = l }
-
-unfoldable pub beginOf : ℕ → ℕ → Tables → List ℕ → Begun
-beginOf W s B seen =
-    begun
-    (record {
-      hops = overwrite (mapl (λ v. unreached) (range (64 * W))) (B .hops);
-      even = overwrite (encodeRow W (λ v. eqb v s)) (B .even);
-      odd = overwrite (encodeRow W (λ v. false)) (B .odd);
-    })
-    (overwrite (encodeRow W (λ v. eqb v s)) seen)
 
 -- the sizes that the inner functions ask: W words in each row, a row of links and a hop for each code
 pub record Room (W : ℕ) (links hops : List ℕ) : Type 0 where

@@ -1,8 +1,8 @@
--- `layers::put_word` meets its contract: the word is stored where the row has it. Assumes nothing.
+-- `frontier::put_word` meets its contract: the word is stored where the row has it. Assumes nothing.
 use borrow.Author.Needs.{needs}
-use Rattle.layers.proofs.Links.{put-here, put-past}
-use Rattle.layers.proofs.put_word.Statement.{statement}
-use Rattle.layers.proofs.put_word.Tie as tie
+use Rattle.frontier.proofs.Links.{put-here, put-past}
+use Rattle.frontier.proofs.put_word.Statement.{statement}
+use Rattle.frontier.proofs.put_word.Tie as tie
 
 returns : tie.Need-returns
 returns c = put-here _ _ _ _ (c .if1 .taken)

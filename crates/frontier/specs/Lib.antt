@@ -1,0 +1,2 @@
+-- one step from a layer to the next
+pub mod Steps

@@ -1,0 +1,27 @@
+-- HOW A SEARCH BEGINS, over lists of words. Nobody has to believe this: `searchLeaves` (Layers.antt) is proved of the whole. Assumes nothing.
+use mathlib.Core.Bool.{false}
+use mathlib.Core.List.{List}
+use Prim.Native.Nat.{ℕ, _*_}
+use lib.Dec.{eqb}
+use Rattle.lists.specs.Lists.{range, mapl, overwrite}
+use Rattle.graph.specs.Distance.{unreached}
+use Rattle.rows.specs.Rows.{encodeRow}
+use Rattle.layers.specs.Layers.{Tables}
+
+-- the start of a search from s: no hop, s alone in the even row and seen
+pub record Begun : Type 0 where
+  pub lent : Tables
+  pub seen : List ℕ
+
+abbrev pub begun : Tables → List ℕ → Begun
+begun B l = record { lent = B; seen = l }
+
+unfoldable pub beginOf : ℕ → ℕ → Tables → List ℕ → Begun
+beginOf W s B seen =
+    begun
+    (record {
+      hops = overwrite (mapl (λ v. unreached) (range (64 * W))) (B .hops);
+      even = overwrite (encodeRow W (λ v. eqb v s)) (B .even);
+      odd = overwrite (encodeRow W (λ v. false)) (B .odd);
+    })
+    (overwrite (encodeRow W (λ v. eqb v s)) seen)
