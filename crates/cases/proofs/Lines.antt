@@ -19,13 +19,15 @@ use Rattle.rounds.specs.Leaves.{Lent}
 use Rattle.rounds.specs.Sizes.{sizesOf, longEnough}
 use Rattle.outcome.specs.Outcome as Outcome
 use Rattle.opening.specs.OpenCall.{changeOf, openRefusal, networkAfter, openedBy, OpenLeft, openGiven, openCall}
-use Rattle.opening.specs.PlainList.{plainRefusal, plainNext}
-use Rattle.opening.specs.History.{Memory, Call, lend, lentOf, callStep, memoryAfter, feedOf}
-use Rattle.opening.specs.Demand3.{IsCall, AreCalls}
+use Rattle.history.specs.PlainRun.{plainRefusal}
+use Rattle.plain_list.specs.PlainList.{plainNext}
+use Rattle.opening.specs.Memory.{Memory}
+use Rattle.history.specs.History.{Call, lend, lentOf, callStep, memoryAfter, feedOf}
+use Rattle.history.specs.Demand3.{IsCall, AreCalls}
 use Rattle.opening.proofs.Memories.{IsHeld, Stores, memoryFor}
 use Rattle.opening.proofs.Grants.{held-after}
-use Rattle.opening.proofs.Steps.{lent-says, refusal-is, one-step}
-use Rattle.opening.proofs.Runs.{call-memory}
+use Rattle.history.proofs.Steps.{lent-says, refusal-is, one-step}
+use Rattle.history.proofs.Runs.{call-memory}
 use Rattle.opening.proofs.Keeps.{left-ends, left-stores}
 use Rattle.cases.specs.Results.{pairsIn, answerOf, answersOf, noticesOf, AllLong}
 use Rattle.cases.proofs.Listings.{pairs-open, count-open}

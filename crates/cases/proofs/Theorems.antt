@@ -23,9 +23,10 @@ use Rattle.map.proofs.Theorems.{emptied-is-empty, base-shape}
 use Rattle.reckon.specs.ReckonCall.{reckonCall}
 use Rattle.outcome.specs.Outcome.{letterOf, refusalOf}
 use Rattle.opening.specs.OpenCall.{openCall}
-use Rattle.opening.specs.PlainList.{moved}
-use Rattle.opening.specs.History.{Memory, emptyMemory, Call}
-use Rattle.opening.specs.Demand3.{IsCall, AreCalls}
+use Rattle.plain_list.specs.PlainList.{moved}
+use Rattle.opening.specs.Memory.{Memory, emptyMemory}
+use Rattle.history.specs.History.{Call}
+use Rattle.history.specs.Demand3.{IsCall, AreCalls}
 use Rattle.opening.proofs.Memories.{network-path, network-read}
 use Rattle.opening.proofs.Empties.{empty-held, none-diameter, none-farthest, empty-memory}
 use Rattle.notice.specs.Hex.{isDigit, digitValue}

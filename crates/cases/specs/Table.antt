@@ -16,7 +16,9 @@ use Rattle.map.specs.declared.Record.{Record}
 use Rattle.map.specs.declared.Emptying.the-variants.{Done}
 use Rattle.rounds.specs.Leaves.{Lent}
 use Rattle.reckon.specs.ReckonCall.{ReckonLeft}
-use Rattle.opening.specs.History.{emptyMemory, Call, Step}
+use Rattle.opening.specs.Memory.{emptyMemory}
+use Rattle.history.specs.History.{Call}
+use Rattle.opening.specs.OpenCall.{Step}
 use Rattle.report.specs.Line.{bufferLimit}
 use Rattle.transcript.specs.Transcript.{transcript}
 use Rattle.stream.specs.Pieces.{Standing, Turn, standsAfter, usedBy, writtenBy, lastWritten, HasBegun}

@@ -1,10 +1,10 @@
 -- Buffers whose first n places are filled: one place changed, the whole of a buffer, and buffers that agree. Assumes nothing.
 use mathlib.Core.Path.{_≡_, sym, ap, _∙_}
 use mathlib.Core.Logic.{_≢_, _⊎_, inl, inr}
-use mathlib.Core.List.{List}
+use mathlib.Core.List.{List, _++_, append-nil}
 use Prim.Native.Nat.{ℕ, _+_, _-_, _≤_, _<_}
 use native.Mathlib.Omega.{arith}
-use lib.ListN.{length, getD, set, length-set, length-append, length-drop}
+use lib.ListN.{length, getD, set, length-set, length-append, length-drop, drop-of-length-le}
 use lib.Seq.{ext-getD, getD-set-same, getD-set-other}
 use Rattle.lists.specs.Lists.{range, mapl, overwrite}
 use Rattle.lists.proofs.Tests.{lt-or-ge, eq-or-ne}
@@ -43,3 +43,8 @@ fill-put f g n l i x h e same =
     before : (k : ℕ) → k < n → (k ≡ i) ⊎ (k ≢ i) → getD (set s i x) k 0 ≡ getD (overwrite (mapl g (range n)) l) k 0
     before k m (inl q) = ap (λ (k : ℕ). getD (set s i x) k 0) q ∙ getD-set-same s i x 0 (omega (arith, size f)) ∙ e ∙ ap g (sym q) ∙ sym (fill-at g l n k 0 m)
     before k m (inr q) = getD-set-other s i k x 0 q ∙ fill-at f l n k 0 m ∙ same k m q ∙ sym (fill-at g l n k 0 m)
+
+-- words over a buffer of their own length
+pub overwrite-all : (new old : List ℕ) → length new ≡ length old → overwrite new old ≡ new
+unfolding overwrite
+overwrite-all new old e = ap (λ (l : List ℕ). new ++ l) (drop-of-length-le old {i = length new} (omega arith)) ∙ append-nil new

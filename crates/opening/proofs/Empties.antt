@@ -22,7 +22,7 @@ use Rattle.map.specs.Memory.{Shape, IsShape, places}
 use Rattle.map.specs.Empty.{zeros, emptyRecord}
 use Rattle.lists.proofs.Ranges.{sum-none}
 use Rattle.map.proofs.Empties.{none-zeros}
-use Rattle.opening.specs.History.{emptyMemory}
+use Rattle.opening.specs.Memory.{emptyMemory}
 use Rattle.opening.proofs.Memories.{IsHeld, record-path, memory-path, memoryFor, number-is}
 
 -- a table without a bit is zeros

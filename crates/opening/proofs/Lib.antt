@@ -1,5 +1,3 @@
--- A table lent and restored.
-pub mod Lendings
 -- The memory of a network, written, read back, whole.
 pub mod Memories
 -- What no refusal says; refusals 2 and 3 never come in a history.
@@ -8,15 +6,9 @@ pub mod Grants
 pub mod Openings
 -- A call's marks, number of searches and cover.
 pub mod Marks
--- One call of a history.
-pub mod Steps
 -- The empty map.
 pub mod Empties
--- Lists of calls.
-pub mod Runs
--- Arrival order.
-pub mod Orders
--- THE THEOREMS: demands 2 and 3.
+-- THE THEOREM: demand 2.
 pub mod Theorems
 -- The refusals, by the code's tests.
 pub mod Refuses

@@ -20,9 +20,9 @@ use Rattle.graph.specs.Correct.{IsNet}
 use Rattle.graph.proofs.Theorems.{diameter-is, farthest-is}
 use Rattle.map.specs.Memory.{Shape, places, tableWords, networkOf}
 use Rattle.map.specs.declared.Record.{Record}
-use Rattle.opening.specs.History.{Memory}
+use Rattle.opening.specs.Memory.{Memory}
 use Rattle.opening.specs.Represents.{Represents}
-use Rattle.opening.proofs.Lendings.{overwrite-all}
+use Rattle.lists.proofs.Buffers.{overwrite-all}
 
 -- ---- networks and memories are equal by their fields
 

@@ -21,7 +21,7 @@ use Rattle.map.specs.declared.Record.{Record}
 use Rattle.rounds.specs.Leaves.{Lent, roundsLeave}
 use Rattle.rounds.specs.Sizes.{sizesOf}
 use Rattle.opening.specs.OpenCall.{changeOf, openRefusal, networkAfter, openedBy, openGiven, referencesBy}
-use Rattle.opening.specs.PlainList.{moved}
+use Rattle.plain_list.specs.PlainList.{moved}
 use Rattle.opening.specs.Demand2.{mapAfter}
 use Rattle.opening.proofs.Memories.{IsHeld, Says, record-path, memory-path, writeMap}
 use Rattle.opening.proofs.Grants.{granted-net, granted-notice, granted-low, held-after, number-after}

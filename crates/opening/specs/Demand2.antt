@@ -12,7 +12,8 @@ use Rattle.map.specs.declared.Record.{Record}
 use Rattle.rounds.specs.Leaves.{Lent}
 use Rattle.rounds.specs.Sizes.{sizesOf}
 use Rattle.opening.specs.OpenCall.{openRefusal, networkAfter, referencesOf, OpenLeft}
-use Rattle.opening.specs.History.{Memory, Step}
+use Rattle.opening.specs.Memory.{Memory}
+use Rattle.opening.specs.OpenCall.{Step}
 use Rattle.opening.specs.Represents.{Represents, IsMarked}
 
 -- the map among what an opening leaves

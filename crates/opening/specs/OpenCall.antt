@@ -85,3 +85,7 @@ referencesBy (suc k) K rec links B o = []
 
 unfoldable pub referencesOf : Shape → Record → List ℕ → Lent → Notice → List ℕ
 referencesOf K rec links B o = referencesBy (openRefusal K rec links (B .pairs) (sizesOf links B) o) K rec links B o
+
+-- a call of one shape: record, link table, other tables and notice in
+abbrev pub Step : Type 0
+Step = Record → List ℕ → Lent → Notice → OpenLeft

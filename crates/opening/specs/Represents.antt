@@ -18,7 +18,7 @@ use Rattle.outcome.specs.declared.Change.{Change}
 use Rattle.outcome.specs.declared.Change.the-variants.{Shrank}
 use Rattle.outcome.specs.declared.Outcome.the-variants.{Accepted, Refused}
 use Rattle.opening.specs.OpenCall.{OpenLeft}
-use Rattle.opening.specs.History.{Memory}
+use Rattle.opening.specs.Memory.{Memory}
 
 -- "the record's open set, number open, chain and pair count are the network's; a link bit is one exactly for a link, either way round, a pair bit
 -- exactly for a farthest pair"

@@ -26,8 +26,8 @@ use Rattle.notice.proofs.Ends.{all-at}
 use Rattle.notice.proofs.Theorems.{read-frame}
 use Rattle.opening.specs.OpenCall.{openRefusal, networkAfter, openedBy, OpenLeft, openGiven, openCall}
 use Rattle.opening.specs.Steps.{mapRefusal}
-use Rattle.opening.specs.PlainList.{moved, plainAnswer, plainNext}
-use Rattle.opening.specs.History.{Memory, emptyMemory}
+use Rattle.plain_list.specs.PlainList.{moved, plainAnswer, plainNext}
+use Rattle.opening.specs.Memory.{Memory, emptyMemory}
 use Rattle.opening.proofs.Memories.{IsHeld, Says, writeMap, written-says, memoryFor, memory-written}
 use Rattle.opening.proofs.Grants.{after-is, held-after, figures-are-sound, links-pass, figures-pass, connected-pass, refused-alike}
 use Rattle.opening.proofs.Openings.{given-searches, opened-moved, opened-writes, says-true}

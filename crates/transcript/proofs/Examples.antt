@@ -5,7 +5,7 @@ use mathlib.Core.List.{List, [], _∷_, _++_}
 use Prim.Native.Nat.{ℕ, zero, suc}
 use Rattle.lists.specs.Lists.{allb}
 use Rattle.outcome.specs.Outcome.{letterOf, refusalOf}
-use Rattle.opening.specs.PlainList.{moved}
+use Rattle.plain_list.specs.PlainList.{moved}
 use Rattle.notice.specs.Hex.{isDigit, digitValue}
 use Rattle.notice.specs.Lines.{endOf, spellsFrame, isFrame, bytesOf, readHead}
 use Rattle.report.specs.Decimal.{spell, decimal}

@@ -14,7 +14,7 @@ use Rattle.graph.specs.Opening.{Notice, emptyNetwork, noticeFaults, opening}
 use Rattle.outcome.specs.Numbers.{garbledLine}
 use Rattle.outcome.specs.declared.Outcome.{Outcome}
 use Rattle.outcome.specs.declared.Outcome.the-variants.{Refused}
-use Rattle.opening.specs.PlainList.{plainAnswer, plainNext}
+use Rattle.plain_list.specs.PlainList.{plainAnswer, plainNext}
 use Rattle.notice.specs.Lines.{lineEnd, Line, garbled, frame, readLine}
 use Rattle.report.specs.Line.{reportLine}
 use Rattle.report.specs.declared.Report.{Report}

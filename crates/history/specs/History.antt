@@ -7,21 +7,12 @@ use lib.ListN.{length, take, drop}
 use Rattle.graph.specs.Opening.{Notice}
 use Rattle.layers.specs.Layers.{Tables}
 use Rattle.map.specs.Memory.{Shape, tableWords}
-use Rattle.map.specs.Empty.{zeros, emptyRecord}
-use Rattle.map.specs.declared.Record.{Record}
 use Rattle.rounds.specs.Leaves.{Lent}
 use Rattle.outcome.specs.declared.Outcome.{Outcome}
 use Rattle.opening.specs.OpenCall.{OpenLeft}
-use Rattle.opening.specs.PlainList.{Feed}
-
--- "The map is link table, pair table and record, empty when all zero."
-pub record Memory : Type 0 where
-  pub links : List ℕ
-  pub pairs : List ℕ
-  pub rec : Record
-
-unfoldable pub emptyMemory : Shape → Memory
-emptyMemory K = record { links = zeros (tableWords K); pairs = zeros (tableWords K); rec = emptyRecord (K .words) }
+use Rattle.history.specs.PlainRun.{Feed}
+use Rattle.opening.specs.Memory.{Memory}
+use Rattle.opening.specs.OpenCall.{Step}
 
 -- how a table of the map is lent: its first k words alone, or whole, with further words of the caller's behind it
 pub data Part : Type 0 where
@@ -48,10 +39,6 @@ pub record Call : Type 0 where
 
 unfoldable pub lentOf : Memory → Call → Lent
 lentOf M c = record { pairs = lend (c .pairs) (M .pairs); searched = c .searched; bounds = c .bounds; skips = c .skips }
-
--- a call of one shape: record, link table, other tables and notice in
-abbrev pub Step : Type 0
-Step = Record → List ℕ → Lent → Notice → OpenLeft
 
 unfoldable pub callStep : Step → Memory → Call → OpenLeft
 callStep step M c = step (M .rec) (lend (c .links) (M .links)) (lentOf M c) (c .notice)

@@ -12,10 +12,12 @@ use Rattle.graph.specs.Network.{IsDiameter}
 use Rattle.graph.specs.Chart.{diameter}
 use Rattle.graph.specs.Opening.{Notice, emptyNetwork}
 use Rattle.map.specs.Memory.{Shape, places}
 use Rattle.opening.specs.OpenCall.{referencesOf}
-use Rattle.opening.specs.PlainList.{PlainRun, plainRun}
-use Rattle.opening.specs.History.{Memory, emptyMemory, Call, Step, lend, lentOf, callStep, runMemory, runAnswers, feedsOf}
+use Rattle.history.specs.PlainRun.{PlainRun, plainRun}
+use Rattle.opening.specs.Memory.{Memory, emptyMemory}
+use Rattle.history.specs.History.{Call, lend, lentOf, callStep, runMemory, runAnswers, feedsOf}
+use Rattle.opening.specs.OpenCall.{Step}
 use Rattle.opening.specs.Represents.{Represents, IsMarked}
 
 -- a call's code and neighbours are codes of the map: at document 01's width, bytes
 pub record IsCall (K : Shape) (c : Call) : Type 0 where

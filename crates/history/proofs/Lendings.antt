@@ -5,16 +5,13 @@ use mathlib.Core.List.{List, _++_, append-nil}
 use Prim.Native.Nat.{ℕ, _+_, _≤_, min}
 use native.Mathlib.Omega.{arith}
 use lib.ListN.{length, take, length-append, length-take, take-append-drop, drop-of-length-le}
+use Rattle.lists.proofs.Buffers.{overwrite-all}
 use lib.Seq.{take-all, take-append-seam, drop-append-seam}
 use Rattle.lists.specs.Lists.{overwrite}
-use Rattle.lists.proofs.Fills.{overwrite-take}
-use Rattle.opening.specs.History.{Part, first, whole, lend, restore, lentSize}
+use Rattle.lists.proofs.Fills.{overwrite-take, overwrite-old}
+use Rattle.history.specs.History.{Part, first, whole, lend, restore, lentSize}
 
--- words over a buffer of their own length, and over themselves with further words behind
-pub overwrite-all : (new old : List ℕ) → length new ≡ length old → overwrite new old ≡ new
-unfolding overwrite
-overwrite-all new old e = ap (λ (l : List ℕ). new ++ l) (drop-of-length-le old {i = length new} (omega arith)) ∙ append-nil new
-
+-- words over themselves with further words behind
 overwrite-self : (new rest : List ℕ) → new ++ rest ≡ overwrite new (new ++ rest)
 unfolding overwrite
 overwrite-self new rest = sym (ap (λ (l : List ℕ). new ++ l) (drop-append-seam new rest))

@@ -4,13 +4,15 @@ use mathlib.Core.List.{List, [], _∷_, _++_, List·Memᴰ·head, List·Memᴰ·
 use Rattle.graph.specs.Network.{Network}
 use Rattle.map.specs.Memory.{Shape, IsShape}
 use Rattle.outcome.specs.declared.Outcome.{Outcome}
 use Rattle.opening.specs.OpenCall.{openCall, referencesOf}
-use Rattle.opening.specs.PlainList.{PlainRun, plainRefusal, plainAnswer, plainNext, noticed, plainRun}
-use Rattle.opening.specs.History.{Memory, Call, lend, lentOf, callStep, memoryAfter, runMemory, runAnswers, feedOf, feedsOf}
+use Rattle.history.specs.PlainRun.{PlainRun, plainRefusal, noticed, plainRun}
+use Rattle.plain_list.specs.PlainList.{plainAnswer, plainNext}
+use Rattle.opening.specs.Memory.{Memory}
+use Rattle.history.specs.History.{Call, lend, lentOf, callStep, memoryAfter, runMemory, runAnswers, feedOf, feedsOf}
 use Rattle.opening.specs.Represents.{IsMarked}
-use Rattle.opening.specs.Demand3.{IsCall, AreCalls}
+use Rattle.history.specs.Demand3.{IsCall, AreCalls}
 use Rattle.opening.proofs.Memories.{IsHeld, memoryFor}
-use Rattle.opening.proofs.Steps.{one-step}
+use Rattle.history.proofs.Steps.{one-step}
 
 -- ---- the plain list, fed one call first, and one call more
 

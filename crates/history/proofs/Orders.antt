@@ -11,8 +11,9 @@ use Rattle.lists.proofs.Members.{any-intro, any-elim}
 use Rattle.graph.specs.Network.{Network}
 use Rattle.graph.specs.Opening.{Notice, addDepot}
 use Rattle.map.specs.Memory.{Shape}
-use Rattle.opening.specs.PlainList.{Feed, plainRefusal, plainNext, noticed, plainRun}
+use Rattle.history.specs.PlainRun.{Feed, plainRefusal, noticed, plainRun}
+use Rattle.plain_list.specs.PlainList.{plainNext}
 use Rattle.opening.proofs.Memories.{network-path}
 
 -- ---- the network with the notices of a list added, one after the other
 

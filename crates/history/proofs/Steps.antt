@@ -16,17 +16,20 @@ use Rattle.graph.specs.Opening.{addDepot}
 use Rattle.map.specs.Memory.{Shape, IsShape, places, tableWords, networkOf}
 use Rattle.rounds.specs.Leaves.{Lent}
 use Rattle.rounds.specs.Sizes.{Sizes, sizesOf, longEnough}
 use Rattle.opening.specs.OpenCall.{openRefusal, networkAfter, OpenLeft, openGiven, referencesBy}
-use Rattle.opening.specs.PlainList.{moved, plainRefusal, plainAnswer, plainNext}
-use Rattle.opening.specs.History.{Memory, lend, restore, Call, lentOf, memoryAfter, lentSize, feedOf}
+use Rattle.plain_list.specs.PlainList.{moved, plainAnswer, plainNext}
+use Rattle.history.specs.PlainRun.{plainRefusal}
+use Rattle.opening.specs.Memory.{Memory}
+use Rattle.history.specs.History.{lend, restore, Call, lentOf, memoryAfter, lentSize, feedOf}
 use Rattle.opening.specs.Represents.{IsMarked}
 use Rattle.opening.specs.Demand2.{mapAfter}
-use Rattle.opening.specs.Demand3.{IsCall}
-use Rattle.opening.proofs.Lendings.{overwrite-all, lent-length, lent-whole, restored-same, restored-new}
+use Rattle.history.specs.Demand3.{IsCall}
+use Rattle.lists.proofs.Buffers.{overwrite-all}
+use Rattle.history.proofs.Lendings.{lent-length, lent-whole, restored-same, restored-new}
 use Rattle.opening.proofs.Memories.{IsHeld, Says, record-path, memory-path, writeMap, written-says, memoryFor, links-length, pairs-length}
 use Rattle.opening.proofs.Grants.{after-is, granted-long, held-after, figures-are-sound, refused-alike}
 use Rattle.opening.proofs.Openings.{opened-moved, opened-writes, says-true}
 use Rattle.opening.proofs.Marks.{refused-marked, opened-marked}
 
 -- buffers that are long enough have the two tables whole
 long-tables : (K : Shape) (s : Sizes) → longEnough K s ≡ true → (tableWords K ≤ s .links) × (tableWords K ≤ s .pairs)

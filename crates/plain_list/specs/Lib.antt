@@ -1,0 +1,2 @@
+-- one step of the plain list
+pub mod PlainList

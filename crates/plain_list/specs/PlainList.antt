@@ -1,0 +1,27 @@
+-- ONE STEP OF THE PLAIN LIST: what it answers and what it then holds. It knows no words and no tables.
+-- Assumes nothing.
+use mathlib.Core.Bool.{cond}
+use Prim.Native.Nat.{ℕ, zero, suc}
+use lib.Dec.{eqb, ltb}
+use Rattle.graph.specs.Network.{Network}
+use Rattle.graph.specs.Chart.{diameter}
+use Rattle.graph.specs.Opening.{Notice, addDepot}
+use Rattle.outcome.specs.declared.Outcome.{Outcome}
+use Rattle.outcome.specs.declared.Outcome.the-variants.{Accepted, Refused}
+use Rattle.outcome.specs.declared.Change.the-variants.{Grew, Kept, Shrank}
+
+-- "It grew, kept or shrank as the longest chain of the two sets is greater than before, equal or smaller."
+unfoldable pub moved : ℕ → ℕ → Outcome
+moved D E = cond (ltb D E) (Accepted Grew) (cond (eqb D E) (Accepted Kept) (Accepted Shrank))
+
+-- the answer, with G and H the network before and after the call
+unfoldable pub plainAnswer : ℕ → Network → Network → Outcome
+unfolding moved diameter
+plainAnswer zero G H = moved (diameter G) (diameter H)
+plainAnswer (suc k) G H = Refused (suc k)
+
+-- the network after the call
+unfoldable pub plainNext : ℕ → Network → Notice → Network
+unfolding addDepot
+plainNext zero G o = addDepot G (o .code) (o .neighbours)
+plainNext (suc k) G o = G

@@ -1,0 +1,1 @@
+// Specifications alone: one step of the plain list (specs/Lib.antt).
