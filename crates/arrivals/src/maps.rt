@@ -10,7 +10,7 @@ fn open(rec: Record, links: &mut [u64], pairs: &mut [u64], code: u8, neighbours:
     let mut skips = [0u16; 256];
     let mut even = [0u64; 4];
     let mut odd = [0u64; 4];
-    lending::open_value(
+    lent_opening::open_value(
         rec,
         links,
         pairs,

@@ -8,7 +8,7 @@ use lib.ListN.{length, take, length-append, length-take, take-append-drop, drop-
 use Rattle.lists.proofs.Buffers.{overwrite-all}
 use lib.Seq.{take-all, take-append-seam, drop-append-seam}
 use Rattle.lists.specs.Lists.{overwrite}
-use Rattle.lists.proofs.Fills.{overwrite-take, overwrite-old}
+use Rattle.lists.proofs.Fills.{overwrite-take}
 use Rattle.history.specs.History.{Part, first, whole, lend, restore, lentSize}
 
 -- words over themselves with further words behind

@@ -4,12 +4,12 @@ mod lines;
 mod plain;
 mod reports;
 
-use lines::all_counts;
-use lines::all_lengths;
-use lines::every_part;
-use lines::every_place;
-use lines::named_lines;
-use lines::readable_lines;
+use line_buffer::all_counts;
+use line_buffer::all_lengths;
+use line_buffer::every_part;
+use line_buffer::every_place;
+use line_buffer::named_lines;
+use line_buffer::readable_lines;
 use notice::Reading;
 use notice::Writing;
 use outcome::Change;

@@ -33,7 +33,7 @@ use Rattle.outcome.specs.declared.Change.{Change}
 use Rattle.outcome.specs.declared.Outcome.{Outcome}
 use Rattle.outcome.specs.declared.Outcome.the-variants.{Accepted}
 use Rattle.admission.proofs.Theorems.{linked-after, linked-is}
-use Rattle.figures.specs.Figured.{changeAs, Figured, figured, figuredBy, IsFigurable}
+use Rattle.insertion.specs.Figured.{changeAs, Figured, figured, figuredBy, IsFigurable}
 use Rattle.opening.specs.OpenCall.{changeOf, openRefusal, networkAfter, openedBy, OpenLeft, openGiven}
 use Rattle.opening.specs.Steps.{noticeOf}
 use Rattle.opening.proofs.Grants.{granted-long, granted-figures, held-after, number-after}

@@ -105,7 +105,7 @@ fn open_map(
     admission::link_depot(links, 4, code, neighbours);
     let mut codes = rec.codes;
     put_code(&mut codes, code);
-    let got = figures::refigure(
+    let got = insertion::refigure(
         pairs,
         hops,
         bounds,

@@ -86,7 +86,7 @@ fn open(
     n: Notice,
     near: &[u8],
 ) -> Opened {
-    lending::open_value(
+    lent_opening::open_value(
         rec,
         first_words(links, size(1023, 1, n.short)),
         first_words(pairs, size(1023, 2, n.short)),

@@ -22,7 +22,7 @@ use Rattle.notice.proofs.Theorems.{read-frame}
 use Rattle.opening.specs.Steps.{mapRefusal}
 use Rattle.opening.proofs.Keeps.{map-kept}
 use Rattle.transcript.specs.Transcript.{noticeIn}
-use Rattle.lines.specs.Lines.{Holding, holding, holdByte, PartLeft, partFrom}
+use Rattle.line_buffer.specs.Lines.{Holding, holding, holdByte, PartLeft, partFrom}
 use Rattle.stream.specs.Feeding.{IsReady, answerTo, Feeding, feeding, progressOf, fedOf, stopped, tookLine, heldByte, takeByte, feedBytes, feedCall}
 use Rattle.stream.specs.declared.Progress.{Progress}
 use Rattle.map.proofs.Theorems.{base-shape}

@@ -35,7 +35,7 @@ use Rattle.opening.proofs.Refuses.{refused-never}
 use Rattle.opening.proofs.Keeps.{sizes-kept}
 use Rattle.opening.proofs.Empties.{empty-held, empty-memory}
 use Rattle.transcript.specs.Transcript.{noticeIn, Followed, searchesBy, followBy, followLine, reportOn}
-use Rattle.lines.specs.Lines.{reportOf}
+use Rattle.line_buffer.specs.Lines.{reportOf}
 use Rattle.stream.specs.Feeding.{answerTo}
 use Rattle.map.proofs.Theorems.{base-shape}
 

@@ -14,7 +14,7 @@ use Rattle.lists.specs.Lists.{allb}
 use Rattle.lists.proofs.Tests.{and-true, and-intro, lt-or-ge}
 use Rattle.notice.specs.Lines.{lineLimit, lineEnd, readHead, readLine}
 use Rattle.transcript.specs.Transcript.{onto, linesOf}
-use Rattle.lines.specs.Lines.{Holding, holdByte}
+use Rattle.line_buffer.specs.Lines.{Holding, holdByte}
 
 -- no byte ends the line
 unfoldable pub isOpenLine : List ℕ → Bool

@@ -18,9 +18,9 @@ use Rattle.notice.specs.Lines.{lineEnd, readLine}
 use Rattle.report.specs.Line.{bufferLimit, reportLine}
 use Rattle.opening.proofs.Memories.{IsHeld, Says}
 use Rattle.transcript.specs.Transcript.{linesLimit, linesOf, followLine, reportOn, reportsFrom}
-use Rattle.lines.specs.Lines.{holding, pasted}
+use Rattle.line_buffer.specs.Lines.{holding, pasted}
 use Rattle.stream.specs.Feeding.{Feeding, stopped, tookLine, heldByte, takeByte, feedBytes}
-use Rattle.lines.proofs.Stops.{going}
+use Rattle.line_buffer.proofs.Stops.{going}
 use Rattle.stream.proofs.Lines.{isOpenLine, lines-ended, open-none, open-more, read-first, Holds, holds-byte}
 use Rattle.stream.proofs.Following.{IsLine, line-is}
 use Rattle.lists.proofs.Appends.{append-append}

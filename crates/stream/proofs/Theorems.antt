@@ -20,7 +20,7 @@ use Rattle.transcript.specs.Transcript.{linesLimit, transcript}
 use Rattle.stream.specs.Feeding.{Begun, begun, beginCall, IsReady, Feeding, stopped, feedBytes}
 use Rattle.stream.specs.Pieces.{Standing, Turn, turnLeft, standsAfter, usedBy, writtenBy, lastWritten, HasBegun}
 use Rattle.stream.specs.declared.Progress.{Progress}
-use Rattle.lines.proofs.Stops.{stopped-lines}
+use Rattle.line_buffer.proofs.Stops.{stopped-lines}
 use Rattle.stream.proofs.Lines.{open-none}
 use Rattle.stream.proofs.Following.{begun-says, says-free}
 use Rattle.stream.proofs.Runs.{Place, restFrom, bytes-all, bytes-first}

@@ -17,7 +17,7 @@ use Rattle.report.specs.Line.{bufferLimit}
 use Rattle.transcript.specs.Transcript.{linesLimit, linesOf, followLine, reportsFrom}
 use Rattle.stream.specs.Feeding.{Feeding, feeding, fedOf, stopped, tookLine, feedBytes, feedCall, finishCall}
 use Rattle.stream.specs.Pieces.{Standing, Turn, turnLeft, standingAfter, standsAfter, usedBy, writtenBy, lastWritten}
-use Rattle.lines.proofs.Stops.{going, stopped-lines}
+use Rattle.line_buffer.proofs.Stops.{going, stopped-lines}
 use Rattle.stream.proofs.Lines.{isOpenLine, lines-open}
 use Rattle.stream.proofs.Runs.{Place, restFrom, StandsAt, Goes, lineReport, took-written, rest-line, bytes-go}
 use Rattle.lists.proofs.Appends.{append-append, append-none}

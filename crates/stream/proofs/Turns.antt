@@ -12,7 +12,7 @@ use Rattle.notice.specs.Lines.{readLine}
 use Rattle.report.specs.Line.{reportLine}
 use Rattle.opening.specs.OpenCall.{openLeft}
 use Rattle.opening.specs.declared.Opened.{Opened}
-use Rattle.lines.specs.Lines.{reportOf, pasted}
+use Rattle.line_buffer.specs.Lines.{reportOf, pasted}
 use Rattle.stream.specs.Feeding.{answerTo, Feeding, feeding, progressOf, fedOf, stopped, tookLine, finishCall}
 use Rattle.stream.specs.declared.Progress.{Progress}
 

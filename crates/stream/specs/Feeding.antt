@@ -18,7 +18,7 @@ use Rattle.opening.specs.Steps.{mapRefusal, refusedWith}
 use Rattle.notice.specs.Lines.{lineLimit, lineEnd, Line, garbled, frame, readLine}
 use Rattle.report.specs.Line.{reportLine}
 use Rattle.transcript.specs.Transcript.{noticeIn}
-use Rattle.lines.specs.Lines.{holding, holdByte, reportOf, pasted, isStopped}
+use Rattle.line_buffer.specs.Lines.{holding, holdByte, reportOf, pasted, isStopped}
 use Rattle.stream.specs.declared.Progress.{Progress}
 use Rattle.stream.specs.declared.Fed.{Fed}
 

@@ -145,7 +145,7 @@ fn take_line(
         &line[..held],
     );
     let number = before.lines + 1;
-    let end = lines::put_report(out, fed.written, number, got);
+    let end = line_buffer::put_report(out, fed.written, number, got);
     let now = got.after;
     let progress = Progress {
         rec: now,
@@ -193,10 +193,10 @@ pub fn feed(
     };
     while now.used < piece.len() {
         let before = now.progress;
-        if lines::is_stopped(before.lines, now.written, out.len()) {
+        if line_buffer::is_stopped(before.lines, now.written, out.len()) {
             return now;
         }
-        let part = lines::hold_part(line, piece, now.used, before.held);
+        let part = line_buffer::hold_part(line, piece, now.used, before.held);
         let rec = before.rec;
         let after = Progress {
             rec: rec,
@@ -256,7 +256,7 @@ pub fn finish(
     if progress.held == 0 {
         return fed;
     }
-    if lines::is_stopped(progress.lines, 0, out.len()) {
+    if line_buffer::is_stopped(progress.lines, 0, out.len()) {
         return fed;
     }
     take_line(fed, links, pairs, hops, bounds, skips, even, odd, out, line)

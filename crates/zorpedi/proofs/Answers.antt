@@ -32,9 +32,9 @@ use Rattle.outcome.specs.declared.Change.{Change}
 use Rattle.outcome.specs.declared.Outcome.the-variants.{Accepted, Refused}
 use Rattle.opening.specs.OpenCall.{OpenLeft, openLeft, openRefusal, openGiven, openCall}
 use Rattle.opening.specs.declared.Opened.{Opened}
-use Rattle.foreign.specs.Words.{recordWords, recordOf, wordsOf, clampedOf}
+use Rattle.c_values.specs.Words.{recordWords, recordOf, wordsOf, clampedOf}
 use Rattle.zorpedi.specs.Outs.{EmptyOut, emptiedOut, emptyFrom, emptyOut, SearchOut, searchedOut, searchFrom, searchOut, ReckonOut, reckonedOut, reckonFrom, reckonOut, OpenOut, openedOut, openFrom, openOut}
-use Rattle.foreign.proofs.Clamps.{links-clamp, figures-clamp, number-fits, figures-fit}
+use Rattle.c_values.proofs.Clamps.{links-clamp, figures-clamp, number-fits, figures-fit}
 
 -- ---- emptying
 

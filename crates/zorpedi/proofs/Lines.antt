@@ -24,7 +24,7 @@ use Rattle.report.specs.declared.Report.{Report}
 use Rattle.report.specs.declared.Written.{Written as ReportWritten}
 use Rattle.report.specs.declared.Written.the-variants.{Line as ReportLine, Refused as NoReport}
 use Rattle.report.proofs.Theorems.{line-length}
-use Rattle.foreign.specs.Outcomes.{outcomeOf}
+use Rattle.c_values.specs.Outcomes.{outcomeOf}
 use Rattle.zorpedi.specs.Lines.{orOld, LineOut, lineOut, outOf, readOut, writeOut, reportFields, reportFrom, reportOut}
 
 -- a refusal has a number above 0

@@ -12,15 +12,15 @@ use Rattle.map.specs.declared.Record.{Record}
 use Rattle.rounds.specs.Leaves.{Lent, lent}
 use Rattle.rounds.specs.Sizes.{sizes, sizesOf}
 use Rattle.opening.specs.Steps.{mapRefusal}
-use Rattle.lines.specs.Lines.{isStopped}
+use Rattle.line_buffer.specs.Lines.{isStopped}
 use Rattle.stream.specs.Feeding.{Feeding, feeding, progressOf, fedOf, IsReady, tookLine, feedCall, finishCall}
 use Rattle.stream.specs.declared.Progress.{Progress}
 use Rattle.stream.specs.declared.Fed.{Fed}
-use Rattle.foreign.specs.Words.{recordOf, wordsOf, clampedOf}
-use Rattle.foreign.specs.Refusal.{stepRefusal}
-use Rattle.foreign.proofs.Refusals.{step-granted}
+use Rattle.c_values.specs.Words.{recordOf, wordsOf, clampedOf}
+use Rattle.c_values.specs.Refusal.{stepRefusal}
+use Rattle.c_values.proofs.Refusals.{step-granted}
 use Rattle.zorpedi.specs.Feeds.{FedOut, fedOut, fedFrom, feedGiven, refusalIn, feedOut, finishGiven, finishOut}
-use Rattle.foreign.proofs.Clamps.{clamped-is}
+use Rattle.c_values.proofs.Clamps.{clamped-is}
 
 -- such a step may be taken
 pub step-ready : (words links p h x y b s line : List ℕ) (out lines held : ℕ) {k : ℕ}

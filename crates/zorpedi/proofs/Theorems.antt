@@ -14,8 +14,8 @@ use Rattle.map.specs.Memory.{base}
 use Rattle.rounds.specs.Leaves.{Lent}
 use Rattle.rounds.specs.Sizes.{sizesOf}
 use Rattle.opening.specs.OpenCall.{changeOf, openRefusal, networkAfter, openedBy, OpenLeft, openGiven, openCall}
-use Rattle.foreign.specs.Words.{recordWords, recordOf}
-use Rattle.foreign.proofs.Theorems.{words-read}
+use Rattle.c_values.specs.Words.{recordWords, recordOf}
+use Rattle.c_values.proofs.Theorems.{words-read}
 use Rattle.zorpedi.specs.Outs.{OpenOut, openFrom, openOut}
 
 -- ---- the opening

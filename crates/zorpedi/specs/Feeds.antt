@@ -7,8 +7,8 @@ use Rattle.lists.specs.Lists.{overwrite}
 use Rattle.rounds.specs.Leaves.{Lent}
 use Rattle.rounds.specs.Sizes.{sizesOf}
 use Rattle.stream.specs.Feeding.{Feeding, progressOf, feedCall, finishCall}
-use Rattle.foreign.specs.Words.{recordOf, wordsOf}
-use Rattle.foreign.specs.Refusal.{stepRefusal}
+use Rattle.c_values.specs.Words.{recordOf, wordsOf}
+use Rattle.c_values.specs.Refusal.{stepRefusal}
 
 -- the refusal, the lent numbers and the lent memory
 pub record FedOut : Type 0 where

@@ -4,7 +4,7 @@ use Prim.Native.Nat.{ℕ, zero, suc}
 use Rattle.notice.specs.Calls.{LineLeft, readCall, writeCall}
 use Rattle.report.specs.Line.{ReportLeft, reportCall}
 use Rattle.report.specs.declared.Report.{Report}
-use Rattle.foreign.specs.Outcomes.{outcomeOf}
+use Rattle.c_values.specs.Outcomes.{outcomeOf}
 
 -- a lent number after a call with this refusal: the new value, or the old one where the call is refused
 unfoldable pub orOld : ℕ → ℕ → ℕ → ℕ

@@ -24,7 +24,7 @@ use Rattle.outcome.specs.Outcome.{letterOf}
 use Rattle.outcome.specs.declared.Outcome.{Outcome}
 use Rattle.outcome.specs.declared.Outcome.the-variants.{Accepted, Refused}
 use Rattle.opening.specs.OpenCall.{OpenLeft, openCall}
-use Rattle.foreign.specs.Words.{recordWords, recordOf, wordsOf}
+use Rattle.c_values.specs.Words.{recordWords, recordOf, wordsOf}
 
 -- ---- emptying
 

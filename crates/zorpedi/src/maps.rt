@@ -19,13 +19,13 @@ pub extern "C" fn zorpedi_empty(words: &mut [u64], links: &mut [u64], pairs: &mu
     if words.len() < 7 {
         return 1;
     }
-    let rec = foreign::record_of(&*words);
+    let rec = c_values::record_of(&*words);
     let got = map::empty_map(links, pairs, rec);
     let after = got.after;
     let answer = got.answer;
     match answer {
         Emptying::Done => {
-            foreign::put_record(words, after);
+            c_values::put_record(words, after);
             0
         }
         Emptying::Refused(k) => k,
@@ -52,7 +52,7 @@ pub extern "C" fn zorpedi_search(
     if words.len() < 7 {
         return 1;
     }
-    let rec = foreign::record_of(words);
+    let rec = c_values::record_of(words);
     let found = search::search_from(hops, even, odd, rec, links, code);
     match found {
         Found::Reached(e) => {
@@ -85,13 +85,13 @@ pub extern "C" fn zorpedi_reckon(
     if words.len() < 7 {
         return 1;
     }
-    let rec = foreign::record_of(&*words);
+    let rec = c_values::record_of(&*words);
     let got = reckon::reckon_all(pairs, hops, bounds, skips, even, odd, rec, links);
     let after = got.after;
     let answer = got.answer;
     match answer {
         Reckoning::Searches(n) => {
-            foreign::put_record(words, after);
+            c_values::put_record(words, after);
             *searches = n;
             0
         }
@@ -124,7 +124,7 @@ pub extern "C" fn zorpedi_open(
     if words.len() < 7 {
         return 1;
     }
-    let rec = foreign::record_of(&*words);
+    let rec = c_values::record_of(&*words);
     let got = opening::open_step(
         rec,
         links,
@@ -142,7 +142,7 @@ pub extern "C" fn zorpedi_open(
     let outcome = report.outcome;
     match outcome {
         Outcome::Accepted(_) => {
-            foreign::put_record(words, after);
+            c_values::put_record(words, after);
             *searches = report.searches;
             outcome::letter(outcome)
         }

@@ -33,7 +33,7 @@ pub extern "C" fn zorpedi_feed(
         (now (links .exit)) after (now (line .exit)) (now (out .exit)) in
         ⌜ exit ≡ feedOut entry (now (piece .entry)) ⌝ }
 {
-    let refusal = foreign::step_refusal(
+    let refusal = c_values::step_refusal(
         &*words,
         &*links,
         &*pairs,
@@ -49,7 +49,7 @@ pub extern "C" fn zorpedi_feed(
     if refusal != 0 {
         return refusal;
     }
-    let rec = foreign::record_of(&*words);
+    let rec = c_values::record_of(&*words);
     let progress = Progress {
         rec: rec,
         lines: *lines,
@@ -70,7 +70,7 @@ pub extern "C" fn zorpedi_feed(
     );
     let now = fed.progress;
     let after = now.rec;
-    foreign::put_record(words, after);
+    c_values::put_record(words, after);
     *lines = now.lines;
     *held = now.held;
     *used = fed.used;
@@ -104,7 +104,7 @@ pub extern "C" fn zorpedi_finish(
         (now (links .exit)) after (now (line .entry)) (now (out .exit)) in
         ⌜ exit ≡ finishOut entry ⌝ }
 {
-    let refusal = foreign::step_refusal(
+    let refusal = c_values::step_refusal(
         &*words,
         &*links,
         &*pairs,
@@ -120,7 +120,7 @@ pub extern "C" fn zorpedi_finish(
     if refusal != 0 {
         return refusal;
     }
-    let rec = foreign::record_of(&*words);
+    let rec = c_values::record_of(&*words);
     let progress = Progress {
         rec: rec,
         lines: *lines,
@@ -140,7 +140,7 @@ pub extern "C" fn zorpedi_finish(
     );
     let now = fed.progress;
     let after = now.rec;
-    foreign::put_record(words, after);
+    c_values::put_record(words, after);
     *lines = now.lines;
     *held = now.held;
     *written = fed.written;

@@ -60,7 +60,7 @@ pub extern "C" fn zorpedi_report(
         let fields = reportFields number answer depots chain pairs searches in
         ⌜ lineOut r (now (length .exit)) 0 (now (line .exit)) ≡ reportOut fields (now (line .entry)) (now (length .entry)) ⌝ }
 {
-    let outcome = foreign::outcome_of(answer);
+    let outcome = c_values::outcome_of(answer);
     let fields = Report {
         number: number,
         outcome: outcome,

@@ -8,7 +8,7 @@ use lib.ListN.{length}
 use Rattle.layers.specs.Layers.{tables}
 use Rattle.rounds.specs.Leaves.{lent}
 use Rattle.stream.specs.Feeding.{Feeding, feeding}
-use Rattle.lines.proofs.Stops.{going}
+use Rattle.line_buffer.proofs.Stops.{going}
 use Rattle.stream.proofs.Feeds.{AtTurn, turn-end, turn-stopped, at-start, ready-turn, call-is, free-sizes, took-used, turn-held}
 use Rattle.stream.proofs.Feeds.{part-free, part-held, part-beyond, part-inside, turn-next}
 use borrow.Author.Needs.{needs}

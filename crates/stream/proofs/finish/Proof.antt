@@ -3,7 +3,7 @@ use mathlib.Core.Path.{sym, _∙_}
 use Prim.Native.Nat.{zero-le}
 use native.Mathlib.Omega.{arith}
 use Rattle.stream.proofs.Feeds.{free-sizes}
-use Rattle.lines.proofs.Stops.{going}
+use Rattle.line_buffer.proofs.Stops.{going}
 use Rattle.stream.proofs.Turns.{finish-none, finish-stopped, finish-took}
 use borrow.Author.Needs.{needs}
 use Rattle.stream.proofs.finish.Statement.{statement}

@@ -1,5 +1,5 @@
 -- `zorpedi::streams::zorpedi_feed` meets its contract: refused, or the step of crate stream on the record in the words. Assumes nothing.
-use Rattle.foreign.proofs.Refusals.{step-room}
+use Rattle.c_values.proofs.Refusals.{step-room}
 use Rattle.zorpedi.proofs.Steps.{feed-refused, step-ready, feed-done}
 use borrow.Author.Needs.{needs}
 use Rattle.zorpedi.proofs.streams.zorpedi_feed.Statement.{statement}

@@ -1,5 +1,5 @@
 -- `zorpedi::streams::zorpedi_finish` meets its contract: refused, or the end of crate stream's stream on the record in the words. Assumes nothing.
-use Rattle.foreign.proofs.Refusals.{step-room}
+use Rattle.c_values.proofs.Refusals.{step-room}
 use Rattle.zorpedi.proofs.Steps.{finish-refused, step-ready, finish-done}
 use borrow.Author.Needs.{needs}
 use Rattle.zorpedi.proofs.streams.zorpedi_finish.Statement.{statement}

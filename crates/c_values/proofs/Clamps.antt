@@ -1,0 +1,112 @@
+-- NO CALL CAN TELL A FIGURE THAT IS TOO LARGE FROM THE LARGEST OF ITS WIDTH: both are spoilt. So the code reads words of 64 bits into the
+-- record's narrower fields. Assumes nothing.
+use mathlib.Core.Path.{_≡_, refl, sym, ap, ap₂, _∙_}
+use mathlib.Core.Bool.{Bool, true, false, not, _&&_}
+use mathlib.Core.List.{List, [], _∷_}
+use Prim.Native.Nat.{ℕ, _≤_, _<_, min}
+use native.Mathlib.Nat.{lt-irrefl}
+use native.Mathlib.Omega.{arith}
+use lib.Dec.{eqb, ltb, leb}
+use lib.ListN.{getD, take}
+use borrow.Author.Tests.{leb-true, leb-false, eqb-true, ltb-true, ne-eqb, le-ltb, not-false}
+use Rattle.lists.specs.Lists.{range, countb, firstOf}
+use Rattle.lists.proofs.Tests.{and-true}
+use Rattle.lists.proofs.Counts.{count-le-length}
+use Rattle.lists.proofs.Members.{length-range, first-zero}
+use Rattle.graph.specs.Network.{Network}
+use Rattle.graph.specs.Distance.{connected}
+use Rattle.graph.specs.Chart.{Pairs, countPairs}
+use Rattle.rows.specs.Rows.{tableBit}
+use Rattle.map.specs.Memory.{base, networkOf}
+use Rattle.checks.specs.Sound.{allSet, soundLink, soundLinks, soundPair, soundFigures}
+use Rattle.pairs.proofs.PairCounts.{pairs-few}
+use Rattle.rounds.specs.Sizes.{Sizes, longEnough}
+use Rattle.opening.specs.Steps.{mapRefusal}
+use Rattle.c_values.specs.Words.{recordOf, clampedOf}
+
+-- ---- tests against a number below the largest
+
+module _ (n m k : ℕ) where
+  eqb-clamp : k < m → eqb (min n m) k ≡ eqb n k
+  eqb-clamp l = go (leb n m) refl
+    where
+      go : (t : Bool) → leb n m ≡ t → eqb (min n m) k ≡ eqb n k
+      go true q = let x = leb-true n m q in let e : min n m ≡ n = omega (arith, x) in ap (λ (y : ℕ). eqb y k) e
+      go false q =
+          let x = leb-false n m q in
+          ne-eqb (min n m) k (λ e. lt-irrefl 0 (omega (arith, x, l, e))) ∙ sym (ne-eqb n k (λ e. lt-irrefl 0 (omega (arith, x, l, e))))
+
+  ltb-clamp : k ≤ m → ltb (min n m) k ≡ ltb n k
+  ltb-clamp l = go (leb n m) refl
+    where
+      go : (t : Bool) → leb n m ≡ t → ltb (min n m) k ≡ ltb n k
+      go true q = let x = leb-true n m q in let e : min n m ≡ n = omega (arith, x) in ap (λ (y : ℕ). ltb y k) e
+      go false q = let x = leb-false n m q in le-ltb (min n m) k (omega (arith, x, l)) ∙ sym (le-ltb n k (omega (arith, x, l)))
+
+-- ---- links and figures
+
+module _ (codes links : List ℕ) where
+  abbrev G : Network
+  G = networkOf 4 codes links
+
+  few-open : countb (G .isOpen) (range (G .limit)) ≤ 256
+  unfolding networkOf
+  few-open = omega (arith, count-le-length (G .isOpen) (range 256), length-range 256)
+
+  few-pairs : (P : Pairs) → countPairs (range (G .limit)) P ≤ 65536
+  unfolding networkOf
+  few-pairs P = pairs-few 256 P
+
+  limit-is : G .limit ≡ 256
+  unfolding networkOf
+  limit-is = refl
+
+  pub links-clamp : (n : ℕ) → soundLinks G (min n 65535) ≡ soundLinks G n
+  unfolding soundLinks
+  links-clamp n = ap (λ (t : Bool). t && allSet (G .limit) (G .linked) (soundLink G)) (eqb-clamp n 65535 (countb (G .isOpen) (range (G .limit))) (omega (arith, few-open)))
+
+  pub figures-clamp : (P : Pairs) (c k : ℕ) → soundFigures G P (min c 65535) (min k 4294967295) ≡ soundFigures G P c k
+  unfolding soundFigures
+  figures-clamp P c k =
+      ap₂ (λ (t u : Bool). allSet (G .limit) P (soundPair G) && t && u)
+      (eqb-clamp k 4294967295 (countPairs (range (G .limit)) P) (omega (arith, few-pairs P)))
+      (ltb-clamp c 65535 (G .limit) (omega (arith, limit-is)))
+
+  -- a figure that passes is below the largest
+  pub number-fits : (n : ℕ) → soundLinks G n ≡ true → min n 65535 ≡ n
+  unfolding soundLinks
+  number-fits n e =
+      let q = eqb-true n (countb (G .isOpen) (range (G .limit))) (and-true (eqb n (countb (G .isOpen) (range (G .limit)))) (allSet (G .limit) (G .linked) (soundLink G)) e .0) in
+      omega (arith, q, few-open)
+
+  pub figures-fit : (P : Pairs) (c k : ℕ) → soundFigures G P c k ≡ true → (min c 65535 ≡ c) × (min k 4294967295 ≡ k)
+  unfolding soundFigures
+  figures-fit P c k e =
+      let a = and-true (allSet (G .limit) P (soundPair G) && eqb k (countPairs (range (G .limit)) P)) (ltb c (G .limit)) e in
+      let b = and-true (allSet (G .limit) P (soundPair G)) (eqb k (countPairs (range (G .limit)) P)) (a .0) in
+      let q = eqb-true k (countPairs (range (G .limit)) P) (b .1) in
+      let r = ltb-true c (G .limit) (a .1) in
+      (omega (arith, r, limit-is), omega (arith, q, few-pairs P))
+
+-- ---- the refusals of a lent map
+
+module _ (l links pairs : List ℕ) (z : Sizes) where
+  pub map-clamp : mapRefusal base (clampedOf l) links pairs z ≡ mapRefusal base (recordOf l) links pairs z
+  unfolding mapRefusal clampedOf recordOf
+  map-clamp =
+      ap₂
+      (λ (t u : Bool). firstOf ((not (longEnough base z), 1) ∷ (not (t && u), 2) ∷ (not (connected (networkOf 4 (take 4 l) links)), 3) ∷ []))
+      (links-clamp (take 4 l) links (getD l 4 0))
+      (figures-clamp (take 4 l) links (tableBit 4 pairs) (getD l 5 0) (getD l 6 0))
+
+  -- where nothing refuses the map, the record read is the record lent
+  pub clamped-is : mapRefusal base (recordOf l) links pairs z ≡ 0 → clampedOf l ≡ recordOf l
+  unfolding mapRefusal clampedOf recordOf
+  clamped-is e =
+      let N = networkOf 4 (take 4 l) links in
+      let P = tableBit 4 pairs in
+      let a = first-zero (not (longEnough base z)) 0 ((not (soundLinks N (getD l 4 0) && soundFigures N P (getD l 5 0) (getD l 6 0)), 2) ∷ (not (connected N), 3) ∷ []) e in
+      let b = first-zero (not (soundLinks N (getD l 4 0) && soundFigures N P (getD l 5 0) (getD l 6 0))) 1 ((not (connected N), 3) ∷ []) (a .1) in
+      let c = and-true (soundLinks N (getD l 4 0)) (soundFigures N P (getD l 5 0) (getD l 6 0)) (not-false _ (b .0)) in
+      let f = figures-fit (take 4 l) links P (getD l 5 0) (getD l 6 0) (c .1) in
+      rw (number-fits (take 4 l) links (getD l 4 0) (c .0), f .0, f .1)

@@ -1,0 +1,28 @@
+-- `c_values::record_of` meets its contract: each figure is read at its width. Assumes nothing.
+use Rattle.c_values.proofs.Words.{read-record}
+use borrow.Author.Needs.{needs}
+use Rattle.c_values.proofs.record_of.Statement.{statement}
+use Rattle.c_values.proofs.record_of.Tie as tie
+
+returns : tie.Need-returns
+returns c =
+    let after-at-16-bits2 : tie.After-at-16-bits2 = search in
+    let after-at-16-bits : tie.After-at-16-bits = search in
+    let start : tie.Start = search in
+    read-record _ (start .pre) (after-at-16-bits .at-16-bits .ensures) (after-at-16-bits2 .at-16-bits2 .ensures) (c .at-32-bits .ensures)
+
+pub record-of-spec : {M : Type 1} → statement M
+record-of-spec =
+    tie.close
+    (tie.spec
+    (λ c. search needs)  -- shared-slice-read-t3
+    (λ c. search needs)  -- shared-slice-read-t5
+    (λ c. search needs)  -- shared-slice-read-t7
+    (λ c. search needs)  -- shared-slice-read-t9
+    (λ c. search needs)  -- shared-slice-read-at-16-bits
+    (λ c. search needs)  -- at-16-bits-requires
+    (λ c. search needs)  -- shared-slice-read-at-16-bits-2
+    (λ c. search needs)  -- at-16-bits-requires-2
+    (λ c. search needs)  -- shared-slice-read-at-32-bits
+    (λ c. search needs)  -- at-32-bits-requires
+    returns)

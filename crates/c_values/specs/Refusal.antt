@@ -1,0 +1,19 @@
+-- THE REFUSAL OF A STREAM'S STEP on lent memory. Assumes nothing.
+use mathlib.Core.Bool.{cond, _||_}
+use mathlib.Core.List.{List}
+use Prim.Native.Nat.{ℕ}
+use lib.Dec.{ltb}
+use lib.ListN.{length}
+use Rattle.map.specs.Memory.{base}
+use Rattle.rounds.specs.Sizes.{Sizes}
+use Rattle.outcome.specs.Numbers.{shortBuffer}
+use Rattle.notice.specs.Lines.{lineLimit}
+use Rattle.report.specs.Line.{bufferLimit}
+use Rattle.opening.specs.Steps.{mapRefusal}
+use Rattle.c_values.specs.Words.{recordWords, recordOf}
+
+-- the first refusal of a step: a buffer is below its named size (one below what it is said to hold is short too); then those of the lent map
+unfoldable pub stepRefusal : List ℕ → List ℕ → List ℕ → Sizes → ℕ → ℕ → ℕ → ℕ
+stepRefusal words links pairs sizes line out held =
+    cond (ltb (length words) recordWords || ltb line lineLimit || ltb out bufferLimit || ltb lineLimit held) shortBuffer
+    (mapRefusal base (recordOf words) links pairs sizes)

@@ -1,0 +1,132 @@
+// What the calls for other languages share: the record as seven lent words, the outcome of an answer's number, the refusal of a stream's step.
+ghost use mathlib.Core.Path.{_≡_};
+ghost use Prim.Native.Nat.{_≤_, _<_, min};
+ghost use lib.ListN.{length, set};
+ghost use Rattle.lists.specs.Lists.{overwrite};
+ghost use Rattle.rounds.specs.Sizes.{sizes};
+ghost use Rattle.c_values.specs.Words.{recordWords, wordsOf, clampedOf};
+ghost use Rattle.c_values.specs.Outcomes.{outcomeOf};
+ghost use Rattle.c_values.specs.Refusal.{stepRefusal};
+use map::Record;
+use outcome::Change;
+use outcome::Outcome;
+
+// ---- the record
+
+// A word at 16 bits: a larger one becomes the largest, which no map has as its number open or its chain.
+fn at_16_bits(x: u64) -> u16
+    ensures { λ r. ⌜ r ≡ min x 65535 ⌝ }
+{
+    if 65535 < x {
+        return 65535;
+    }
+    x as u16
+}
+
+// A word at 32 bits: a larger one becomes the largest, which no map has as its pair count.
+fn at_32_bits(x: u64) -> u32
+    ensures { λ r. ⌜ r ≡ min x 4294967295 ⌝ }
+{
+    if 4294967295 < x {
+        return 4294967295;
+    }
+    x as u32
+}
+
+// The record in seven lent words. Figures that are too large for it stay too large for any map, so that they are found spoilt.
+pub fn record_of(words: &[u64]) -> Record
+    requires { ⌜ recordWords ≤ length (now words) ⌝ }
+    ensures { λ r. ⌜ r ≡ clampedOf (now (words .entry)) ⌝ }
+{
+    Record {
+        codes: [words[0], words[1], words[2], words[3]],
+        number: at_16_bits(words[4]),
+        chain: at_16_bits(words[5]),
+        count: at_32_bits(words[6]),
+    }
+}
+
+// Puts a word in its place.
+fn put_word(words: &mut [u64], i: usize, x: u64)
+    requires { ⌜ i < length (now words) ⌝ }
+    ensures { λ r. ⌜ now (words .exit) ≡ set (now (words .entry)) i x ⌝ }
+{
+    words[i] = x;
+}
+
+// Puts the open set into the first four words.
+fn put_codes(words: &mut [u64], codes: &[u64])
+    requires { ⌜ (recordWords ≤ length (now words)) × (length (now codes) ≡ 4) ⌝ }
+    ensures { λ r. ⌜ now (words .exit) ≡ overwrite (now (codes .entry)) (now (words .entry)) ⌝ }
+{
+    put_word(words, 0, codes[0]);
+    put_word(words, 1, codes[1]);
+    put_word(words, 2, codes[2]);
+    put_word(words, 3, codes[3]);
+}
+
+// Puts a record into seven lent words; words past them stay.
+pub fn put_record(words: &mut [u64], rec: Record)
+    requires { ⌜ recordWords ≤ length (now words) ⌝ }
+    ensures { λ r. ⌜ now (words .exit) ≡ overwrite (wordsOf rec) (now (words .entry)) ⌝ }
+{
+    let codes = rec.codes;
+    put_codes(words, &codes);
+    put_word(words, 4, rec.number as u64);
+    put_word(words, 5, rec.chain as u64);
+    put_word(words, 6, rec.count as u64);
+}
+
+// ---- an answer's number
+
+// The outcome that an answer's number stands for: a letter of an accepted opening, or a refusal's number.
+pub fn outcome_of(answer: u8) -> Outcome
+    ensures { λ r. ⌜ r ≡ outcomeOf answer ⌝ }
+{
+    if answer == 71 {
+        return Outcome::Accepted(Change::Grew);
+    }
+    if answer == 75 {
+        return Outcome::Accepted(Change::Kept);
+    }
+    if answer == 83 {
+        return Outcome::Accepted(Change::Shrank);
+    }
+    Outcome::Refused(answer)
+}
+
+// ---- the step of a stream
+
+// The first refusal of a step that holds, 0 for none. It only reads.
+pub fn step_refusal(
+    words: &[u64],
+    links: &[u64],
+    pairs: &[u64],
+    hops: usize,
+    bounds: usize,
+    skips: usize,
+    even: usize,
+    odd: usize,
+    line: usize,
+    out: usize,
+    held: usize,
+) -> u8
+    ensures { λ r.
+        let long = sizes (length (now (links .entry))) (length (now (pairs .entry))) hops bounds skips even odd in
+        ⌜ r ≡ stepRefusal (now (words .entry)) (now (links .entry)) (now (pairs .entry)) long line out held ⌝ }
+{
+    if words.len() < 7 {
+        return 1;
+    }
+    if line < 517 {
+        return 1;
+    }
+    if out < 48 {
+        return 1;
+    }
+    if 517 < held {
+        return 1;
+    }
+    let rec = record_of(words);
+    opening::map_refusal(rec, links, pairs, hops, bounds, skips, even, odd)
+}

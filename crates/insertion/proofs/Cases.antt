@@ -1,0 +1,225 @@
+-- The four ways in which an opening ends, each by the tests that the code makes. Assumes nothing.
+use mathlib.Core.Path.{_≡_, refl, sym, ap, ap₂, _∙_, subst}
+use mathlib.Core.Logic.{_⊎_, inl, inr}
+use mathlib.Core.Bool.{Bool, true, false, cond, not, _&&_, _||_}
+use mathlib.Core.List.{List, []}
+use Prim.Native.Nat.{ℕ, _*_, _≤_, _<_}
+use native.Mathlib.Nat.{le-refl, lt-irrefl}
+use native.Mathlib.Omega.{arith}
+use lib.Dec.{T, eqb, ltb}
+use lib.ListN.{length}
+use borrow.Author.Tests.{eqb-true, eq-eqb, ne-eqb, ltb-true, lt-ltb, le-ltb}
+use Rattle.lists.specs.Lists.{overwrite}
+use Rattle.lists.proofs.Tests.{look, true→t, and-true, or-true}
+use Rattle.graph.specs.Network.{Network}
+use Rattle.graph.specs.Distance.{dist}
+use Rattle.graph.specs.Chart.{Pairs, chart, ecc, ownPairs}
+use Rattle.graph.specs.Rounds.{State, joinPairs, round, rounds, start}
+use Rattle.graph.specs.Opening.{opening, openCase, stayingPairs, anyPair}
+use Rattle.graph.specs.Correct.{IsNet}
+use Rattle.graph.proofs.Charts.{chart-metric, depot-in}
+use Rattle.rows.specs.Rows.{tableBit, encodeTable}
+use Rattle.layers.specs.Layers.{tables, Tables, Searched, searched, searchLeaves, searchTable}
+use Rattle.layers.proofs.Theorems.{table-depth, table-leaves, depth-is}
+use Rattle.map.specs.Memory.{base, networkOf}
+use Rattle.outcome.specs.declared.Change.the-variants.{Grew, Kept, Shrank}
+use Rattle.pairs.specs.Pairs.{Tally, tally, tallyOf, pairsWith, settleOf}
+use Rattle.stale_pairs.specs.Stale.{dropped, dropOf}
+use Rattle.pairs.proofs.Tallies.{tally-ext, table-over}
+use Rattle.rounds.specs.Leaves.{Lent, lent, Ran, ran, ranBy, roundsLeave}
+use Rattle.rounds.specs.Workspace.{lastRow}
+use Rattle.rounds.proofs.Holding.{leaves-over}
+use Rattle.rounds.proofs.Pairing.{own-pairs, settle-is}
+use Rattle.insertion.specs.Figured.{Figured, figured, figuredBy, changeAs, IsFigurable}
+use Rattle.bounds.specs.Once.{Marked, marking}
+use Rattle.insertion.specs.Steps.{markOnce, Joined, joined, joinOf, IsSearched, IsWhole}
+use Rattle.insertion.proofs.Once.{once-leaves}
+use Rattle.insertion.proofs.Dropping.{left-is, candidate-is, none-left, some-left}
+use Rattle.insertion.proofs.Shrinking.{figured-over}
+
+-- ---- the search
+
+-- over the tables T₀ it leaves T₁
+module _ (codes links : List ℕ) (p b s : List ℕ) (a e : ℕ) (T₀ T₁ : Tables) where
+  abbrev H : Network
+  H = networkOf 4 codes links
+
+  left-search : IsNet H → T (H .isOpen a) → searched e T₁ ≡ searchTable 4 links a T₀ → T₁ ≡ searchLeaves 4 H a T₀
+  unfolding searchTable networkOf
+  left-search net o q = ap (λ (X : Searched). X .left) q ∙ table-leaves H (net .sound) (net .small) a o 4 links T₀ refl refl
+
+  -- the search over the table is the network's, and stands in the tables
+  pub search-stands : IsNet H → T (H .isOpen a) → searched e T₁ ≡ searchTable 4 links a T₀ → IsSearched base codes links (lent p T₁ b s) a e
+  unfolding searchTable networkOf
+  search-stands net o q = record {
+    net = net;
+    present = o;
+    depth = ap (λ (X : Searched). X .depth) q ∙ table-depth H (net .sound) (net .small) a o 4 links refl refl ∙ depth-is H net a o;
+    stands = left-search net o q ∙ sym (ap (searchLeaves 4 H a) (left-search net o q) ∙ leaves-over 4 H a a T₀);
+  }
+
+  -- what is answered by those tables is answered by the tables before
+  pub figured-first : (D : ℕ) (X : Figured) → IsNet H → T (H .isOpen a) → searched e T₁ ≡ searchTable 4 links a T₀ → X ≡ figuredBy base H a D (lent p T₁ b s) → X ≡ figuredBy base H a D (lent p T₀ b s)
+  figured-first D X net o q h = h ∙ ap (λ (Y : Tables). figuredBy base H a D (lent p Y b s)) (left-search net o q) ∙ figured-over base H a T₀ p b s D
+
+-- tables of the same lengths are whole
+pub whole-first : (codes links p b s : List ℕ) (a : ℕ) (T₀ T₁ : Tables) (D count : ℕ) → IsFigurable base codes links (lent p T₀ b s) a D count
+    → length (T₁ .hops) ≡ length (T₀ .hops) → length (T₁ .even) ≡ length (T₀ .even) → length (T₁ .odd) ≡ length (T₀ .odd) → IsWhole base codes links (lent p T₁ b s)
+whole-first codes links p b s a T₀ T₁ D count F h x y = record {
+  table = F .table;
+  pairTable = F .pairTable;
+  hopPlaces = omega (arith, F .hopPlaces);
+  evenRow = omega (arith, F .evenRow);
+  oddRow = omega (arith, F .oddRow);
+  boundPlaces = F .boundPlaces;
+  skipPlaces = F .skipPlaces;
+  codeRow = F .codeRow;
+}
+
+-- ---- a depot at distance 0 has no partner
+
+own-zero : (G : Network) → IsNet G → (a : ℕ) → T (G .isOpen a) → (u v : ℕ) → ownPairs (chart G) a 0 u v ≡ false
+unfolding ownPairs chart
+own-zero G net a o u v = go (look (ltb u v && G .isOpen u && G .isOpen v && ((eqb u a && eqb (dist G a v) 0) || (eqb v a && eqb (dist G a u) 0))))
+  where
+    same : (x y : ℕ) → G .isOpen y ≡ true → (eqb x a && eqb (dist G a y) 0) ≡ true → x ≡ y
+    same x y oy h =
+        let k = and-true (eqb x a) (eqb (dist G a y) 0) h in
+        eqb-true x a (k .0) ∙ chart-metric G net .apart a y (depot-in G net a o) (depot-in G net y (true→t oy)) (eqb-true (dist G a y) 0 (k .1))
+
+    ends : G .isOpen u ≡ true → G .isOpen v ≡ true → ((eqb u a && eqb (dist G a v) 0) ≡ true) ⊎ ((eqb v a && eqb (dist G a u) 0) ≡ true) → u ≡ v
+    ends ou ov (inl h) = same u v ov h
+    ends ou ov (inr h) = sym (same v u ou h)
+
+    go : ((ltb u v && G .isOpen u && G .isOpen v && ((eqb u a && eqb (dist G a v) 0) || (eqb v a && eqb (dist G a u) 0))) ≡ true) ⊎ ((ltb u v && G .isOpen u && G .isOpen v && ((eqb u a && eqb (dist G a v) 0) || (eqb v a && eqb (dist G a u) 0))) ≡ false)
+        → (ltb u v && G .isOpen u && G .isOpen v && ((eqb u a && eqb (dist G a v) 0) || (eqb v a && eqb (dist G a u) 0))) ≡ false
+    go (inr h) = h
+    go (inl h) =
+        let x = and-true (ltb u v && G .isOpen u && G .isOpen v) ((eqb u a && eqb (dist G a v) 0) || (eqb v a && eqb (dist G a u) 0)) h in
+        let y = and-true (ltb u v && G .isOpen u) (G .isOpen v) (x .0) in
+        let z = and-true (ltb u v) (G .isOpen u) (y .0) in
+        let q : u ≡ v = ends (z .1) (y .1) (or-true (eqb u a && eqb (dist G a v) 0) (eqb v a && eqb (dist G a u) 0) (x .1)) in
+        let l : u < v = ltb-true u v (z .0) in
+        absurd (lt-irrefl u (omega arith))
+
+-- so the pairs of a round at the candidate are those of the opening
+join-same : (G : Network) → IsNet G → (a : ℕ) → T (G .isOpen a) → (D : ℕ) (P : Pairs) (u v : ℕ) → joinPairs (chart G) a D D P u v ≡ (P u v || ownPairs (chart G) a D u v)
+unfolding joinPairs
+join-same G net a o D P u v = rw (le-ltb D D (le-refl D), eq-eqb D D refl) (first (chart G .isDestination a) (look (eqb D 0)))
+  where
+    keep : (b : Bool) → b ≡ (b || false)
+    keep true = refl
+    keep false = refl
+
+    first : (b : Bool) → (eqb D 0 ≡ true) ⊎ (eqb D 0 ≡ false)
+        → cond (b && false) (ownPairs (chart G) a D) (cond (true && not (eqb D 0)) (λ u v. P u v || ownPairs (chart G) a D u v) P) u v ≡ (P u v || ownPairs (chart G) a D u v)
+    first b (inl z) = rw z (zero-case b)
+      where
+        zero-case : (b : Bool) → cond (b && false) (ownPairs (chart G) a D) P u v ≡ (P u v || ownPairs (chart G) a D u v)
+        zero-case true = keep (P u v) ∙ ap (λ (x : Bool). P u v || x) (sym (ap (λ (d : ℕ). ownPairs (chart G) a d u v) (eqb-true D 0 z) ∙ own-zero G net a o u v))
+        zero-case false = keep (P u v) ∙ ap (λ (x : Bool). P u v || x) (sym (ap (λ (d : ℕ). ownPairs (chart G) a d u v) (eqb-true D 0 z) ∙ own-zero G net a o u v))
+    first true (inr z) = rw z
+    first false (inr z) = rw z
+
+-- ---- the cases
+
+module _ (codes links : List ℕ) (B : Lent) (a e D : ℕ) (I : IsSearched base codes links B a e) where
+  abbrev G : Network
+  G = networkOf 4 codes links
+
+  abbrev P : Pairs
+  P = tableBit 4 (B .pairs)
+
+  abbrev Left : Pairs
+  Left = stayingPairs (chart (networkOf 4 codes links)) a D (tableBit 4 (B .pairs))
+
+  limit-is : G .limit ≡ 64 * 4
+  unfolding networkOf
+  limit-is = refl
+
+  by-tests : (x y z : Bool) → ltb D (ecc (chart G) a) ≡ x → eqb (ecc (chart G) a) D ≡ y → anyPair (chart G .depots) Left ≡ z
+      → figured (changeAs (openCase x y z (chart G) a D P .change)) (ranBy base G (openCase x y z (chart G) a D P .final) B) ≡ figuredBy base G a D B
+  unfolding figuredBy opening
+  by-tests x y z p q r = rw (p, q, r)
+
+  last-row : lastRow (ecc (chart G) a) (searchLeaves 4 G a (B .searched)) ≡ lastRow e (B .searched)
+  last-row = ap₂ lastRow (sym (I .depth)) (sym (I .stands))
+
+  -- the marks of a join, as those of the network's eccentricity
+  marks-are : (m m₀ : Marked) → m ≡ markOnce base a e m₀ → m ≡ markOnce base a (ecc (chart G) a) m₀
+  marks-are m m₀ h = h ∙ ap (λ (x : ℕ). markOnce base a x m₀) (I .depth)
+
+  -- e(a) > D: GREW
+  pub grew-is : D < e → (count : ℕ) (p : List ℕ) (n : ℕ) (m : Marked)
+      → joined (tally p n) m ≡ joinOf base a e D (tables [] (B .searched .even) (B .searched .odd)) (joined (tally (B .pairs) count) (marking (B .bounds) (B .skips)))
+      → figured Grew (ran (lent p (B .searched) (m .bounds) (m .skips)) e n 1) ≡ figuredBy base G a D B
+  unfolding joinOf changeAs openCase settleOf
+  grew-is l count p n m h =
+      ap (λ (x : ℕ). figured Grew (ran (lent p (B .searched) (m .bounds) (m .skips)) x n 1)) (I .depth)
+      ∙ ap (figured Grew) (once-leaves base G a (I .present) (ecc (chart G) a) (ownPairs (chart G) a (ecc (chart G) a)) B p n m own (marks-are m (marking (B .bounds) (B .skips)) (ap (λ (J : Joined). J .marked) h)) (I .stands))
+      ∙ by-tests true (eqb (ecc (chart G) a) D) (anyPair (chart G .depots) Left) (lt-ltb D (ecc (chart G) a) (subst (λ (x : ℕ). D < x) (I .depth) l)) refl refl
+    where
+      settled : settleOf 4 (lastRow e (B .searched)) a e D (tally (B .pairs) count) ≡ tallyOf 4 (pairsWith 4 (lastRow e (B .searched)) a) (B .pairs)
+      settled = rw (lt-ltb D e l)
+
+      own : tally p n ≡ tallyOf 4 (ownPairs (chart G) a (ecc (chart G) a)) (B .pairs)
+      own =
+          ap (λ (J : Joined). J .paired) h ∙ settled
+          ∙ ap (λ (r : List ℕ). tallyOf 4 (pairsWith 4 r a) (B .pairs)) (sym last-row)
+          ∙ tally-ext 4 (pairsWith 4 (lastRow (ecc (chart G) a) (searchLeaves 4 G a (B .searched))) a) (ownPairs (chart G) a (ecc (chart G) a)) (B .pairs) (own-pairs 4 G (I .net) limit-is a (I .present) (B .searched))
+
+  -- ---- the stale pairs are gone
+
+  module _ (ends : (u v : ℕ) → T (tableBit 4 (B .pairs) u v) → T (networkOf 4 codes links .isOpen u) × T (networkOf 4 codes links .isOpen v)) (low : e ≤ D) (t : List ℕ) (k w : ℕ) (drops : dropped (tally t k) w ≡ dropOf 4 (B .searched .hops) D (B .pairs)) where
+    drops-by : dropped (tally t k) w ≡ dropOf 4 (searchLeaves 4 G a (B .searched) .hops) D (B .pairs)
+    drops-by = drops ∙ ap (λ (T : Tables). dropOf 4 (T .hops) D (B .pairs)) (I .stands)
+
+    tally-left : tally t k ≡ tallyOf 4 Left (B .pairs)
+    tally-left = left-is 4 G (I .net) limit-is a (B .searched) D (B .pairs) ends drops-by
+
+    table-left : t ≡ overwrite (encodeTable 4 Left) (B .pairs)
+    unfolding tallyOf
+    table-left = ap (λ (x : Tally). x .pairs) tally-left
+
+    not-above : ltb D (ecc (chart G) a) ≡ false
+    not-above = le-ltb D (ecc (chart G) a) (subst (λ (x : ℕ). x ≤ D) (I .depth) low)
+
+    -- e(a) = D: KEPT, with a's own pairs
+    pub equal-is : e ≡ D → (p : List ℕ) (n : ℕ) (m : Marked)
+        → joined (tally p n) m ≡ joinOf base a e D (tables [] (B .searched .even) (B .searched .odd)) (joined (tally t k) (marking (B .bounds) (B .skips)))
+        → figured Kept (ran (lent p (B .searched) (m .bounds) (m .skips)) D n 1) ≡ figuredBy base G a D B
+    unfolding joinOf changeAs openCase tallyOf
+    equal-is q p n m h =
+        ap (figured Kept) (once-leaves base G a (I .present) D (λ u v. Left u v || ownPairs (chart G) a D u v) B p n m both (marks-are m (marking (B .bounds) (B .skips)) (ap (λ (J : Joined). J .marked) h)) (I .stands))
+        ∙ by-tests false true (anyPair (chart G .depots) Left) not-above (eq-eqb (ecc (chart G) a) D (sym (I .depth) ∙ q)) refl
+      where
+        both : tally p n ≡ tallyOf 4 (λ u v. Left u v || ownPairs (chart G) a D u v) (B .pairs)
+        both =
+            ap (λ (J : Joined). J .paired) h
+            ∙ ap₂ (λ (r : List ℕ) (x : ℕ). settleOf 4 r a x D (tally t k)) (sym last-row) (I .depth)
+            ∙ settle-is 4 G (I .net) limit-is a (I .present) (B .searched) D Left t (B .pairs) k table-left (ap (λ (x : Tally). x .count) tally-left)
+            ∙ tally-ext 4 (joinPairs (chart G) a (ecc (chart G) a) D Left) (λ u v. Left u v || ownPairs (chart G) a D u v) (B .pairs)
+            (λ u v lu lv. ap (λ (x : ℕ). joinPairs (chart G) a x D Left u v) (sym (I .depth) ∙ q) ∙ join-same G (I .net) a (I .present) D Left u v)
+
+    -- e(a) < D, and a pair is left: KEPT
+    pub kept-is : (e ≡ D → ⊥) → (k ≡ 0 → ⊥) → (m : Marked) → m ≡ markOnce base a e (marking (B .bounds) (B .skips))
+        → figured Kept (ran (lent t (B .searched) (m .bounds) (m .skips)) D k 1) ≡ figuredBy base G a D B
+    unfolding changeAs openCase
+    kept-is ne some m h =
+        ap (figured Kept) (once-leaves base G a (I .present) D Left B t k m tally-left (marks-are m (marking (B .bounds) (B .skips)) h) (I .stands))
+        ∙ by-tests false false true not-above (ne-eqb (ecc (chart G) a) D (λ q. ne (I .depth ∙ q))) (some-left 4 G (I .net) limit-is a (B .searched) D (B .pairs) ends drops-by some)
+
+    -- no pair is left: SHRANK
+    pub shrank-is : (e ≡ D → ⊥) → k ≡ 0 → (R : Ran)
+        → R ≡ ranBy base G (rounds (chart G) (length (chart G .depots)) (round (chart G) a (start w))) (lent t (B .searched) (B .bounds) (B .skips))
+        → figured Shrank R ≡ figuredBy base G a D B
+    unfolding changeAs openCase ranBy roundsLeave
+    shrank-is ne z R h =
+        ap (figured Shrank) (h ∙ over (rounds (chart G) (length (chart G .depots)) (round (chart G) a (start w)))
+        ∙ ap (λ (c : ℕ). ranBy base G (rounds (chart G) (length (chart G .depots)) (round (chart G) a (start c))) B) (candidate-is 4 G (I .net) limit-is a (B .searched) D (B .pairs) ends drops-by))
+        ∙ by-tests false false false not-above (ne-eqb (ecc (chart G) a) D (λ q. ne (I .depth ∙ q))) (none-left 4 G (I .net) limit-is a (B .searched) D (B .pairs) ends drops-by z)
+      where
+        over : (S : State) → ranBy base G S (lent t (B .searched) (B .bounds) (B .skips)) ≡ ranBy base G S B
+        over S =
+            ap (λ (l : List ℕ). ran (lent l (roundsLeave base G S B .searched) (roundsLeave base G S B .bounds) (roundsLeave base G S B .skips)) (ranBy base G S B .chain) (ranBy base G S B .count) (ranBy base G S B .searches))
+            (ap (overwrite (encodeTable 4 (S .pairs))) table-left ∙ table-over 4 (S .pairs) Left (B .pairs))

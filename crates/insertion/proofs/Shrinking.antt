@@ -1,0 +1,146 @@
+-- The chain shrank: rounds whose first reference is the finished search from the new depot. Assumes nothing.
+use mathlib.Core.Path.{_≡_, refl, sym, ap, ap₂, _∙_, subst}
+use mathlib.Core.Bool.{Bool, true, false, _||_}
+use mathlib.Core.List.{List}
+use mathlib.Core.Option.{Option, none, some}
+use Prim.Native.Nat.{ℕ, zero, suc, _*_, _≤_, _<_}
+use lib.Dec.{eqb, ltb}
+use lib.ListN.{length}
+use Rattle.lists.specs.Lists.{lastOr, memb, anyb}
+use Rattle.graph.specs.Network.{Network}
+use Rattle.graph.specs.Distance.{unreached}
+use Rattle.graph.specs.Chart.{chart, ecc, Pairs, ownPairs}
+use Rattle.graph.specs.Rounds.{State, round, rounds, pick, remaining, orStop, start}
+use Rattle.graph.specs.Opening.{opening, openCase, searchedOnce, stayingPairs, shrunkCandidate, anyPair}
+use Rattle.graph.proofs.Charts.{depot-in}
+use Rattle.rows.specs.Rows.{tableBit}
+use Rattle.layers.specs.Layers.{Tables, searchLeaves}
+use Rattle.map.specs.Memory.{Shape, base, networkOf}
+use Rattle.pairs.specs.Pairs.{Tally, tally, tallyOf, Counted}
+use Rattle.pairs.proofs.Tallies.{holds-counted}
+use Rattle.bounds.specs.Bounds.{Marks, marks}
+use Rattle.rounds.specs.Leaves.{Lent, lent, ran, ranBy, roundsLeave, searchAfter}
+use Rattle.rounds.specs.Workspace.{Workspace, workspace, Absorbed, absorbed, absorbing, absorbOf, runOf, Begun, begun, beginOf}
+use Rattle.rounds.proofs.Holding.{Origin, Holds, leaves-over, after-snoc}
+use Rattle.rounds.proofs.Simulation.{Running, running-round, absorb}
+use Rattle.rounds.proofs.Finish.{start-holds, start-running, run-leaves, run-figures, count-no-pairs}
+use Rattle.rounds.proofs.Turns.{settle-counted}
+use Rattle.insertion.specs.Figured.{figured, figuredBy, changeAs}
+use Rattle.insertion.specs.Steps.{IsSearched}
+use Rattle.map.proofs.Theorems.{base-shape}
+
+-- ---- the pairs are counted at each call
+
+pub begun-counted : (W other : ℕ) (codes : List ℕ) (B : Begun) (p : List ℕ) (m : Marks) → 0 < W → W < 513 → W * (64 * W) ≤ length (B .pairs)
+    → begun p m ≡ beginOf W other codes B → Counted W p 0
+unfolding beginOf tallyOf
+begun-counted W other codes B p m pos most l e =
+    holds-counted {P = λ u v. false} (record { is = ap₂ tally (ap (λ (X : Begun). X .pairs) e) (sym (count-no-pairs (64 * W))) }) pos most l
+
+pub absorbed-counted : (W mark r e : ℕ) (T : Tables) (A : Absorbed) (p : List ℕ) (n : ℕ) (m : Marks) (c : ℕ) → Counted W (A .paired .pairs) (A .paired .count)
+    → absorbed (tally p n) m c ≡ absorbing W mark r e T A → Counted W p n
+unfolding absorbing
+absorbed-counted W mark r e T A p n m c k h =
+    settle-counted W _ r e (A .candidate) (A .paired .pairs) p (A .paired .count) n k (ap (λ (X : Absorbed). X .paired) h)
+
+-- ---- the rounds
+
+module _ (codes links : List ℕ) (B : Lent) (a e way : ℕ) (row : List ℕ) (I : IsSearched base codes links B a e) (low : way ≤ unreached) where
+  abbrev G : Network
+  G = networkOf 4 codes links
+
+  abbrev S₁ : State
+  S₁ = round (chart (networkOf 4 codes links)) a (start way)
+
+  abbrev O : Origin
+  O = record { searched = B .searched; pairs = B .pairs; bounds = B .bounds; skips = B .skips; waiting = row }
+
+  fresh : memb a (start way .references) ≡ false
+  unfolding start memb anyb
+  fresh = refl
+
+  running : Running 4 256 257 (base-shape .most) codes links (I .net) S₁
+  running =
+      running-round 4 256 257 (base-shape .most) codes links (I .net) (start way) a (start-running base base-shape codes links (I .net) way low)
+      (depot-in G (I .net) a (I .present)) fresh
+
+  module _ (p b s w : List ℕ) (begins : begun p (marks b s w) ≡ beginOf 4 257 codes (begun (B .pairs) (marks (B .bounds) (B .skips) row))) where
+    abbrev M : Workspace
+    M = workspace (B .searched) (tally p 0) (marks b s w) way 0
+
+    begun-holds : Holds 4 256 257 G O (start way) M
+    unfolding beginOf
+    begun-holds =
+        start-holds base base-shape codes links (I .net) way O p b s w
+        (ap (λ (X : Begun). X .pairs) begins) (ap (λ (X : Begun). X .marked .bounds) begins) (ap (λ (X : Begun). X .marked .skips) begins) (ap (λ (X : Begun). X .marked .waiting) begins)
+
+    module _ (t : Tally) (m : Marks) (c : ℕ) (takes : absorbed t m c ≡ absorbing 4 256 a e (B .searched) (absorbed (tally p 0) (marks b s w) way)) where
+      taken-in : absorbOf 4 256 a (ecc (chart G) a) (searchLeaves 4 G a (B .searched)) M ≡ workspace (B .searched) t m c 1
+      unfolding absorbOf
+      taken-in =
+          ap₂ (λ (x : ℕ) (T : Tables). absorbOf 4 256 a x T M) (sym (I .depth)) (sym (I .stands))
+          ∙ ap (λ (A : Absorbed). workspace (B .searched) (A .paired) (A .marked) (A .candidate) 1) (sym takes)
+
+      first-holds : Holds 4 256 257 G O S₁ (workspace (B .searched) t m c 1)
+      first-holds =
+          subst (Holds 4 256 257 G O S₁) taken-in
+          (absorb 4 256 257 (base-shape .most) codes links (I .net) O (start way) M begun-holds (start-running base base-shape codes links (I .net) way low) a (depot-in G (I .net) a (I .present)) fresh)
+
+      -- WHAT THE THREE CALLS LEAVE: the network's rounds after the one from a
+      pub shrink-is : (T : Tables) (t′ : Tally) (m′ : Marks) (c′ n : ℕ) → workspace T t′ m′ c′ n ≡ runOf 4 links 256 256 (workspace (B .searched) t m c 1)
+          → ran (lent (t′ .pairs) T (m′ .bounds) (m′ .skips)) c′ (t′ .count) n ≡ ranBy base G (rounds (chart G) (length (chart G .depots)) S₁) B
+      unfolding ranBy
+      shrink-is T t′ m′ c′ n q =
+          let f = run-figures base base-shape codes links (I .net) S₁ running O (workspace (B .searched) t m c 1) (workspace T t′ m′ c′ n) first-holds q in
+          let g = run-leaves base base-shape codes links (I .net) S₁ running O (workspace (B .searched) t m c 1) (workspace T t′ m′ c′ n) first-holds q in
+          ap₂ (λ (X : Lent) (x : ℕ). ran X x (t′ .count) n) g (f .0)
+          ∙ ap₂ (λ (x y : ℕ). ran (roundsLeave base G (rounds (chart G) (length (chart G .depots)) S₁) B) (rounds (chart G) (length (chart G .depots)) S₁ .candidate) x y) (f .1) (f .2)
+
+-- ---- over tables that held another search
+
+-- after a round the tables hold its search, whatever stood there
+round-over : (W : ℕ) (G : Network) (a r : ℕ) (S : State) (T : Tables)
+    → searchAfter W G (round (chart G) r S .references) (searchLeaves W G a T) ≡ searchAfter W G (round (chart G) r S .references) T
+unfolding round
+round-over W G a r S T = sym (after-snoc W G (S .references) r (searchLeaves W G a T)) ∙ leaves-over W G a r T ∙ after-snoc W G (S .references) r T
+
+rounds-over : (W : ℕ) (G : Network) (a : ℕ) (T : Tables) (k r : ℕ) (S : State)
+    → searchAfter W G (rounds (chart G) k (round (chart G) r S) .references) (searchLeaves W G a T) ≡ searchAfter W G (rounds (chart G) k (round (chart G) r S) .references) T
+unfolding rounds
+rounds-over W G a T zero r S = round-over W G a r S T
+rounds-over W G a T (suc k) r S = go (pick (chart G) (remaining (chart G) (round (chart G) r S))) (λ x. rounds-over W G a T k x (round (chart G) r S))
+  where
+    go : (o : Option ℕ)
+        → ((x : ℕ) → searchAfter W G (rounds (chart G) k (round (chart G) x (round (chart G) r S)) .references) (searchLeaves W G a T) ≡ searchAfter W G (rounds (chart G) k (round (chart G) x (round (chart G) r S)) .references) T)
+        → searchAfter W G (orStop o (round (chart G) r S) (λ x. rounds (chart G) k (round (chart G) x (round (chart G) r S))) .references) (searchLeaves W G a T)
+        ≡ searchAfter W G (orStop o (round (chart G) r S) (λ x. rounds (chart G) k (round (chart G) x (round (chart G) r S))) .references) T
+    go none ih = round-over W G a r S T
+    go (some x) ih = ih x
+
+-- so a call that searched from a first answers by the tables before that search
+module _ (K : Shape) (G : Network) (a : ℕ) (T : Tables) (p b s : List ℕ) where
+  ran-over : (S : State) → searchAfter (K .words) G (S .references) (searchLeaves (K .words) G a T) ≡ searchAfter (K .words) G (S .references) T
+      → ranBy K G S (lent p (searchLeaves (K .words) G a T) b s) ≡ ranBy K G S (lent p T b s)
+  unfolding ranBy roundsLeave
+  ran-over S h = rw h
+
+  once-over : (c : ℕ) (Q : Pairs) → searchAfter (K .words) G (searchedOnce (chart G) a c Q .references) (searchLeaves (K .words) G a T) ≡ searchAfter (K .words) G (searchedOnce (chart G) a c Q .references) T
+  unfolding searchedOnce searchAfter lastOr
+  once-over c Q = leaves-over (K .words) G a a T
+
+  case-over : (x y z : Bool) (D : ℕ) (P : Pairs)
+      → ranBy K G (openCase x y z (chart G) a D P .final) (lent p (searchLeaves (K .words) G a T) b s) ≡ ranBy K G (openCase x y z (chart G) a D P .final) (lent p T b s)
+  unfolding openCase
+  case-over true y z D P = ran-over (searchedOnce (chart G) a (ecc (chart G) a) (ownPairs (chart G) a (ecc (chart G) a))) (once-over (ecc (chart G) a) (ownPairs (chart G) a (ecc (chart G) a)))
+  case-over false true z D P =
+      ran-over (searchedOnce (chart G) a D (λ u v. stayingPairs (chart G) a D P u v || ownPairs (chart G) a D u v)) (once-over D (λ u v. stayingPairs (chart G) a D P u v || ownPairs (chart G) a D u v))
+  case-over false false true D P = ran-over (searchedOnce (chart G) a D (stayingPairs (chart G) a D P)) (once-over D (stayingPairs (chart G) a D P))
+  case-over false false false D P =
+      ran-over (rounds (chart G) (length (chart G .depots)) (round (chart G) a (start (shrunkCandidate (chart G) a D P))))
+      (rounds-over (K .words) G a T (length (chart G .depots)) a (start (shrunkCandidate (chart G) a D P)))
+
+  pub figured-over : (D : ℕ) → figuredBy K G a D (lent p (searchLeaves (K .words) G a T) b s) ≡ figuredBy K G a D (lent p T b s)
+  unfolding figuredBy opening
+  figured-over D =
+      ap (figured (changeAs (opening (chart G) a D (tableBit (K .words) p) .change)))
+      (case-over (ltb D (ecc (chart G) a)) (eqb (ecc (chart G) a) D) (anyPair (chart G .depots) (stayingPairs (chart G) a D (tableBit (K .words) p))) D (tableBit (K .words) p))

@@ -1,0 +1,20 @@
+-- `insertion::join` meets its contract: its two calls are the two parts of the definition.
+-- Assumes nothing.
+use Rattle.insertion.proofs.Once.{join-is}
+use borrow.Author.Needs.{needs}
+use Rattle.insertion.proofs.join.Statement.{statement}
+use Rattle.insertion.proofs.join.Tie as tie
+
+returns : tie.Need-returns
+returns c = search join-is
+
+pub join-spec : {M : Type 1} → statement M
+join-spec =
+    tie.close
+    (tie.spec
+    (λ c. search needs)  -- settle-own-requires
+    (λ c. search needs)  -- mark-once-requires
+    (λ c. search needs)  -- same-length
+    (λ c. search needs)  -- same-length-2
+    (λ c. search needs)  -- same-length-3
+    returns)

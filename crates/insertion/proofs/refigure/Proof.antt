@@ -1,0 +1,70 @@
+-- `insertion::refigure` meets its contract: the search is the network's; an eccentricity above the chain is the case grew, any other is `settle_low`.
+-- Assumes nothing.
+use Rattle.insertion.proofs.Cases.{search-stands, figured-first, whole-first, grew-is}
+use borrow.Author.Needs.{needs}
+use Rattle.insertion.proofs.refigure.Statement.{statement}
+use Rattle.insertion.proofs.refigure.Tie as tie
+
+-- the way back, from each call to the one before it
+abbrev before-settle-low : tie.After-settle-low → tie.After-search-once
+before-settle-low c = search
+
+abbrev before-join : tie.After-join → tie.After-search-once
+before-join c = search
+
+abbrev before-search-once : tie.After-search-once → tie.Start
+before-search-once c = search
+
+ruleset back = (before-settle-low, before-join, before-search-once)
+
+returns : tie.Need-returns
+returns c =
+    let after-join : tie.After-join = search back in
+    let then1 : tie.Then1 = search back in
+    let after-search-once : tie.After-search-once = search back in
+    let start : tie.Start = search back in
+    let pre = start .pre in
+    let stands = search-stands _ _ _ _ _ _ _ _ _ (pre .0 .net) (pre .0 .present) (after-search-once .search-once .ensures) in
+    figured-first _ _ _ _ _ _ _ _ _ _ _ (pre .0 .net) (pre .0 .present) (after-search-once .search-once .ensures)
+    (grew-is _ _ _ _ _ _ stands (then1 .if1 .taken) _ _ _ _ (after-join .join .ensures))
+
+settle-low-requires : tie.Need-settle-low-requires
+settle-low-requires c κs =
+    let after-search-once : tie.After-search-once = search back in
+    let start : tie.Start = search back in
+    let pre = start .pre in (
+      search (whole-first, needs),
+      search needs,
+      search-stands _ _ _ _ _ _ _ _ _ (pre .0 .net) (pre .0 .present) (after-search-once .search-once .ensures),
+      search needs,
+      search needs,
+    )
+
+returns-2 : tie.Need-returns-2
+returns-2 c =
+    let after-settle-low : tie.After-settle-low = search back in
+    let after-search-once : tie.After-search-once = search back in
+    let start : tie.Start = search back in
+    search (figured-first, needs)
+
+pub refigure-spec : {M : Type 1} → statement M
+refigure-spec =
+    tie.close
+    (tie.spec
+    (λ c. search needs)  -- search-once-requires
+    (λ c. search needs)  -- join-requires
+    (λ c. search needs)  -- same-length
+    (λ c. search needs)  -- same-length-2
+    (λ c. search needs)  -- same-length-3
+    (λ c. search needs)  -- same-length-4
+    (λ c. search needs)  -- same-length-5
+    (λ c. search needs)  -- same-length-6
+    returns
+    settle-low-requires
+    (λ c. search needs)  -- same-length-7
+    (λ c. search needs)  -- same-length-8
+    (λ c. search needs)  -- same-length-9
+    (λ c. search needs)  -- same-length-10
+    (λ c. search needs)  -- same-length-11
+    (λ c. search needs)  -- same-length-12
+    returns-2)

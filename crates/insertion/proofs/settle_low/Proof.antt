@@ -1,0 +1,110 @@
+-- `insertion::settle_low` meets its contract: each end is one of the network's opening, by the tests before it.
+-- Assumes nothing.
+use native.Mathlib.Omega.{arith}
+use Rattle.stale_pairs.proofs.Theorems.{drop-counted}
+use Rattle.insertion.proofs.Cases.{equal-is, kept-is, shrank-is}
+use borrow.Author.Needs.{needs}
+use Rattle.insertion.proofs.settle_low.Statement.{statement}
+use Rattle.insertion.proofs.settle_low.Tie as tie
+
+-- the way back, from each call to the one before it
+abbrev before-shrink : tie.After-shrink → tie.After-drop-stale
+before-shrink c = search
+
+abbrev before-join : tie.After-join → tie.After-drop-stale
+before-join c = search
+
+abbrev before-mark-once : tie.After-mark-once → tie.After-drop-stale
+before-mark-once c = search
+
+abbrev before-drop-stale : tie.After-drop-stale → tie.Start
+before-drop-stale c = search
+
+ruleset back = (before-shrink, before-join, before-mark-once, before-drop-stale)
+
+join-requires : tie.Need-join-requires
+join-requires c κs = (
+  search (drop-counted, needs),
+  search needs,
+  search needs,
+  search needs,
+  search needs,
+  search needs,
+)
+
+returns : tie.Need-returns
+returns c =
+    let after-join : tie.After-join = search back in
+    let then1 : tie.Then1 = search back in
+    let after-drop-stale : tie.After-drop-stale = search back in
+    let start : tie.Start = search back in
+    let pre = start .pre in
+    equal-is _ _ _ _ _ _ (pre .2) (pre .1 .ends) (pre .4) _ _ _ (after-drop-stale .drop-stale .ensures) (then1 .if1 .taken) _ _ _
+    (after-join .join .ensures)
+
+returns-2 : tie.Need-returns-2
+returns-2 c =
+    let after-mark-once : tie.After-mark-once = search back in
+    let then2 : tie.Then2 = search back in
+    let else1 : tie.Else1 = search back in
+    let after-drop-stale : tie.After-drop-stale = search back in
+    let start : tie.Start = search back in
+    let pre = start .pre in
+    kept-is _ _ _ _ _ _ (pre .2) (pre .1 .ends) (pre .4) _ _ _ (after-drop-stale .drop-stale .ensures) (else1 .if1 .left)
+    (then2 .if2 .taken) _ (after-mark-once .mark-once .ensures)
+
+shrink-requires : tie.Need-shrink-requires
+shrink-requires c κs =
+    let after-drop-stale : tie.After-drop-stale = search back in
+    let start : tie.Start = search back in
+    let pre = start .pre in (
+      record {
+        table = pre .0 .table;
+        pairTable = omega (arith, pre .0 .pairTable, after-drop-stale .drop-stale .kept .0);
+        hopPlaces = pre .0 .hopPlaces;
+        evenRow = pre .0 .evenRow;
+        oddRow = pre .0 .oddRow;
+        boundPlaces = pre .0 .boundPlaces;
+        skipPlaces = pre .0 .skipPlaces;
+        codeRow = pre .0 .codeRow;
+      },
+      record { net = pre .2 .net; present = pre .2 .present; depth = pre .2 .depth; stands = pre .2 .stands },
+      pre .3,
+    )
+
+returns-3 : tie.Need-returns-3
+returns-3 c =
+    let after-shrink : tie.After-shrink = search back in
+    let else2 : tie.Else2 = search back in
+    let else1 : tie.Else1 = search back in
+    let after-drop-stale : tie.After-drop-stale = search back in
+    let start : tie.Start = search back in
+    search (shrank-is, needs)
+
+pub settle-low-spec : {M : Type 1} → statement M
+settle-low-spec =
+    tie.close
+    (tie.spec
+    (λ c. search needs)  -- drop-stale-requires
+    join-requires
+    (λ c. search needs)  -- same-length
+    (λ c. search needs)  -- same-length-2
+    (λ c. search needs)  -- same-length-3
+    (λ c. search needs)  -- same-length-4
+    (λ c. search needs)  -- same-length-5
+    (λ c. search needs)  -- same-length-6
+    returns
+    (λ c. search needs)  -- mark-once-requires
+    (λ c. search needs)  -- same-length-7
+    (λ c. search needs)  -- same-length-8
+    (λ c. search needs)  -- same-length-9
+    (λ c. search needs)  -- same-length-10
+    returns-2
+    shrink-requires
+    (λ c. search needs)  -- same-length-11
+    (λ c. search needs)  -- same-length-12
+    (λ c. search needs)  -- same-length-13
+    (λ c. search needs)  -- same-length-14
+    (λ c. search needs)  -- same-length-15
+    (λ c. search needs)  -- same-length-16
+    returns-3)

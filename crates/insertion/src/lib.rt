@@ -1,0 +1,283 @@
+ghost use mathlib.Core.List.{[]};
+ghost use mathlib.Core.Path.{_≡_};
+ghost use Prim.Native.Nat.{_<_, _≤_};
+ghost use lib.ListN.{length};
+ghost use Rattle.graph.specs.Chart.{chart};
+ghost use Rattle.graph.specs.Rounds.{round, rounds, start};
+ghost use Rattle.layers.specs.Layers.{tables, searched, searchTable};
+ghost use Rattle.map.specs.Memory.{base, networkOf};
+ghost use Rattle.pairs.specs.Pairs.{tally, settleOf, Counted};
+ghost use Rattle.rounds.specs.Leaves.{ran, ranBy};
+ghost use Rattle.layers.specs.Slices.{tablesBefore, tablesAfter};
+ghost use Rattle.rounds.specs.Slices.{lentAt, lentBefore, lentAfter};
+ghost use Rattle.rounds.specs.Workspace.{lastRow};
+ghost use Rattle.insertion.specs.Figured.{figured, figuredBy, IsFigurable};
+ghost use Rattle.bounds.specs.Once.{marking};
+ghost use Rattle.insertion.specs.Steps.{joined, joinOf, IsSearched, IsWhole, AreOpen};
+use outcome::Change;
+use rounds::Tally;
+
+// The figures after an opening: how the chain moved, chain, pair count, number of searches.
+pub struct Figures {
+    pub change: Change,
+    pub chain: u16,
+    pub count: u32,
+    pub searches: u16,
+}
+
+// ---- a call that searched from a alone
+
+// The pairs after it, whose last layer stands in the row of the eccentricity's parity.
+fn settle_own(
+    pairs: &mut [u64],
+    even: &[u64],
+    odd: &[u64],
+    a: usize,
+    e: u16,
+    chain: u16,
+    count: u32,
+) -> u32
+    requires { ⌜ Counted 4 (now pairs) count
+        × (4 ≤ length (now even))
+        × (4 ≤ length (now odd))
+        × (a < 256) ⌝ }
+    ensures { λ n.
+        let row = lastRow e (tables [] (now (even .entry)) (now (odd .entry))) in
+        ⌜ tally (now (pairs .exit)) n ≡ settleOf 4 row a e chain (tally (now (pairs .entry)) count) ⌝ }
+{
+    if e % 2 == 0 {
+        return pairs::settle(pairs, even, 4, a, e, chain, count);
+    }
+    pairs::settle(pairs, odd, 4, a, e, chain, count)
+}
+
+// Both, answering the number of pairs.
+fn join(
+    pairs: &mut [u64],
+    bounds: &mut [u16],
+    skips: &mut [u16],
+    even: &[u64],
+    odd: &[u64],
+    a: usize,
+    e: u16,
+    chain: u16,
+    count: u32,
+) -> u32
+    requires { ⌜ Counted 4 (now pairs) count
+        × (256 ≤ length (now bounds))
+        × (256 ≤ length (now skips))
+        × (4 ≤ length (now even))
+        × (4 ≤ length (now odd))
+        × (a < 256) ⌝ }
+    ensures { λ n.
+        let T = tables [] (now (even .entry)) (now (odd .entry)) in
+        let before = joined (tally (now (pairs .entry)) count) (marking (now (bounds .entry)) (now (skips .entry))) in
+        let after = joined (tally (now (pairs .exit)) n) (marking (now (bounds .exit)) (now (skips .exit))) in
+        ⌜ after ≡ joinOf base a e chain T before ⌝ }
+{
+    let sum = settle_own(pairs, even, odd, a, e, chain, count);
+    bounds::mark_once(bounds, skips, 4, a, e, 256, 257);
+    sum
+}
+
+// ---- the chain shrank
+
+// Rounds with the candidate way, whose first reference is the search from a that stands in the tables.
+fn shrink(
+    pairs: &mut [u64],
+    hops: &mut [u16],
+    bounds: &mut [u16],
+    skips: &mut [u16],
+    even: &mut [u64],
+    odd: &mut [u64],
+    codes: &[u64],
+    links: &[u64],
+    a: usize,
+    e: u16,
+    way: u16,
+) -> Tally
+    requires { let given = lentAt pairs hops bounds skips even odd in
+        ⌜ IsWhole base (now codes) (now links) given
+        × IsSearched base (now codes) (now links) given a e
+        × (a < 256) ⌝ }
+    ensures { λ t.
+        let before = lentBefore pairs hops bounds skips even odd in
+        let after = lentAfter pairs hops bounds skips even odd in
+        let G = networkOf 4 (now (codes .entry)) (now (links .entry)) in
+        let M = chart G in
+        ⌜ ran after (t .candidate) (t .count) (t .searches)
+        ≡ ranBy base G (rounds M (length (M .depots)) (round M a (start way))) before ⌝ }
+{
+    let mut ranks = [0u16; 256];
+    let mut seen = [0u64; 4];
+    let mut next = [0u64; 4];
+    rounds::begin(pairs, bounds, skips, &mut ranks, codes, links, 4, 257);
+    let first = rounds::absorb(
+        pairs,
+        bounds,
+        skips,
+        &mut ranks,
+        &*hops,
+        &*even,
+        &*odd,
+        4,
+        256,
+        a,
+        e,
+        way,
+        0,
+    );
+    let before = Tally {
+        candidate: first.candidate,
+        count: first.count,
+        searches: 1,
+    };
+    rounds::run_rounds(
+        hops,
+        even,
+        odd,
+        &mut seen,
+        &mut next,
+        pairs,
+        bounds,
+        skips,
+        &mut ranks,
+        links,
+        4,
+        256,
+        before,
+    )
+}
+
+// ---- the whole step
+
+// The search from a, on local memory for the codes seen and the next layer.
+fn search_once(hops: &mut [u16], even: &mut [u64], odd: &mut [u64], links: &[u64], a: usize) -> u16
+    requires { ⌜ (1024 ≤ length (now links))
+        × (256 ≤ length (now hops))
+        × (4 ≤ length (now even))
+        × (4 ≤ length (now odd))
+        × (a < 256) ⌝ }
+    ensures { λ r.
+        let before = tablesBefore hops even odd in
+        let after = tablesAfter hops even odd in
+        ⌜ searched r after ≡ searchTable 4 (now (links .entry)) a before ⌝ }
+{
+    let mut seen = [0u64; 4];
+    let mut next = [0u64; 4];
+    layers::search_table(hops, even, odd, &mut seen, &mut next, links, 4, a)
+}
+
+// The figures for an eccentricity e that is not above the chain, without the stale pairs.
+fn settle_low(
+    pairs: &mut [u64],
+    hops: &mut [u16],
+    bounds: &mut [u16],
+    skips: &mut [u16],
+    even: &mut [u64],
+    odd: &mut [u64],
+    codes: &[u64],
+    links: &[u64],
+    a: usize,
+    e: u16,
+    chain: u16,
+) -> Figures
+    requires { let given = lentAt pairs hops bounds skips even odd in
+        ⌜ IsWhole base (now codes) (now links) given
+        × AreOpen base (now codes) (now links) (now pairs)
+        × IsSearched base (now codes) (now links) given a e
+        × (a < 256)
+        × (e ≤ chain) ⌝ }
+    ensures { λ r.
+        let before = lentBefore pairs hops bounds skips even odd in
+        let after = lentAfter pairs hops bounds skips even odd in
+        let G = networkOf 4 (now (codes .entry)) (now (links .entry)) in
+        ⌜ figured (r .change) (ran after (r .chain) (r .count) (r .searches)) ≡ figuredBy base G a chain before ⌝ }
+{
+    let left = stale_pairs::drop_stale(pairs, &*hops, 4, chain);
+    if e == chain {
+        let sum = join(pairs, bounds, skips, &*even, &*odd, a, e, chain, left.count);
+        return Figures {
+            change: Change::Kept,
+            chain: chain,
+            count: sum,
+            searches: 1,
+        };
+    }
+    if left.count != 0 {
+        bounds::mark_once(bounds, skips, 4, a, e, 256, 257);
+        return Figures {
+            change: Change::Kept,
+            chain: chain,
+            count: left.count,
+            searches: 1,
+        };
+    }
+    let got = shrink(
+        pairs,
+        hops,
+        bounds,
+        skips,
+        even,
+        odd,
+        codes,
+        links,
+        a,
+        e,
+        left.way,
+    );
+    Figures {
+        change: Change::Shrank,
+        chain: got.candidate,
+        count: got.count,
+        searches: got.searches,
+    }
+}
+
+// The figures after a's links are in place, by the stored chain and the count of the stored pairs: the search from a, then the pairs, the
+// marks and, if the chain shrank, the rounds.
+pub fn refigure(
+    pairs: &mut [u64],
+    hops: &mut [u16],
+    bounds: &mut [u16],
+    skips: &mut [u16],
+    even: &mut [u64],
+    odd: &mut [u64],
+    codes: &[u64],
+    links: &[u64],
+    a: usize,
+    chain: u16,
+    count: u32,
+) -> Figures
+    requires { let given = lentAt pairs hops bounds skips even odd in
+        ⌜ IsFigurable base (now codes) (now links) given a chain count × (a < 256) ⌝ }
+    ensures { λ r.
+        let before = lentBefore pairs hops bounds skips even odd in
+        let after = lentAfter pairs hops bounds skips even odd in
+        let G = networkOf 4 (now (codes .entry)) (now (links .entry)) in
+        ⌜ figured (r .change) (ran after (r .chain) (r .count) (r .searches)) ≡ figuredBy base G a chain before ⌝ }
+{
+    let e = search_once(hops, even, odd, links, a);
+    if chain < e {
+        let own = join(pairs, bounds, skips, &*even, &*odd, a, e, chain, count);
+        return Figures {
+            change: Change::Grew,
+            chain: e,
+            count: own,
+            searches: 1,
+        };
+    }
+    settle_low(
+        pairs,
+        hops,
+        bounds,
+        skips,
+        even,
+        odd,
+        codes,
+        links,
+        a,
+        e,
+        chain,
+    )
+}
