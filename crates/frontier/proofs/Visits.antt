@@ -19,7 +19,8 @@ use Rattle.rows.specs.Rows.{rowBit, tableBit, encodeRow}
 use Rattle.rows.proofs.Written.{row-in}
 use Rattle.rows.proofs.Turns.{turn-none}
 use Rattle.frontier.specs.declared.Four.{Four}
-use Rattle.frontier.specs.Steps.{inWord, reaches, hopSet, linkWord, Reached, reached, reachSet, AreWords, noWords, putWord, visited, visitOf}
+use Rattle.rows.specs.Rows.{inWord}
+use Rattle.frontier.specs.Steps.{reaches, hopSet, linkWord, Reached, reached, reachSet, AreWords, noWords, putWord, visited, visitOf}
 use Rattle.frontier.proofs.Links.{or-false, side, side-ext, put-here, put-past, linkedTo, word-one, hop-ext, hop-one, hop-both, visit-ext, visit-none, visit-both, visit-fits}
 
 module _ (W : ℕ) (links : List ℕ) (k : ℕ) where

@@ -2,8 +2,8 @@
 -- Assumes nothing.
 use mathlib.Core.Bool.{Bool, cond, not, _&&_, _||_}
 use mathlib.Core.List.{List}
-use Prim.Native.Nat.{ℕ, _+_, _*_, _/_, _%_, _^_, _≤_, _<_}
-use lib.Dec.{eqb, ltb}
+use Prim.Native.Nat.{ℕ, _+_, _*_, _^_, _≤_, _<_}
+use lib.Dec.{ltb}
 use lib.ListN.{length, getD, set}
 use Rattle.lists.specs.Lists.{range, mapl, anyb, overwrite}
 use Rattle.words.specs.Bits.{bit, wordOf}
@@ -25,10 +25,6 @@ pub record Visited : Type 0 where
 
 abbrev pub visited : List ℕ → List ℕ → Visited
 visited n h = record { next = n; hops = h }
-
--- the members that x holds as word w of a row
-unfoldable pub inWord : ℕ → ℕ → ℕ → Bool
-inWord w x u = eqb (u / 64) w && bit x (u % 64)
 
 -- the hop table after a visit of the members of a set: each gets the hop k
 unfoldable pub hopSet : ℕ → ℕ → (ℕ → Bool) → List ℕ → List ℕ

@@ -5,7 +5,8 @@ ghost use Prim.Native.Nat.{_+_, _*_, _<_, _≤_};
 ghost use lib.ListN.{length};
 ghost use Rattle.words.specs.Bits.{bit, wordOf};
 ghost use Rattle.rows.specs.Rows.{rowBit, tableBit};
-ghost use Rattle.frontier.specs.Steps.{Room, AreWords, inWord, noWords, reached, reachSet, putWord, visited, visitOf};
+ghost use Rattle.frontier.specs.Steps.{Room, AreWords, noWords, reached, reachSet, putWord, visited, visitOf};
+ghost use Rattle.rows.specs.Rows.{inWord};
 ghost use Rattle.frontier.specs.Steps.{unseen, unseenOf, passed, passOn, stepped, stepOf};
 
 // Four words side by side. They are passed by value, so that a walk keeps them in registers whatever tables lie beside them.

@@ -69,7 +69,7 @@ module _ (C : Chart) (metric : IsMetric C) where
 
   -- ---- the whole reckoning
 
-  reckon-settled : Invariant C metric unreached (reckon C) × (waitingCount C metric (reckon C) ≡ 0)
+  pub reckon-settled : Invariant C metric unreached (reckon C) × (waitingCount C metric (reckon C) ≡ 0)
   unfolding reckon waitingCount
   reckon-settled =
       rounds-right C metric unreached most (le-refl unreached) (length (C .depots)) (start 0)

@@ -2,10 +2,10 @@
 use mathlib.Core.Path.{_≡_, refl, sym, ap, ap₂, _∙_}
 use mathlib.Core.Logic.{_⊎_, inl, inr}
 use mathlib.Core.Bool.{Bool, true, false, cond}
-use mathlib.Core.List.{List, []}
-use Prim.Native.Nat.{ℕ, _%_}
+use mathlib.Core.List.{List}
+use Prim.Native.Nat.{ℕ}
 use lib.Dec.{T, eqb}
-use borrow.Author.Tests.{eqb-true, eq-eqb, ne-eqb}
+use borrow.Author.Tests.{eqb-true}
 use Rattle.lists.specs.Lists.{range, lastOr, overwrite}
 use Rattle.lists.proofs.Tests.{look, t→true}
 use Rattle.lists.proofs.Fills.{fill-ext}
@@ -15,7 +15,7 @@ use Rattle.graph.specs.Chart.{Pairs, chart, ecc, countPairs}
 use Rattle.graph.specs.Rounds.{waiting, searched, markOf, boundOf}
 use Rattle.graph.specs.Opening.{searchedOnce}
 use Rattle.rows.specs.Rows.{encodeTable}
-use Rattle.layers.specs.Layers.{Tables, tables, searchLeaves}
+use Rattle.layers.specs.Layers.{Tables, searchLeaves}
 use Rattle.map.specs.Memory.{Shape, places, base}
 use Rattle.pairs.specs.Pairs.{Tally, tally, tallyOf, settleOf}
 use Rattle.rounds.specs.Leaves.{Lent, lent, ran, ranBy, roundsLeave, searchAfter}
@@ -23,13 +23,7 @@ use Rattle.rounds.specs.Workspace.{lastRow}
 use Rattle.bounds.specs.Once.{Marked, marking, markOnce as marksOnce}
 use Rattle.insertion.specs.Steps.{markOnce, Joined, joined, joinOf}
 
--- ---- the last layer's row
-
-pub settle-even : (a e D : ℕ) (even odd : List ℕ) (t t′ : Tally) → e % 2 ≡ 0 → t′ ≡ settleOf 4 even a e D t → t′ ≡ settleOf 4 (lastRow e (tables [] even odd)) a e D t
-settle-even a e D even odd t t′ q h = rw (eq-eqb (e % 2) 0 q) h
-
-pub settle-odd : (a e D : ℕ) (even odd : List ℕ) (t t′ : Tally) → (e % 2 ≡ 0 → ⊥) → t′ ≡ settleOf 4 odd a e D t → t′ ≡ settleOf 4 (lastRow e (tables [] even odd)) a e D t
-settle-odd a e D even odd t t′ q h = rw (ne-eqb (e % 2) 0 q) h
+-- ---- pairs and marks
 
 pub join-is : (a e D : ℕ) (T : Tables) (J : Joined) (t : Tally) (m : Marked) → t ≡ settleOf 4 (lastRow e T) a e D (J .paired) → m ≡ markOnce base a e (J .marked)
     → joined t m ≡ joinOf base a e D T J

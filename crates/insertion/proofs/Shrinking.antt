@@ -3,7 +3,7 @@ use mathlib.Core.Path.{_≡_, refl, sym, ap, ap₂, _∙_, subst}
 use mathlib.Core.Bool.{Bool, true, false, _||_}
 use mathlib.Core.List.{List}
 use mathlib.Core.Option.{Option, none, some}
-use Prim.Native.Nat.{ℕ, zero, suc, _*_, _≤_, _<_}
+use Prim.Native.Nat.{ℕ, zero, suc, _≤_}
 use lib.Dec.{eqb, ltb}
 use lib.ListN.{length}
 use Rattle.lists.specs.Lists.{lastOr, memb, anyb}
@@ -16,26 +16,19 @@ use Rattle.graph.proofs.Charts.{depot-in}
 use Rattle.rows.specs.Rows.{tableBit}
 use Rattle.layers.specs.Layers.{Tables, searchLeaves}
 use Rattle.map.specs.Memory.{Shape, base, networkOf}
-use Rattle.pairs.specs.Pairs.{Tally, tally, tallyOf, Counted}
-use Rattle.pairs.proofs.Tallies.{holds-counted}
+use Rattle.pairs.specs.Pairs.{Tally, tally, Counted}
 use Rattle.bounds.specs.Bounds.{Marks, marks}
 use Rattle.rounds.specs.Leaves.{Lent, lent, ran, ranBy, roundsLeave, searchAfter}
 use Rattle.rounds.specs.Workspace.{Workspace, workspace, Absorbed, absorbed, absorbing, absorbOf, runOf, Begun, begun, beginOf}
 use Rattle.rounds.proofs.Holding.{Origin, Holds, leaves-over, after-snoc}
 use Rattle.rounds.proofs.Simulation.{Running, running-round, absorb}
-use Rattle.rounds.proofs.Finish.{start-holds, start-running, run-leaves, run-figures, count-no-pairs}
-use Rattle.rounds.proofs.Turns.{settle-counted}
+use Rattle.rounds.proofs.Finish.{start-holds, start-running, run-leaves, run-figures}
+use Rattle.pairs.proofs.Settling.{settle-counted}
 use Rattle.insertion.specs.Figured.{figured, figuredBy, changeAs}
 use Rattle.insertion.specs.Steps.{IsSearched}
 use Rattle.map.proofs.Theorems.{base-shape}
 
 -- ---- the pairs are counted at each call
-
-pub begun-counted : (W other : ℕ) (codes : List ℕ) (B : Begun) (p : List ℕ) (m : Marks) → 0 < W → W < 513 → W * (64 * W) ≤ length (B .pairs)
-    → begun p m ≡ beginOf W other codes B → Counted W p 0
-unfolding beginOf tallyOf
-begun-counted W other codes B p m pos most l e =
-    holds-counted {P = λ u v. false} (record { is = ap₂ tally (ap (λ (X : Begun). X .pairs) e) (sym (count-no-pairs (64 * W))) }) pos most l
 
 pub absorbed-counted : (W mark r e : ℕ) (T : Tables) (A : Absorbed) (p : List ℕ) (n : ℕ) (m : Marks) (c : ℕ) → Counted W (A .paired .pairs) (A .paired .count)
     → absorbed (tally p n) m c ≡ absorbing W mark r e T A → Counted W p n

@@ -6,11 +6,10 @@ ghost use Rattle.graph.specs.Chart.{chart};
 ghost use Rattle.graph.specs.Rounds.{round, rounds, start};
 ghost use Rattle.layers.specs.Layers.{tables, searched, searchTable};
 ghost use Rattle.map.specs.Memory.{base, networkOf};
-ghost use Rattle.pairs.specs.Pairs.{tally, settleOf, Counted};
+ghost use Rattle.pairs.specs.Pairs.{tally, Counted};
 ghost use Rattle.rounds.specs.Leaves.{ran, ranBy};
 ghost use Rattle.layers.specs.Slices.{tablesBefore, tablesAfter};
 ghost use Rattle.rounds.specs.Slices.{lentAt, lentBefore, lentAfter};
-ghost use Rattle.rounds.specs.Workspace.{lastRow};
 ghost use Rattle.insertion.specs.Figured.{figured, figuredBy, IsFigurable};
 ghost use Rattle.bounds.specs.Once.{marking};
 ghost use Rattle.insertion.specs.Steps.{joined, joinOf, IsSearched, IsWhole, AreOpen};
@@ -27,31 +26,7 @@ pub struct Figures {
 
 // ---- a call that searched from a alone
 
-// The pairs after it, whose last layer stands in the row of the eccentricity's parity.
-fn settle_own(
-    pairs: &mut [u64],
-    even: &[u64],
-    odd: &[u64],
-    a: usize,
-    e: u16,
-    chain: u16,
-    count: u32,
-) -> u32
-    requires { ⌜ Counted 4 (now pairs) count
-        × (4 ≤ length (now even))
-        × (4 ≤ length (now odd))
-        × (a < 256) ⌝ }
-    ensures { λ n.
-        let row = lastRow e (tables [] (now (even .entry)) (now (odd .entry))) in
-        ⌜ tally (now (pairs .exit)) n ≡ settleOf 4 row a e chain (tally (now (pairs .entry)) count) ⌝ }
-{
-    if e % 2 == 0 {
-        return pairs::settle(pairs, even, 4, a, e, chain, count);
-    }
-    pairs::settle(pairs, odd, 4, a, e, chain, count)
-}
-
-// Both, answering the number of pairs.
+// The pairs and marks after it, answering the number of pairs.
 fn join(
     pairs: &mut [u64],
     bounds: &mut [u16],
@@ -75,7 +50,7 @@ fn join(
         let after = joined (tally (now (pairs .exit)) n) (marking (now (bounds .exit)) (now (skips .exit))) in
         ⌜ after ≡ joinOf base a e chain T before ⌝ }
 {
-    let sum = settle_own(pairs, even, odd, a, e, chain, count);
+    let sum = rounds::settle_by(pairs, even, odd, 4, a, e, chain, count);
     bounds::mark_once(bounds, skips, 4, a, e, 256, 257);
     sum
 }

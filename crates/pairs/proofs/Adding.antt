@@ -16,7 +16,8 @@ use Rattle.words.proofs.Bits.{bit-wordOf, wordOf-lt, word-minus}
 use Rattle.graph.specs.Chart.{Pairs}
 use Rattle.rows.specs.Rows.{rowBit, tableBit}
 use Rattle.rows.proofs.Written.{row-in}
-use Rattle.pairs.specs.Pairs.{tally, tallyOf, pairsWith, inWord}
+use Rattle.pairs.specs.Pairs.{tally, tallyOf, pairsWith}
+use Rattle.rows.specs.Rows.{inWord}
 use Rattle.pairs.proofs.Tallies.{Holds, holds-table, holds-ext, tally-again}
 
 -- ---- the pairs of r with the members of any set

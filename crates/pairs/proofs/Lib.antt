@@ -8,5 +8,3 @@ pub mod WordPairs
 pub mod Adding
 -- What a search does to the pairs: r's own alone, r's own added, or nothing.
 pub mod Settling
--- What the callers keep: a counted table, and its pairs.
-pub mod Theorems

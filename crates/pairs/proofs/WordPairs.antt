@@ -24,7 +24,8 @@ use Rattle.graph.specs.Chart.{Pairs, countPairs}
 use Rattle.rows.specs.Rows.{tableBit}
 use Rattle.rows.proofs.Written.{table-word}
 use Rattle.rows.proofs.WordPuts.{put-word}
-use Rattle.pairs.specs.Pairs.{tally, tallyOf, inWord}
+use Rattle.pairs.specs.Pairs.{tally, tallyOf}
+use Rattle.rows.specs.Rows.{inWord}
 use Rattle.pairs.proofs.PairCounts.{pairs-with-part}
 use Rattle.pairs.proofs.Tallies.{Holds, holds-table, holds-count, holds-bit, holds-ext, tally-again}
 use Rattle.words.proofs.Lowest.{without-inside, without-here, without-other}

@@ -1,13 +1,12 @@
 -- A PAIR TABLE AND THE NUMBER OF ITS PAIRS, over lists of words, for any number of words per row: what the code's steps do to them.
 -- Assumes nothing.
 use mathlib.Core.Path.{_≡_}
-use mathlib.Core.Bool.{Bool, cond, not, _&&_, _||_}
+use mathlib.Core.Bool.{cond, not, _&&_, _||_}
 use mathlib.Core.List.{List}
-use Prim.Native.Nat.{ℕ, _*_, _/_, _%_, _≤_, _<_}
+use Prim.Native.Nat.{ℕ, _*_, _≤_, _<_}
 use lib.Dec.{eqb, ltb}
 use lib.ListN.{length}
 use Rattle.lists.specs.Lists.{range, overwrite}
-use Rattle.words.specs.Bits.{bit}
 use Rattle.graph.specs.Chart.{Pairs, countPairs}
 use Rattle.rows.specs.Rows.{rowBit, tableBit, encodeTable}
 
@@ -22,10 +21,6 @@ tally t n = record { pairs = t; count = n }
 -- the pairs of r with each member of the row `last`, as u < v
 unfoldable pub pairsWith : ℕ → List ℕ → ℕ → Pairs
 pairsWith W last r u v = ltb u v && ((eqb u r && rowBit W last v) || (eqb v r && rowBit W last u))
-
--- v is a member of x, which is word j of a row
-unfoldable pub inWord : ℕ → ℕ → ℕ → Bool
-inWord j x v = eqb (v / 64) j && bit x (v % 64)
 
 -- the table with the pairs P, and their number
 unfoldable pub tallyOf : ℕ → Pairs → List ℕ → Tally

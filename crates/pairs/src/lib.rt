@@ -7,7 +7,8 @@ ghost use lib.Dec.{eqb, ltb};
 ghost use lib.ListN.{length};
 ghost use Rattle.words.specs.Bits.{bit, wordOf};
 ghost use Rattle.rows.specs.Rows.{tableBit};
-ghost use Rattle.pairs.specs.Pairs.{Counted, tally, tallyOf, pairsWith, inWord, settleOf};
+ghost use Rattle.pairs.specs.Pairs.{Counted, tally, tallyOf, pairsWith, settleOf};
+ghost use Rattle.rows.specs.Rows.{inWord};
 
 // Puts the pair low < high into the table, and answers how many pairs it then has.
 fn put_pair(pairs: &mut [u64], words: usize, low: usize, high: usize, count: u32) -> u32

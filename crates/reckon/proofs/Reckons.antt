@@ -1,8 +1,8 @@
 -- The refusals of a reckoning, and what an accepted one leaves. Assumes nothing.
-use mathlib.Core.Path.{_≡_, refl, sym, ap, ap₂, _∙_}
+use mathlib.Core.Path.{_≡_, refl, ap, _∙_}
 use mathlib.Core.Bool.{true, false, not}
 use mathlib.Core.List.{List, []}
-use Prim.Native.Nat.{ℕ, zero, suc, _*_, _≤_, _<_}
+use Prim.Native.Nat.{ℕ, zero, suc, _*_, _<_}
 use native.Mathlib.Omega.{arith}
 use lib.ListN.{length}
 use borrow.Author.Tests.{not-false}
@@ -19,14 +19,13 @@ use Rattle.map.specs.Memory.{Shape, IsShape, networkOf}
 use Rattle.checks.specs.Sound.{soundLinks}
 use Rattle.map.specs.declared.Record.{Record}
 use Rattle.checks.proofs.Theorems.{sound-links-iff}
-use Rattle.pairs.specs.Pairs.{tally, tallyOf, Counted}
-use Rattle.pairs.proofs.Tallies.{holds-counted}
+use Rattle.pairs.specs.Pairs.{tally}
 use Rattle.bounds.specs.Bounds.{marks}
 use Rattle.rounds.specs.Leaves.{Lent, lent, Ran, ran, ranBy}
 use Rattle.rounds.specs.Sizes.{Sizes, sizes, sizesOf, longEnough}
 use Rattle.rounds.specs.Workspace.{Workspace, workspace, runOf, Begun, begun, beginOf}
 use Rattle.rounds.proofs.Holding.{Origin}
-use Rattle.rounds.proofs.Finish.{start-holds, start-running, run-leaves, run-figures, count-no-pairs}
+use Rattle.rounds.proofs.Finish.{start-holds, start-running, run-leaves, run-figures}
 use Rattle.reckon.specs.ReckonCall.{linkFaults, reckonRefusal, figuredBy, reckonLeft, reckonGiven, reckonCall}
 use Rattle.reckon.specs.declared.Reckoning.the-variants.{Searches, Refused}
 use Rattle.reckon.proofs.Longs.{AreLong, are-long}
@@ -76,15 +75,6 @@ module _ (K : Shape) (rec : Record) (links : List ℕ) (z : Sizes) where
 
 pub sound-by : (W : ℕ) (codes links : List ℕ) (number : ℕ) → soundLinks (networkOf W codes links) number ≡ true → IsSound (networkOf W codes links)
 sound-by W codes links number e = sound-links-iff W codes links number .0 e .isSound
-
--- ---- the start of the rounds has no pair
-
-pub begun-counted : (W other : ℕ) (codes : List ℕ) (B : Begun) (pairs bounds skips waiting : List ℕ) → 0 < W → W < 513 → W * (64 * W) ≤ length (B .pairs)
-    → begun pairs (marks bounds skips waiting) ≡ beginOf W other codes B → Counted W pairs 0
-unfolding beginOf tallyOf
-begun-counted W other codes B pairs bounds skips waiting p m l e =
-    let q : tally pairs 0 ≡ tallyOf W (λ u v. false) (B .pairs) = ap₂ tally (ap (λ (x : Begun). x .pairs) e) (sym (count-no-pairs (64 * W))) in
-    holds-counted {P = λ u v. false} {t₀ = B .pairs} (record { is = q }) p m l
 
 -- ---- the whole reckoning of a network, from the two calls
 

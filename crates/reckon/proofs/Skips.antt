@@ -2,23 +2,23 @@
 use mathlib.Core.Path.{_≡_, refl, sym, ap, _∙_, subst}
 use mathlib.Core.Bool.{Bool, true, false, cond, not}
 use mathlib.Core.List.{List, List·Memᴰ}
-use Prim.Native.Nat.{ℕ, _≤_, _<_, zero-le}
-use native.Mathlib.Nat.{le-refl, le-of-lt}
+use Prim.Native.Nat.{ℕ, _<_}
 use lib.Dec.{T}
-use lib.ListN.{length, getD}
+use lib.ListN.{getD}
 use borrow.Author.Tests.{not-true}
 use Rattle.lists.specs.Lists.{range, memb, mapl, overwrite}
 use Rattle.lists.proofs.Tests.{t→true, true→t, clash, not→false}
-use Rattle.lists.proofs.Counts.{count-le-length, count-zero}
+use Rattle.lists.proofs.Counts.{count-zero}
 use Rattle.lists.proofs.Fills.{fill-at}
 use Rattle.graph.specs.Network.{Network}
 use Rattle.graph.specs.Distance.{unreached}
 use Rattle.graph.specs.Chart.{Chart, chart, ecc}
-use Rattle.graph.specs.Rounds.{Status, waiting, skipped, searched, isWaiting, State, markOf, boundOf, start, reckon}
+use Rattle.graph.specs.Rounds.{Status, waiting, skipped, searched, isWaiting, State, markOf, boundOf, reckon}
 use Rattle.graph.specs.Correct.{IsNet}
-use Rattle.graph.proofs.Metric.{IsMetric, ecc-small}
-use Rattle.graph.proofs.Round.{Fine, Invariant}
-use Rattle.graph.proofs.Rounds.{waitingCount, rounds-right, start-fine}
+use Rattle.graph.proofs.Metric.{IsMetric}
+use Rattle.graph.proofs.Round.{Fine}
+use Rattle.graph.proofs.Rounds.{waitingCount}
+use Rattle.graph.proofs.Searched.{reckon-settled}
 use Rattle.graph.proofs.Charts.{depot-in, depot-out, chart-dist, chart-metric, chart-ecc}
 use Rattle.map.specs.Memory.{Shape, places, networkOf}
 use Rattle.map.proofs.Theorems.{network-open-below}
@@ -27,16 +27,9 @@ use Rattle.reckon.specs.Demand2.{IsSkipped}
 -- ---- the reckoning ends with nothing remaining
 
 module _ (C : Chart) (metric : IsMetric C) where
-  reckon-settled : Invariant C metric unreached (reckon C) × (waitingCount C metric (reckon C) ≡ 0)
-  unfolding reckon waitingCount
-  reckon-settled =
-      let most : (v : ℕ) → C .isDestination v ≡ true → ecc C v ≤ unreached = λ v t. le-of-lt (ecc-small C metric v (metric .inside v t)) in
-      rounds-right C metric unreached most (le-refl unreached) (length (C .depots)) (start 0)
-      (start-fine C metric unreached most (le-refl unreached) 0 zero-le) (count-le-length (λ v. isWaiting (start 0 .status v)) (C .depots))
-
   none-waits : (v : ℕ) → List·Memᴰ v (C .depots) → isWaiting (reckon C .status v) ≡ false
   unfolding waitingCount
-  none-waits v m = count-zero (λ v. isWaiting (reckon C .status v)) (C .depots) (reckon-settled .1) m
+  none-waits v m = count-zero (λ v. isWaiting (reckon C .status v)) (C .depots) (reckon-settled C metric .1) m
 
 -- ---- the tables
 

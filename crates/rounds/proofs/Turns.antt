@@ -1,30 +1,31 @@
 -- The code's functions, put together: one round, and the loop of rounds. Assumes nothing.
 use mathlib.Core.Path.{_≡_, refl, sym, ap, ap₂, _∙_, subst}
 use mathlib.Core.Logic.{_≢_, _⊎_, inl, inr}
-use mathlib.Core.Bool.{Bool, true, false, cond, not, _&&_, _||_}
+use mathlib.Core.Bool.{Bool, true, false, cond}
 use mathlib.Core.List.{List, []}
 use mathlib.Core.Option.{Option, none, some}
 use Prim.Native.Nat.{ℕ, zero, suc, _+_, _*_, _%_, _≤_, _<_}
 use native.Mathlib.Nat.{lt-irrefl}
 use native.Mathlib.Omega.{arith}
-use lib.Dec.{eqb, ltb}
+use lib.Dec.{ltb}
 use lib.ListN.{length}
 use borrow.Author.Tests.{eq-eqb, ne-eqb, lt-ltb, le-ltb}
 use Rattle.lists.specs.Lists.{range, filterb, mapl, countb, overwrite}
 use Rattle.lists.proofs.Tests.{look, clash, and-true, eq-or-ne}
 use Rattle.lists.proofs.Members.{length-range, filter-out, range-in, range-out}
 use Rattle.lists.proofs.Counts.{count-lt, count-le-length}
-use Rattle.graph.specs.Chart.{chart, Pairs}
+use Rattle.graph.specs.Chart.{chart}
 use Rattle.graph.proofs.Rounds.{pick-in}
-use Rattle.rows.specs.Rows.{rowBit, tableBit, encodeRow, putBit, InTable}
+use Rattle.rows.specs.Rows.{rowBit, encodeRow, putBit, InTable}
 use Rattle.rows.proofs.Written.{row-at, table-zero}
 use Rattle.rows.proofs.Puts.{put-here, put-rest}
 use Rattle.layers.specs.Layers.{tableNetwork, Tables, tables, Searched, searched, searchTable}
-use Rattle.pairs.specs.Pairs.{Tally, tally, tallyOf, pairsWith, settleOf, Counted}
+use Rattle.pairs.proofs.Settling.{settle-counted}
+use Rattle.pairs.specs.Pairs.{Tally, tally, tallyOf, settleOf, Counted}
 use Rattle.pairs.proofs.Tallies.{holds-counted}
 use Rattle.bounds.specs.Bounds.{Marks, marks, leaveOf, waitingAfter, relaxOf, pickIn}
 use Rattle.rounds.specs.Workspace.{Workspace, workspace, lastRow, Absorbed, absorbed, absorbing, absorbOf, roundOf, orEnd, runOf, Begun, begun, beginOf}
-use Rattle.rounds.proofs.Finish.{cleared-table}
+use Rattle.rounds.proofs.Finish.{cleared-table, count-no-pairs}
 
 -- ---- the leaves
 
@@ -64,17 +65,11 @@ begin-is W other codes B pairs bounds skips waiting p b s w = rw (p, b, s, w) (a
 
 -- ---- the pairs stay counted
 
-pub settle-counted : (W : ℕ) (last : List ℕ) (r e c : ℕ) (t t′ : List ℕ) (n n′ : ℕ) → Counted W t n → tally t′ n′ ≡ settleOf W last r e c (tally t n) → Counted W t′ n′
-unfolding settleOf
-settle-counted W last r e c t t′ n n′ k h = go (ltb c e) (eqb e c && not (eqb e 0)) h
-  where
-    new : (P : Pairs) → tally t′ n′ ≡ tallyOf W P t → Counted W t′ n′
-    new P q = holds-counted (record { is = q }) (k .positive) (k .most) (k .table)
-
-    go : (a b : Bool) → tally t′ n′ ≡ cond a (tallyOf W (pairsWith W last r) t) (cond b (tallyOf W (λ u v. tableBit W t u v || pairsWith W last r u v) t) (tally t n)) → Counted W t′ n′
-    go true b q = new (pairsWith W last r) q
-    go false true q = new (λ u v. tableBit W t u v || pairsWith W last r u v) q
-    go false false q = subst (λ (x : Tally). Counted W (x .pairs) (x .count)) (sym q) k
+pub begun-counted : (W other : ℕ) (codes : List ℕ) (B : Begun) (p : List ℕ) (m : Marks) → 0 < W → W < 513 → W * (64 * W) ≤ length (B .pairs)
+    → begun p m ≡ beginOf W other codes B → Counted W p 0
+unfolding beginOf tallyOf
+begun-counted W other codes B p m pos most l e =
+    holds-counted {P = λ u v. false} (record { is = ap₂ tally (ap (λ (X : Begun). X .pairs) e) (sym (count-no-pairs (64 * W))) }) pos most l
 
 pub round-counted : (W : ℕ) (links : List ℕ) (mark r : ℕ) (M : Workspace) (T : Tables) (t : List ℕ) (n c k : ℕ) (m : Marks) → Counted W (M .paired .pairs) (M .paired .count)
     → workspace T (tally t n) m c k ≡ roundOf W links mark r M → Counted W t n

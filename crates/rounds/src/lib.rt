@@ -26,7 +26,7 @@ fn raise(candidate: u16, e: u16) -> u16
 }
 
 // The pairs after a search from r, whose last layer stands in the row of the eccentricity's parity.
-fn settle_by(
+pub fn settle_by(
     pairs: &mut [u64],
     even: &[u64],
     odd: &[u64],

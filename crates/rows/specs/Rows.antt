@@ -38,3 +38,7 @@ pub record InTable (W : ℕ) (t : List ℕ) (u v : ℕ) : Type 0 where
   pub row : W * u + W ≤ length t
   pub below : u < 64 * W
   pub column : v < 64 * W
+
+-- the members that x holds as word w of a row
+unfoldable pub inWord : ℕ → ℕ → ℕ → Bool
+inWord w x u = eqb (u / 64) w && bit x (u % 64)

@@ -12,7 +12,7 @@ pub join-spec : {M : Type 1} → statement M
 join-spec =
     tie.close
     (tie.spec
-    (λ c. search needs)  -- settle-own-requires
+    (λ c. search needs)  -- settle-by-requires
     (λ c. search needs)  -- mark-once-requires
     (λ c. search needs)  -- same-length
     (λ c. search needs)  -- same-length-2

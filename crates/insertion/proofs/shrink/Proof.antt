@@ -1,7 +1,8 @@
 -- `insertion::shrink` meets its contract: its three calls are the network's rounds after the one from the new depot.
 -- Assumes nothing.
 use native.Mathlib.Omega.{arith}
-use Rattle.insertion.proofs.Shrinking.{begun-counted, absorbed-counted, shrink-is}
+use Rattle.rounds.proofs.Turns.{begun-counted}
+use Rattle.insertion.proofs.Shrinking.{absorbed-counted, shrink-is}
 use Rattle.bounds.proofs.Ranks.{thinned-ranks}
 use borrow.Author.Needs.{needs}
 use Rattle.insertion.proofs.shrink.Statement.{statement}

@@ -2,7 +2,8 @@
 -- Assumes nothing.
 use native.Mathlib.Omega.{arith}
 use Rattle.map.specs.Memory.{base}
-use Rattle.reckon.proofs.Reckons.{begun-counted, reckoned-is}
+use Rattle.rounds.proofs.Turns.{begun-counted}
+use Rattle.reckon.proofs.Reckons.{reckoned-is}
 use borrow.Author.Needs.{needs}
 use Rattle.reckon.proofs.reckon_map.Statement.{statement}
 use Rattle.reckon.proofs.reckon_map.Tie as tie
@@ -27,7 +28,7 @@ run-rounds-requires c κs =
     let pre = start .pre in
     let k = after-begin .begin .kept in (
       record { table = pre .0; hopPlaces = pre .2; evenRow = pre .5; oddRow = pre .6; seenRow = omega arith; nextRow = omega arith },
-      begun-counted 4 257 _ _ _ _ _ _ (omega arith) (omega arith) (pre .1) (after-begin .begin .ensures .0),
+      begun-counted 4 257 _ _ _ _ (omega arith) (omega arith) (pre .1) (after-begin .begin .ensures .0),
       record {
         positive = omega arith;
         most = omega arith;
