@@ -13,3 +13,4 @@ pub mod Connected
 pub mod Searched
 pub mod Theorems
 pub mod SoundFigures
+pub mod Rules

@@ -13,3 +13,5 @@ pub mod Opening
 pub mod Correct
 -- 7. document 01's worked cases, computed
 pub mod Cases
+-- 8. further cases, one for each rule that those leave open
+pub mod RuleCases
