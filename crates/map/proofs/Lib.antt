@@ -10,3 +10,5 @@ pub mod Checks
 pub mod Empties
 -- What the tests and the emptying mean.
 pub mod Theorems
+-- Refusals 2 and 3, by their tests.
+pub mod Refusals

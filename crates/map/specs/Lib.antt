@@ -3,5 +3,7 @@
 pub mod Memory
 -- 2. when links and figures are sound
 pub mod Sound
--- 3. emptying a map
+-- 3. the refusals that the calls on a map share
+pub mod Refusals
+-- 4. emptying a map
 pub mod Empty
