@@ -8,7 +8,7 @@ use native.Mathlib.Omega.{arith}
 use lib.Dec.{T, ltb}
 use lib.ListN.{length, getD}
 use borrow.Author.Tests.{lt-ltb}
-use Rattle.lists.specs.Lists.{from, range, filterb, allb}
+use Rattle.lists.specs.Lists.{from, range, filterb}
 use Rattle.lists.proofs.Tests.{look, eq-or-ne, t→true, clash}
 use Rattle.lists.proofs.Members.{all-fails}
 use Rattle.graph.specs.Network.{Network, IsSound}

@@ -1,23 +1,23 @@
 -- A NOTICE IS REFUSED by the first of document 01's conditions that holds. Assumes nothing.
-use mathlib.Core.Path.{_≡_, refl, sym, ap, _∙_, subst}
-use mathlib.Core.Logic.{_⊎_, inl, inr, _↔_}
+use mathlib.Core.Path.{_≡_, refl, sym, ap, subst}
+use mathlib.Core.Logic.{_↔_}
 use mathlib.Core.Bool.{Bool, true, false, not, _&&_}
-use mathlib.Core.List.{List, [], _∷_, List·Memᴰ, List·Memᴰ·head, List·Memᴰ·tail, List·Memᴰ·not-nil}
+use mathlib.Core.List.{List, [], _∷_, List·Memᴰ, List·Memᴰ·head, List·Memᴰ·not-nil}
 use Prim.Native.Nat.{ℕ, zero, suc, _≤_, _<_}
 use native.Mathlib.Nat.{lt-irrefl}
 use native.Mathlib.Omega.{arith}
 use lib.Dec.{T, ltb}
 use lib.ListN.{length, getD}
 use borrow.Author.Tests.{ltb-true, ltb-false, not-true, not-false}
-use Rattle.lists.specs.Lists.{range, filterb, allb, firstOf}
+use Rattle.lists.specs.Lists.{range, allb, firstOf}
 use Rattle.lists.specs.Conditions.{FirstHolds}
 use Rattle.lists.proofs.Tests.{clash, t→true, true→t, false→not}
 use Rattle.lists.proofs.Members.{filter-in, filter-out, all-elim, all-fails, range-in, range-out}
-use Rattle.lists.proofs.Conditions.{Decides, decides-test, decides-not, decides-and, Tells, tells-first}
+use Rattle.lists.proofs.Conditions.{Decides, decides-test, decides-and, Tells, tells-first}
 use Rattle.graph.specs.Network.{Network}
 use Rattle.graph.specs.Distance.{vertices}
 use Rattle.graph.specs.Opening.{Notice, strictlyRising, isEmpty, noticeFaults}
-use Rattle.graph.specs.Refusals.{IsTaken, IsLonely, IsUnsorted, IsUnknown, noticeConditions}
+use Rattle.graph.specs.Refusals.{IsUnsorted, IsUnknown, noticeConditions}
 
 -- 6: no neighbours, and some depot
 decides-none : (xs : List ℕ) → Decides (isEmpty xs) (xs ≡ [])

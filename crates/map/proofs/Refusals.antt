@@ -12,7 +12,7 @@ use Rattle.graph.specs.Distance.{unreached, connected}
 use Rattle.graph.specs.Chart.{Pairs}
 use Rattle.graph.proofs.Apart.{apart-of, apart-not}
 use Rattle.map.specs.Memory.{networkOf}
-use Rattle.map.specs.Sound.{soundLinks, soundFigures, AreLinksSound, AreFiguresSound}
+use Rattle.map.specs.Sound.{soundLinks, soundFigures, AreLinksSound}
 use Rattle.map.specs.Refusals.{IsSpoilt, IsMapSpoilt, IsSoundApart}
 use Rattle.map.proofs.Theorems.{sound-links-iff, sound-figures-iff}
 

@@ -8,6 +8,10 @@ pub mod Grants
 pub mod Openings
 -- A call's marks, number of searches and cover.
 pub mod Marks
+-- Which refusal a call gives.
+pub mod Refusals
+-- What an accepted opening leaves in every table.
+pub mod Tables
 -- One call of a history.
 pub mod Steps
 -- The empty map.

@@ -7,9 +7,13 @@ pub mod PlainList
 pub mod History
 -- 4. what a map's memory says of a network, marks and cover
 pub mod Represents
--- 5. demand 2 for openings
+-- 5. which refusal a call gives: document 01's table
+pub mod Refusals
+-- 6. what an accepted opening leaves in every table
+pub mod Tables
+-- 7. demand 2 for openings
 pub mod Demand2
--- 6. DEMAND 3
+-- 8. DEMAND 3
 pub mod Demand3
--- 7. the steps of the code
+-- 9. the steps of the code
 pub mod Steps

@@ -1,6 +1,6 @@
 -- WHAT SKIP AND BOUND TABLE SAY OF A DEPOT THAT WAS NOT SEARCHED: the reference that skipped it and its bound, or neither; and of a closed code.
 -- Assumes nothing.
-use mathlib.Core.Path.{_≡_, refl, sym, ap, _∙_, subst}
+use mathlib.Core.Path.{_≡_, refl, ap, _∙_}
 use mathlib.Core.Bool.{Bool, true, false, cond, not}
 use mathlib.Core.List.{List}
 use Prim.Native.Nat.{ℕ, _<_}

@@ -6,7 +6,6 @@ use mathlib.Core.List.{List, [], _∷_}
 use Prim.Native.Nat.{ℕ, zero, suc, _*_, _<_}
 use native.Mathlib.Omega.{arith}
 use lib.Dec.{T}
-use lib.ListN.{length}
 use Rattle.lists.specs.Lists.{range, allb, countb, memb, lastOr}
 use Rattle.lists.specs.Conditions.{Refuses}
 use Rattle.lists.proofs.Tests.{true→t}
