@@ -8,3 +8,5 @@ pub mod Reckonings
 pub mod Lines
 -- THE THEOREM: the table of cases.
 pub mod Theorems
+-- The second table.
+pub mod Rules

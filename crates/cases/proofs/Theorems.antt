@@ -82,7 +82,7 @@ module _ (rec : Record) (links pairs : List ℕ) (l : 1024 ≤ length links) (p 
 -- ---- the seven lines
 
 -- calls whose codes and neighbours are bytes
-areBytes : Notice → Bool
+unfoldable pub areBytes : Notice → Bool
 areBytes o = ltb (o .code) 256 && allb (λ v. ltb v 256) (o .neighbours)
 
 calls-of : (cs : List Call) → allb areBytes (noticesOf cs) ≡ true → AreCalls base cs
@@ -104,13 +104,17 @@ start-figured : figuredFor (emptyNetwork 256) ≡ Graph.noDepot
 unfolding Graph.noDepot
 start-figured = λ i. record { net = emptyNetwork 256; chain = none-diameter base base-shape i; pairs = none-farthest base base-shape i }
 
-stream-holds : (cs : List Call) → noticesOf cs ≡ Graph.sevenLines → AllLong cs → answersOf (openCall base) (emptyMemory base) cs ≡ sevenAnswers
-stream-holds cs e lent =
-    let calls = calls-of cs (ap (allb areBytes) e ∙ seven-bytes) in
+-- notices opened from the empty map give the lines of the network's own openings
+pub opened-lines : (os : List Notice) → allb areBytes os ≡ true → (cs : List Call) → noticesOf cs ≡ os → AllLong cs
+    → answersOf (openCall base) (emptyMemory base) cs ≡ Graph.followAll Graph.noDepot os
+opened-lines os bytes cs e lent =
+    let calls = calls-of cs (ap (allb areBytes) e ∙ bytes) in
     ap (λ (M : Memory). answersOf (openCall base) M cs) (empty-memory base base-shape)
     ∙ lines-are (emptyNetwork 256) (empty-held base base-shape) cs calls lent
     ∙ ap₂ Graph.followAll start-figured e
-    ∙ ap (λ (t : Graph.Cases). t .stream) Graph.cases
+
+stream-holds : (cs : List Call) → noticesOf cs ≡ Graph.sevenLines → AllLong cs → answersOf (openCall base) (emptyMemory base) cs ≡ sevenAnswers
+stream-holds cs e lent = opened-lines Graph.sevenLines seven-bytes cs e lent ∙ ap (λ (t : Graph.Cases). t .stream) Graph.cases
 
 -- ---- the stream's bytes, by computation
 

@@ -8,3 +8,5 @@ pub mod Sums
 pub mod Checks
 -- What the checks mean.
 pub mod Theorems
+-- Refusals 2 and 3, by their tests.
+pub mod Refusals

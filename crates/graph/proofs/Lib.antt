@@ -11,5 +11,9 @@ pub mod Charts
 pub mod Opened
 pub mod Connected
 pub mod Searched
+pub mod Skipped
 pub mod Theorems
 pub mod SoundFigures
+pub mod Rules
+pub mod Apart
+pub mod Refusals

@@ -130,15 +130,20 @@ module _ (C : Chart) (metric : IsMetric C) where
         go false false true = once-references D (stayingPairs C a D P)
         go false false false = settled-references shrunk (shrunk-settled .0)
 
-    pub opening-cover : opening C a D P .change ≡ shrank → CoveredIn C (opening C a D P .final)
+    -- after a shrink the rounds have ended
+    pub opening-settled : opening C a D P .change ≡ shrank → Invariant C metric unreached (opening C a D P .final) × (waitingCount C metric (opening C a D P .final) ≡ 0)
     unfolding opening openCase shrunk
-    opening-cover = go (ltb D (ecc C a)) (eqb (ecc C a) D) (anyPair (C .depots) (stayingPairs C a D P))
+    opening-settled = go (ltb D (ecc C a)) (eqb (ecc C a) D) (anyPair (C .depots) (stayingPairs C a D P))
       where
         never : {A : Type 0} → _≡_ {A = ℕ} 0 1 → A
         never z = absurd (lt-irrefl 0 (omega arith))
 
-        go : (b s k : Bool) → openCase b s k C a D P .change ≡ shrank → CoveredIn C (openCase b s k C a D P .final)
+        go : (b s k : Bool) → openCase b s k C a D P .change ≡ shrank
+            → Invariant C metric unreached (openCase b s k C a D P .final) × (waitingCount C metric (openCase b s k C a D P .final) ≡ 0)
         go true s k q = never (cc)
         go false true k q = never (cc)
         go false false true q = never (cc)
-        go false false false q = settled-cover shrunk (shrunk-settled .0) (shrunk-settled .1)
+        go false false false q = shrunk-settled
+
+    pub opening-cover : opening C a D P .change ≡ shrank → CoveredIn C (opening C a D P .final)
+    opening-cover q = let s = opening-settled q in settled-cover (opening C a D P .final) (s .0) (s .1)

@@ -1,16 +1,16 @@
 -- WHAT IS PROVED of the steps above, by the published words of Network.antt. The theorems stand in proofs/Theorems.antt:
--- `reckoning-correct`, `opening-correct` (on true stored figures) and `opening-covered` (on any stored figures).
+-- `reckoning-correct`, `opening-correct` (on true stored figures), `opening-covered` and `opening-says` (on any stored figures).
 -- Assumes nothing.
 use mathlib.Core.Path.{_≡_}
 use mathlib.Core.Bool.{not}
-use mathlib.Core.List.{List}
+use mathlib.Core.List.{List, [], _∷_}
 use Prim.Native.Nat.{ℕ, _+_, _<_}
 use lib.Dec.{T}
 use lib.ListN.{length}
 use Rattle.lists.specs.Lists.{countb, memb}
 use Rattle.graph.specs.Network.{Network, IsSound, IsConnected, IsDist, IsEcc, AreTrue}
 use Rattle.graph.specs.Distance.{vertices, unreached}
-use Rattle.graph.specs.Rounds.{Status, waiting, skipped, searched, State}
+use Rattle.graph.specs.Rounds.{Status, waiting, skipped, searched, isWaiting, State}
 use Rattle.graph.specs.Opening.{Change, grew, kept, shrank, Opened}
 
 -- A network that a map can hold. The limit keeps distances below the mark of a closed code.
@@ -46,6 +46,27 @@ pub record AreReferences (G : Network) (S : State) : Type 0 where
 abbrev pub AllCovered : Network → State → Type 0
 AllCovered G S = (v : ℕ) → T (G .isOpen v) → T (not (memb v (S .references))) → IsCovered G (S .references) (S .candidate) v
 
+-- The depot v was skipped by right: the reference's eccentricity plus the distance between them is v's bound, and that is below the chain.
+pub record IsSkipped (G : Network) (references : List ℕ) (chain v reference bound : ℕ) : Type 0 where
+  pub isReference : T (memb reference references)
+  pub ecc : ℕ
+  pub isEcc : IsEcc G (G .isOpen) reference ecc
+  pub distance : ℕ
+  pub isDist : IsDist G reference v distance
+  pub isBound : bound ≡ ecc + distance
+  pub below : bound < chain
+
+-- every depot that was not searched was skipped by right, and stands so in the state
+abbrev pub AllSkipped : Network → State → Type 0
+AllSkipped G S =
+    (v : ℕ) → T (G .isOpen v) → T (not (memb v (S .references)))
+    → (g : ℕ) × (b : ℕ) × (S .status v ≡ skipped b g) × IsSkipped G (S .references) (S .candidate) v g b
+
+-- the search from a alone: no other depot has a bound
+pub record IsOneSearch (a : ℕ) (S : State) : Type 0 where
+  pub only : S .references ≡ a ∷ []
+  pub others : (v : ℕ) → (v ≡ a → ⊥) → T (isWaiting (S .status v))
+
 -- a whole reckoning
 pub record IsReckoned (G : Network) (S : State) : Type 0 where
   pub figures : AreTrue G (G .isOpen) (S .candidate) (S .pairs)
@@ -62,6 +83,12 @@ Moved shrank D E = E < D
 pub record IsSearched (H : Network) (o : Opened) : Type 0 where
   pub references : AreReferences H (o .final)
   pub cover : o .change ≡ shrank → AllCovered H (o .final)
+
+-- what an opening of a says of each depot, whatever figures were stored: the search from a is the first, and the only one unless the chain shrank
+pub record IsSettled (H : Network) (a : ℕ) (o : Opened) : Type 0 where
+  pub first : (rs : List ℕ) × (o .final .references ≡ a ∷ rs)
+  pub once : (o .change ≡ shrank → ⊥) → IsOneSearch a (o .final)
+  pub skipped : o .change ≡ shrank → AllSkipped H (o .final)
 
 -- an opening on a map whose chain D was true
 pub record IsOpened (H : Network) (D : ℕ) (o : Opened) : Type 0 where

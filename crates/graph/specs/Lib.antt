@@ -11,5 +11,9 @@ pub mod Rounds
 pub mod Opening
 -- 6. what is proved of 2 to 5, by the words of 1
 pub mod Correct
--- 7. document 01's worked cases, computed
+-- 7. the refusals that speak of the network alone, by the words of 1
+pub mod Refusals
+-- 8. document 01's worked cases, computed
 pub mod Cases
+-- 9. further cases, one for each rule that those leave open
+pub mod RuleCases

@@ -14,3 +14,5 @@ pub mod Fills
 pub mod Buffers
 -- Lists put together.
 pub mod Appends
+-- tests that decide conditions, and the first that holds
+pub mod Conditions

@@ -1,7 +1,7 @@
 -- Members of lists: some and all, filters, ranges, numbers. Assumes nothing.
 use mathlib.Core.Path.{_≡_, refl, sym, ap, _∙_, subst}
 use mathlib.Core.Logic.{_⊎_, inl, inr}
-use mathlib.Core.Bool.{Bool, true, false, cond, _||_}
+use mathlib.Core.Bool.{Bool, true, false, cond, _&&_, _||_}
 use mathlib.Core.List.{List, [], _∷_, List·Memᴰ, List·Memᴰ·head, List·Memᴰ·tail, List·Memᴰ·cases-cons, List·Memᴰ·not-nil, Memᴰ·cast, _++_}
 use Prim.Native.Nat.{ℕ, zero, suc, _+_, _≤_, _<_, zero-le}
 use native.Mathlib.Nat.{eq-or-lt-of-le, lt-irrefl}
@@ -10,7 +10,7 @@ use lib.Dec.{T, eqb}
 use lib.ListN.{length}
 use borrow.Author.Tests.{eqb-true, eq-eqb}
 use Rattle.lists.specs.Lists.{firstOf, from, range, filterb, anyb, allb, memb}
-use Rattle.lists.proofs.Tests.{and-true, and-intro, or-true, or-left, or-right}
+use Rattle.lists.proofs.Tests.{look, clash, and-true, and-intro, or-true, or-left, or-right}
 
 module _ {ℓ} {A : Type ℓ} where
   pub any-intro : (p : A → Bool) (xs : List A) {x : A} → List·Memᴰ x xs → p x ≡ true → anyb p xs ≡ true
@@ -78,6 +78,16 @@ module _ {ℓ} {A : Type ℓ} where
       go : (p y ≡ true) × (allb p ys ≡ true) → (x ≡ y) ⊎ List·Memᴰ x ys → (allb p ys ≡ true → List·Memᴰ x ys → p x ≡ true) → p x ≡ true
       go k (inl q) ih = ap p q ∙ k .0
       go k (inr n) ih = ih (k .1) n
+
+-- where a test does not hold of all, it fails somewhere
+pub all-fails {ℓ} : {A : Type ℓ} (p : A → Bool) (xs : List A) → allb p xs ≡ false → (x : A) × List·Memᴰ x xs × (p x ≡ false)
+unfolding allb
+all-fails p [] e = absurd (clash refl e)
+all-fails {A = A} p (x ∷ xs) e = go (look (p x)) (all-fails p xs)
+  where
+    go : (p x ≡ true) ⊎ (p x ≡ false) → (allb p xs ≡ false → (y : A) × List·Memᴰ y xs × (p y ≡ false)) → (y : A) × List·Memᴰ y (x ∷ xs) × (p y ≡ false)
+    go (inl t) more = let r = more (ap (λ (b : Bool). b && allb p xs) (sym t) ∙ e) in (r .0, List·Memᴰ·tail (r .1), r .2)
+    go (inr f) more = (x, List·Memᴰ·head refl, f)
 
 pub filter-all {ℓ} : {A : Type ℓ} (p : A → Bool) (xs : List A) → ((x : A) → List·Memᴰ x xs → p x ≡ true) → filterb p xs ≡ xs
 unfolding filterb

@@ -7,6 +7,7 @@ use Prim.Native.Nat.{ℕ, zero, suc}
 use lib.Dec.{leb}
 use lib.ListN.{length}
 use Rattle.lists.specs.Lists.{range, mapl, overwrite, firstOf}
+use Rattle.lists.specs.Conditions.{IsShort}
 use Rattle.rows.specs.Rows.{tableBit}
 use Rattle.map.specs.Memory.{Shape, tableWords, networkOf}
 use Rattle.map.specs.declared.Record.{Record}
@@ -49,6 +50,10 @@ emptyGiven (suc k) K rec links pairs = record { answer = Refused (suc k); after 
 
 unfoldable pub emptyCall : Shape → Record → List ℕ → List ℕ → EmptyLeft
 emptyCall K rec links pairs = emptyGiven (emptyRefusal K links pairs) K rec links pairs
+
+-- which refusal: `empty-refusals` (proofs/Theorems)
+abbrev pub emptyConditions : Shape → List ℕ → List ℕ → List (Type 0 × ℕ)
+emptyConditions K links pairs = (IsShort ((tableWords K, length links) ∷ (tableWords K, length pairs) ∷ []), 1) ∷ []
 
 -- ---- what it means
 

@@ -6,6 +6,10 @@ pub mod Grants
 pub mod Openings
 -- A call's marks, number of searches and cover.
 pub mod Marks
+-- Which refusal a call gives.
+pub mod Refusals
+-- What an accepted opening leaves in every table.
+pub mod Tables
 -- The empty map.
 pub mod Empties
 -- THE THEOREM: demand 2.

@@ -105,7 +105,7 @@ changed-not grew k p = let z : _≡_ {A = ℕ} 0 1 = cc in lt-irrefl 0 (omega ar
 changed-not kept k p = let z : _≡_ {A = ℕ} 0 1 = cc in lt-irrefl 0 (omega arith)
 changed-not shrank k p = let z : _≡_ {A = ℕ} 0 1 = cc in lt-irrefl 0 (omega arith)
 
-changed-shrank : (c : Change) → changeOf c ≡ Accepted Shrank → c ≡ shrank
+pub changed-shrank : (c : Change) → changeOf c ≡ Accepted Shrank → c ≡ shrank
 unfolding changeOf
 changed-shrank grew p = absurd (let z : _≡_ {A = ℕ} 0 1 = cc in lt-irrefl 0 (omega arith))
 changed-shrank kept p = absurd (let z : _≡_ {A = ℕ} 0 1 = cc in lt-irrefl 0 (omega arith))
@@ -121,7 +121,7 @@ module _ (K : Shape) (shape : IsShape K) (rec : Record) (links : List ℕ) (B : 
   held : IsHeld K (networkAfter K rec links o)
   held = held-after K shape rec links (B .pairs) (sizesOf links B) o ok low
 
-  opened-searched : IsSearched H x
+  pub opened-searched : IsSearched (networkAfter K rec links o) (openedBy K rec links (B .pairs) o)
   unfolding networkAfter openedBy
   opened-searched =
       opening-covered (networkOf (K .words) (rec .codes) links) (granted-net K shape rec links (B .pairs) (sizesOf links B) o ok) o

@@ -5,7 +5,11 @@ pub mod OpenCall
 pub mod Memory
 -- 3. what a map's memory says of a network, marks and cover
 pub mod Represents
--- 4. demand 2 for openings
+-- 4. which refusal a call gives
+pub mod Refusals
+-- 5. what an accepted opening leaves in every table
+pub mod Tables
+-- 6. demand 2 for openings
 pub mod Demand2
--- 5. the steps of the code
+-- 7. the steps of the code
 pub mod Steps

@@ -1,34 +1,37 @@
--- THE THEOREM of this crate: demand 2 for the whole reckoning, for every shape of a map. Assumes nothing.
+-- THE THEOREMS of this crate: which refusal a whole reckoning gives, and demand 2 for it, for every shape of a map. Assumes nothing.
 use mathlib.Core.Path.{_≡_, refl, sym, ap, _∙_, subst}
 use mathlib.Core.Logic.{_↔_}
-use mathlib.Core.Bool.{Bool}
+use mathlib.Core.Bool.{Bool, and-assoc, and-true as and-with-true}
 use mathlib.Core.List.{List, [], _∷_}
 use Prim.Native.Nat.{ℕ, zero, suc, _*_, _<_}
 use native.Mathlib.Omega.{arith}
 use lib.Dec.{T}
-use lib.ListN.{length}
-use Rattle.lists.specs.Lists.{range, countb, memb, lastOr}
-use Rattle.lists.proofs.Tests.{t→true, true→t}
+use Rattle.lists.specs.Lists.{range, allb, countb, memb, lastOr}
+use Rattle.lists.specs.Conditions.{Refuses}
+use Rattle.lists.proofs.Tests.{true→t}
+use Rattle.lists.proofs.Conditions.{allFit, decides-short, refuses-by}
 use Rattle.lists.proofs.Fills.{length-fill}
 use Rattle.graph.specs.Network.{Network, IsFarthest}
 use Rattle.graph.specs.Chart.{chart, ecc, countPairs}
 use Rattle.graph.specs.Rounds.{State, reckon}
 use Rattle.graph.specs.Correct.{IsNet, IsReckoned}
 use Rattle.graph.proofs.Theorems.{reckoning-correct}
+use Rattle.graph.proofs.Skipped.{reckoning-skipped}
 use Rattle.rows.proofs.Written.{table-at, encode-table-length}
 use Rattle.layers.specs.Layers.{Tables, searchLeaves}
 use Rattle.map.specs.Memory.{Shape, IsShape, places, base, networkOf}
 use Rattle.map.specs.declared.Record.{Record}
 use Rattle.map.proofs.Theorems.{network-open-below, base-shape}
 use Rattle.checks.proofs.Theorems.{sound-links-iff}
-use Rattle.search.specs.SearchCall.{searchRefusal, SearchLeft, searchLeft, searchGiven, searchCall}
+use Rattle.checks.proofs.Refusals.{links-tell}
+use Rattle.search.specs.SearchCall.{searchLeft}
 use Rattle.search.specs.Demand2.{IsSearch}
 use Rattle.search.specs.declared.Found.the-variants.{Reached}
-use Rattle.search.proofs.Accepts.{room-all, refused-never}
-use Rattle.search.proofs.Theorems.{search-demand2, over-keeps}
+use Rattle.search.proofs.Theorems.{leaves-search, over-keeps}
 use Rattle.rounds.specs.Leaves.{Lent, roundsLeave, searchAfter}
-use Rattle.rounds.specs.Sizes.{sizesOf}
-use Rattle.reckon.specs.ReckonCall.{reckonRefusal, figuredBy, reckonGiven, reckonCall, refusalOf}
+use Rattle.rounds.specs.Sizes.{sizesOf, longEnough}
+use Rattle.reckon.specs.ReckonCall.{linkFaults, reckonRefusal, figuredBy, reckonLeft, reckonGiven, reckonCall, refusalOf}
+use Rattle.reckon.specs.Refusals.{roundsBuffers, reckonConditions}
 use Rattle.reckon.specs.Demand2.{IsReckoning, Demand2}
 use Rattle.reckon.specs.declared.Reckoning.the-variants.{Refused}
 use Rattle.reckon.proofs.Longs.{AreLong}
@@ -65,34 +68,19 @@ module _ (K : Shape) (shape : IsShape K) (rec : Record) (links : List ℕ) (B : 
   number-is : rec .number ≡ countb (G .isOpen) (range (G .limit))
   number-is = sound-links-iff (K .words) (rec .codes) links (rec .number) .0 (granted-tests K rec links (sizesOf links B) ok .0) .counted
 
-  -- ---- the last search, by the search call's own theorem
-
-  module _ (s : ℕ) (o : T (G .isOpen s)) where
-    accepts : searchRefusal K rec links (length (B .searched .hops)) (length (B .searched .even)) (length (B .searched .odd)) s ≡ 0
-    unfolding sizesOf
-    accepts =
-        let t = granted-tests K rec links (sizesOf links B) ok in
-        let h = length (B .searched .hops) in
-        let x = length (B .searched .even) in
-        let y = length (B .searched .odd) in
-        sym (refused-never K rec links h x y s (room-all K (length links) h x y (long .links-fit) (long .hops-fit) (long .even-fit) (long .odd-fit)) (t .0) (t .1) (t→true (G .isOpen s) o))
-
-    search-is : searchCall K rec links (B .searched) s ≡ searchLeft (Reached (ecc (chart G) s)) (searchLeaves (K .words) G s (B .searched))
-    unfolding searchCall searchGiven
-    search-is = ap (λ (k : ℕ). searchGiven k K rec links (B .searched) s) accepts
-
-    leaves-search : IsSearch K G s (B .searched) (searchLeft (Reached (ecc (chart G) s)) (searchLeaves (K .words) G s (B .searched)))
-    leaves-search = subst (λ (l : SearchLeft). IsSearch K G s (B .searched) l) search-is (search-demand2 K shape rec links (B .searched) s accepts)
+  -- ---- the last search
 
   after-last : (r : ℕ) (rs : List ℕ) → S .references ≡ r ∷ rs → searchAfter (K .words) G (S .references) (B .searched) ≡ searchLeaves (K .words) G (lastOr r rs) (B .searched)
   unfolding searchAfter
   after-last r rs q = ap (λ (l : List ℕ). searchAfter (K .words) G l (B .searched)) q
 
   last-search : (r : ℕ) (rs : List ℕ) → S .references ≡ r ∷ rs → (e : ℕ) × IsSearch K G (lastOr r rs) (B .searched) (searchLeft (Reached e) (searchAfter (K .words) G (S .references) (B .searched)))
+  unfolding sizesOf
   last-search r rs q =
       let s = lastOr r rs in
       let m : T (memb s (S .references)) = true→t (ap (λ (l : List ℕ). memb s l) q ∙ last-memb r rs) in
-      (ecc (chart G) s, subst (λ (t : Tables). IsSearch K G s (B .searched) (searchLeft (Reached (ecc (chart G) s)) t)) (sym (after-last r rs q)) (leaves-search s (correct .references .inside s m)))
+      let left = leaves-search K G net limit-is s (correct .references .inside s m) (B .searched) (long .hops-fit) (long .even-fit) (long .odd-fit) in
+      (ecc (chart G) s, subst (λ (t : Tables). IsSearch K G s (B .searched) (searchLeft (Reached (ecc (chart G) s)) t)) (sym (after-last r rs q)) left)
 
   no-search : S .references ≡ [] → searchAfter (K .words) G (S .references) (B .searched) ≡ B .searched
   unfolding searchAfter
@@ -115,8 +103,8 @@ module _ (K : Shape) (shape : IsShape K) (rec : Record) (links : List ℕ) (B : 
     inside = correct .references .inside;
     cover = correct .cover;
     eccentricity = bound-ecc K G limit-is below shape S (correct .references) (B .bounds);
-    skipped = skip-bound K (rec .codes) links net (B .skips) (B .bounds);
-    closed = closed-at K (rec .codes) links net (B .skips) (B .bounds);
+    skipped = λ v o. skip-bound K G S (B .skips) (B .bounds) (reckoning-skipped G net) v (below v o) o;
+    closed = closed-at K G S (B .skips) (B .bounds);
     searched = last-search;
     unsearched = no-search;
     pairsKept = over-keeps _ _ (B .pairs) (encode-table-length (K .words) (S .pairs)) (long .pairs-fit);
@@ -144,6 +132,28 @@ call-numbered K rec links B = go (reckonRefusal K rec links (sizesOf links B))
     go : (k : ℕ) → refusalOf (reckonGiven k K rec links B .reckoned .answer) ≡ k
     go zero = refl
     go (suc k) = refl
+
+-- ---- WHICH REFUSAL
+
+-- the code's test of the sizes, and the condition's
+pub long-is : (K : Shape) (links : List ℕ) (B : Lent) → longEnough K (sizesOf links B) ≡ allFit (roundsBuffers K links B)
+unfolding longEnough sizesOf allb
+long-is K links B = simp (and-assoc, and-with-true)
+
+pub reckon-refusals : (K : Shape) → IsShape K → (rec : Record) (links : List ℕ) (B : Lent)
+    → Refuses (reckonConditions K rec links B) (refusalOf (reckonCall K rec links B .reckoned .answer)) (λ k. reckonLeft (record { answer = Refused k; after = rec }) B) (reckonCall K rec links B)
+unfolding reckonCall reckonRefusal linkFaults reckonGiven
+reckon-refusals K shape rec links B =
+    refuses-by _ (reckonConditions K rec links B) (
+      refl,
+      rw (← long-is K links B) at (decides-short (roundsBuffers K links B)),
+      λ f. links-tell (K .words) (shape .most) (rec .codes) links (rec .number) [] [] tt,
+    )
+    (λ k. reckonGiven k K rec links B) _ (λ l. refusalOf (l .reckoned .answer)) numbered (λ k. refl)
+  where
+    numbered : (k : ℕ) → refusalOf (reckonGiven k K rec links B .reckoned .answer) ≡ k
+    numbered zero = refl
+    numbered (suc k) = refl
 
 -- ---- DEMAND 2
 

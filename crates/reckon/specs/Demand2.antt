@@ -6,15 +6,15 @@ use mathlib.Core.Path.{_≡_}
 use mathlib.Core.Logic.{_↔_}
 use mathlib.Core.Bool.{not}
 use mathlib.Core.List.{List, [], _∷_}
-use Prim.Native.Nat.{ℕ, suc, _+_, _≤_, _<_}
+use Prim.Native.Nat.{ℕ, suc, _≤_, _<_}
 use lib.Dec.{T, eqb}
 use lib.ListN.{getD}
 use Rattle.lists.specs.Lists.{range, countb, memb, lastOr}
-use Rattle.graph.specs.Network.{Network, IsDist, IsEcc, IsDiameter, IsFarthest}
+use Rattle.graph.specs.Network.{Network, IsEcc, IsDiameter, IsFarthest}
 use Rattle.graph.specs.Distance.{unreached}
 use Rattle.graph.specs.Chart.{chart, countPairs}
 use Rattle.graph.specs.Rounds.{reckon}
-use Rattle.graph.specs.Correct.{IsCovered}
+use Rattle.graph.specs.Correct.{IsCovered, IsSkipped}
 use Rattle.rows.specs.Rows.{tableBit}
 use Rattle.map.specs.Memory.{Shape, places, tableWords, networkOf}
 use Rattle.map.specs.declared.Record.{Record}
@@ -25,16 +25,6 @@ use Rattle.rounds.specs.Leaves.{Lent}
 use Rattle.rounds.specs.Sizes.{sizesOf}
 use Rattle.reckon.specs.ReckonCall.{reckonRefusal, ReckonLeft, refusalOf, searchesOf}
 use Rattle.reckon.specs.declared.Reckoning.the-variants.{Searches, Refused}
-
--- The depot v was skipped by right: the reference's eccentricity plus the distance between them is v's bound, and that is below the chain.
-pub record IsSkipped (G : Network) (references : List ℕ) (chain v reference bound : ℕ) : Type 0 where
-  pub isReference : T (memb reference references)
-  pub ecc : ℕ
-  pub isEcc : IsEcc G (G .isOpen) reference ecc
-  pub distance : ℕ
-  pub isDist : IsDist G reference v distance
-  pub isBound : bound ≡ ecc + distance
-  pub below : bound < chain
 
 -- A whole reckoning of G, lent the tables B; references are the depots that the rules search from, in order.
 pub record IsReckoning (K : Shape) (G : Network) (rec : Record) (B : Lent) (references : List ℕ) (left : ReckonLeft) : Type 0 where

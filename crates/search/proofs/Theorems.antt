@@ -1,108 +1,65 @@
 -- THE THEOREMS of this crate: which refusal a search gives, and what an accepted one leaves, both by the published words. Assumes nothing.
 use mathlib.Core.Path.{_≡_, refl, sym, ap, _∙_, subst, fun-ext}
 use mathlib.Core.Logic.{_⊎_, inl, inr, _↔_}
-use mathlib.Core.Bool.{Bool, true, false, not, cond, _&&_}
-use mathlib.Core.List.{List}
+use mathlib.Core.Bool.{Bool, true, false, not, cond, _&&_, and-assoc, and-true as and-with-true}
+use mathlib.Core.List.{List, [], _∷_}
 use Prim.Native.Nat.{ℕ, zero, suc, _-_, _*_, _%_, _≤_, _<_}
-use native.Mathlib.Nat.{lt-irrefl, lt-of-lt-of-le}
+use native.Mathlib.Nat.{lt-irrefl}
 use native.Mathlib.Omega.{arith}
 use lib.Dec.{T, eqb}
 use lib.ListN.{length, getD, take, drop}
 use lib.Seq.{drop-append-seam}
-use borrow.Author.Tests.{eqb-false, eq-eqb, ne-eqb, not-true, not-false}
-use Rattle.lists.specs.Lists.{range, mapl, overwrite, firstOf}
-use Rattle.lists.proofs.Tests.{look, t→true, true→t, false→not, clash, lt-or-ge}
+use borrow.Author.Tests.{eqb-false, eq-eqb, ne-eqb}
+use Rattle.lists.specs.Lists.{range, allb, mapl, overwrite}
+use Rattle.lists.specs.Conditions.{Refuses}
+use Rattle.lists.proofs.Tests.{look, true→t, false→not, lt-or-ge}
+use Rattle.lists.proofs.Conditions.{allFit, decides-test, decides-not, decides-short, refuses-by}
 use Rattle.lists.proofs.Fills.{length-fill, overwrite-length, fill-at}
 use Rattle.graph.specs.Network.{Network, IsDist}
-use Rattle.graph.specs.Distance.{unreached, dist, connected}
+use Rattle.graph.specs.Distance.{unreached, dist}
 use Rattle.graph.specs.Chart.{chart, ecc}
 use Rattle.graph.specs.Correct.{IsNet}
+use Rattle.graph.specs.Refusals.{IsAbsent}
 use Rattle.graph.proofs.Walks.{walk-open}
 use Rattle.graph.proofs.Distances.{vertices-length}
 use Rattle.graph.proofs.Connected.{hop-open, hop-closed}
 use Rattle.graph.proofs.Theorems.{eccentricity-is, distance-below}
 use Rattle.rows.specs.Rows.{rowBit, encodeRow}
 use Rattle.rows.proofs.Written.{row-past, row-at, row-of-table, table-zero, encode-row-length}
-use Rattle.layers.specs.Layers.{depthFrom, layerBit, searchLeaves}
+use Rattle.layers.specs.Layers.{depthFrom, layerBit, Tables, searchLeaves}
 use Rattle.layers.proofs.Theorems.{depth-is, layer-is}
-use Rattle.map.specs.Memory.{Shape, places, tableWords, IsShape, networkOf}
-use Rattle.checks.specs.Sound.{soundLinks, AreLinksSound}
+use Rattle.map.specs.Memory.{Shape, places, IsShape, networkOf}
 use Rattle.map.specs.declared.Record.{Record}
-use Rattle.map.proofs.Theorems.{network-open-below}
-use Rattle.checks.proofs.Theorems.{sound-links-iff}
-use Rattle.search.specs.SearchCall.{searchRoom, searchRefusal, SearchLeft, searchGiven, searchCall, lastLayer}
-use Rattle.search.specs.Refusals.{FirstHolds, IsShort, IsSpoilt, IsApart, IsAbsent, searchConditions}
+use Rattle.checks.proofs.Refusals.{links-tell}
+use Rattle.search.specs.SearchCall.{searchRoom, searchRefusal, SearchLeft, searchLeft, searchGiven, searchCall, lastLayer, refusalOf}
+use Rattle.search.specs.Refusals.{searchBuffers, searchConditions}
 use Rattle.search.specs.Demand2.{HoldsLayer, HoldsBefore, KeepsPast, IsSearch, Demand2}
-use Rattle.search.proofs.Apart.{apart-of, apart-not}
-use Rattle.search.proofs.Accepts.{IsGranted, granted, accepted-net, room-all, room-fits}
+use Rattle.search.specs.declared.Found.the-variants.{Reached, Refused}
+use Rattle.search.proofs.Accepts.{granted, accepted-net}
 
 -- ---- WHICH REFUSAL
 
--- one line of the table: its test tells its condition, and where it fails the rest decides
-first-line : (b : Bool) (C : Type 0) (n k : ℕ) {m : ℕ} {P : Type 0} → (b ≡ true → C) → (b ≡ false → C → ⊥) → (b ≡ false → (m ≡ k) ↔ P)
-    → (cond b n m ≡ k) ↔ ((C × (k ≡ n)) ⊎ ((C → ⊥) × P))
-first-line true C n k {m} {P} holds fails rest = (λ e. inl (holds refl, sym e), back)
+-- the code's test of the sizes, and the condition's
+room-is : (K : Shape) (links : List ℕ) (B : Tables) → searchRoom K (length links) (length (B .hops)) (length (B .even)) (length (B .odd)) ≡ allFit (searchBuffers K links B)
+unfolding searchRoom allb
+room-is K links B = simp (and-assoc, and-with-true)
+
+pub search-refusals : (K : Shape) → IsShape K → (rec : Record) (links : List ℕ) (B : Tables) (code : ℕ)
+    → Refuses (searchConditions K rec links B code) (refusalOf (searchCall K rec links B code .answer)) (λ k. searchLeft (Refused k) B) (searchCall K rec links B code)
+unfolding searchCall searchRefusal searchGiven
+search-refusals K shape rec links B code =
+    let G = networkOf (K .words) (rec .codes) links in
+    let b = G .isOpen code in
+    refuses-by _ (searchConditions K rec links B code) (
+      refl,
+      rw (← room-is K links B) at (decides-short (searchBuffers K links B)),
+      λ f. links-tell (K .words) (shape .most) (rec .codes) links (rec .number) ((not b, 4) ∷ []) ((IsAbsent G code, 4) ∷ []) (refl, decides-not b (decides-test b), λ g. tt),
+    )
+    (λ k. searchGiven k K rec links B code) _ (λ l. refusalOf (l .answer)) numbered (λ k. refl)
   where
-    back : (C × (k ≡ n)) ⊎ ((C → ⊥) × P) → n ≡ k
-    back (inl h) = sym (h .1)
-    back (inr h) = absurd (h .0 (holds refl))
-first-line false C n k {m} {P} holds fails rest = (λ e. inr (fails refl, rest refl .0 e), back)
-  where
-    back : (C × (k ≡ n)) ⊎ ((C → ⊥) × P) → m ≡ k
-    back (inl h) = absurd (fails refl (h .0))
-    back (inr h) = rest refl .1 (h .1)
-
-module _ (K : Shape) (l h e o : ℕ) where
-  short-of : searchRoom K l h e o ≡ false → IsShort K l h e o
-  short-of f = go (lt-or-ge l (tableWords K)) (lt-or-ge h (places K)) (lt-or-ge e (K .words)) (lt-or-ge o (K .words))
-    where
-      go : (l < tableWords K) ⊎ (tableWords K ≤ l) → (h < places K) ⊎ (places K ≤ h) → (e < K .words) ⊎ (K .words ≤ e) → (o < K .words) ⊎ (K .words ≤ o) → IsShort K l h e o
-      go (inl a) x y z = inl a
-      go (inr a) (inl b) y z = inr (inl b)
-      go (inr a) (inr b) (inl c) z = inr (inr (inl c))
-      go (inr a) (inr b) (inr c) (inl d) = inr (inr (inr d))
-      go (inr a) (inr b) (inr c) (inr d) = absurd (clash (room-all K l h e o a b c d) f)
-
-  not-short : searchRoom K l h e o ≡ true → IsShort K l h e o → ⊥
-  not-short t s = go (room-fits K l h e o t) s
-    where
-      go : (tableWords K ≤ l) × (places K ≤ h) × (K .words ≤ e) × (K .words ≤ o) → IsShort K l h e o → ⊥
-      go r (inl a) = lt-irrefl l (lt-of-lt-of-le a (r .0))
-      go r (inr (inl a)) = lt-irrefl h (lt-of-lt-of-le a (r .1))
-      go r (inr (inr (inl a))) = lt-irrefl e (lt-of-lt-of-le a (r .2))
-      go r (inr (inr (inr a))) = lt-irrefl o (lt-of-lt-of-le a (r .3))
-
-module _ (K : Shape) (shape : IsShape K) (rec : Record) (links : List ℕ) (hops even odd code : ℕ) where
-  abbrev G : Network
-  G = networkOf (K .words) (rec .codes) links
-
-  -- the published words of each test
-  sound-iff : (soundLinks G (rec .number) ≡ true) ↔ AreLinksSound G (rec .number)
-  sound-iff = sound-links-iff (K .words) (rec .codes) links (rec .number)
-
-  small : G .limit < unreached
-  unfolding networkOf
-  small = omega (arith, shape .most)
-
-  pub search-refusals : (k : ℕ) → (searchRefusal K rec links hops even odd code ≡ k) ↔ FirstHolds (searchConditions K rec links hops even odd code) k
-  unfolding searchRefusal firstOf
-  search-refusals k =
-      first-line (not room) (IsShort K (length links) hops even odd) 1 k (λ t. short-of K (length links) hops even odd (not-true room t)) (λ f. not-short K (length links) hops even odd (not-false room f))
-      (λ f1.
-      first-line (not sound) (IsSpoilt G (rec .number)) 2 k (λ t s. clash (sound-iff .1 s) (not-true sound t)) (λ f n. n (sound-iff .0 (not-false sound f)))
-      (λ f2.
-      let s = sound-iff .0 (not-false sound f2) in
-      first-line (not (connected G)) (AreLinksSound G (rec .number) × IsApart G) 3 k (λ t. (s, apart-of G (s .isSound) small (not-true (connected G) t)))
-      (λ f a. apart-not G (s .isSound) small (not-false (connected G) f) (a .1))
-      (λ f3.
-      first-line (not (G .isOpen code)) (IsAbsent G code) 4 k (λ t p. clash (t→true (G .isOpen code) p) (not-true (G .isOpen code) t)) (λ f n. n (true→t (not-false (G .isOpen code) f)))
-      (λ f4. (sym, sym)))))
-    where
-      room : Bool
-      room = searchRoom K (length links) hops even odd
-
-      sound : Bool
-      sound = soundLinks G (rec .number)
+    numbered : (k : ℕ) → refusalOf (searchGiven k K rec links B code .answer) ≡ k
+    numbered zero = refl
+    numbered (suc k) = refl
 
 -- ---- WHAT AN ACCEPTED SEARCH LEAVES
 
@@ -188,58 +145,51 @@ module _ (W : ℕ) (G : Network) (net : IsNet G) (limit-is : G .limit ≡ 64 * W
       let is : layerBit (dist G s) (suc k) parity ≡ (λ v. eqb (dist G s v) k) = fun-ext (λ v. rw (q, z, m)) in
       subst (λ (f : ℕ → Bool). HoldsLayer W G s k (overwrite (encodeRow W f) old)) (sym is) (holds-layer k old (omega (arith, low)))
 
-module _ (K : Shape) (shape : IsShape K) where
-  pub search-demand2 : Demand2 K
-  unfolding searchCall searchGiven searchLeaves
-  search-demand2 rec links B code z =
-      subst (λ (left : SearchLeft). IsSearch K G code B left) (ap (λ (k : ℕ). searchGiven k K rec links B code) (sym z))
-      (record {
-        ecc = e;
-        answer = refl;
-        isEcc = eccentricity-is G net code o;
-        isHop = λ v ov. subst (λ (d : ℕ). IsDist G code v d) (sym (hop v (network-open-below (K .words) (rec .codes) links v ov))) (hop-open G net code o v ov);
-        closed = λ v l c. hop v l ∙ hop-closed G net code o v c;
-        evenLast = λ q. (last 0 (B .even) (eq-eqb (e % 2) 0 q), before 1 (B .odd) (ne-eqb (e % 2) 1 (λ p. omega (arith, p, q))));
-        oddLast = λ q. (last 1 (B .odd) (eq-eqb (e % 2) 1 q), before 0 (B .even) (ne-eqb (e % 2) 0 (λ p. omega (arith, p, q))));
-        part =
-            last-by (K .words) e _ _ (HoldsLayer (K .words) G code e)
-            (λ q. part-holds (K .words) G code e _ (last 0 (B .even) q))
-            (λ q. part-holds (K .words) G code e _ (last 1 (B .odd) q));
-        hopsKept = over-keeps (places K) (mapl (dist G code) (range (places K))) (B .hops) (length-fill (dist G code) (places K)) (g .hops-fit);
-        evenKept = over-keeps (K .words) (encodeRow (K .words) (bits 0)) (B .even) (encode-row-length (K .words) (bits 0)) (g .even-fit);
-        oddKept = over-keeps (K .words) (encodeRow (K .words) (bits 1)) (B .odd) (encode-row-length (K .words) (bits 1)) (g .odd-fit);
-      })
+module _ (K : Shape) (G : Network) (net : IsNet G) (limit-is : G .limit ≡ places K) (s : ℕ) (o : T (G .isOpen s)) (B : Tables)
+    (hops-fit : places K ≤ length (B .hops)) (even-fit : K .words ≤ length (B .even)) (odd-fit : K .words ≤ length (B .odd)) where
+  -- what a search from s leaves, in any network that a map of this shape can hold
+  pub leaves-search : IsSearch K G s B (searchLeft (Reached (ecc (chart G) s)) (searchLeaves (K .words) G s B))
+  unfolding searchLeaves
+  leaves-search = record {
+    ecc = e;
+    answer = refl;
+    isEcc = eccentricity-is G net s o;
+    isHop = λ v ov. subst (λ (d : ℕ). IsDist G s v d) (sym (hop v (subst (λ (n : ℕ). v < n) limit-is (net .sound .below v ov)))) (hop-open G net s o v ov);
+    closed = λ v l c. hop v l ∙ hop-closed G net s o v c;
+    evenLast = λ q. (last 0 (B .even) (eq-eqb (e % 2) 0 q), before 1 (B .odd) (ne-eqb (e % 2) 1 (λ p. omega (arith, p, q))));
+    oddLast = λ q. (last 1 (B .odd) (eq-eqb (e % 2) 1 q), before 0 (B .even) (ne-eqb (e % 2) 0 (λ p. omega (arith, p, q))));
+    part =
+        last-by (K .words) e _ _ (HoldsLayer (K .words) G s e)
+        (λ q. part-holds (K .words) G s e _ (last 0 (B .even) q))
+        (λ q. part-holds (K .words) G s e _ (last 1 (B .odd) q));
+    hopsKept = over-keeps (places K) (mapl (dist G s) (range (places K))) (B .hops) (length-fill (dist G s) (places K)) hops-fit;
+    evenKept = over-keeps (K .words) (encodeRow (K .words) (bits 0)) (B .even) (encode-row-length (K .words) (bits 0)) even-fit;
+    oddKept = over-keeps (K .words) (encodeRow (K .words) (bits 1)) (B .odd) (encode-row-length (K .words) (bits 1)) odd-fit;
+  }
     where
-      G : Network
-      G = networkOf (K .words) (rec .codes) links
-
-      g : IsGranted K rec links (length (B .hops)) (length (B .even)) (length (B .odd)) code
-      g = granted K rec links (length (B .hops)) (length (B .even)) (length (B .odd)) code z
-
-      net : IsNet G
-      net = accepted-net K shape rec links B code z
-
-      o : T (G .isOpen code)
-      o = true→t (g .present)
-
       e : ℕ
-      e = ecc (chart G) code
+      e = ecc (chart G) s
 
       bits : ℕ → ℕ → Bool
-      bits parity = layerBit (dist G code) (depthFrom G code) parity
+      bits parity = layerBit (dist G s) (depthFrom G s) parity
 
-      hop : (v : ℕ) → v < places K → getD (overwrite (mapl (dist G code) (range (places K))) (B .hops)) v 0 ≡ dist G code v
-      hop v l = fill-at (dist G code) (B .hops) (places K) v 0 l
+      hop : (v : ℕ) → v < places K → getD (overwrite (mapl (dist G s) (range (places K))) (B .hops)) v 0 ≡ dist G s v
+      hop v l = fill-at (dist G s) (B .hops) (places K) v 0 l
 
-      limit-is : G .limit ≡ 64 * K .words
-      limit-is = limit-of (K .words) (rec .codes) links
-
-      last : (parity : ℕ) (old : List ℕ) → eqb (e % 2) parity ≡ true → HoldsLayer (K .words) G code e (overwrite (encodeRow (K .words) (bits parity)) old)
+      last : (parity : ℕ) (old : List ℕ) → eqb (e % 2) parity ≡ true → HoldsLayer (K .words) G s e (overwrite (encodeRow (K .words) (bits parity)) old)
       last parity old q =
-          subst (λ (d : ℕ). HoldsLayer (K .words) G code e (overwrite (encodeRow (K .words) (layerBit (dist G code) d parity)) old)) (sym (depth-is G net code o))
-          (row-last (K .words) G net limit-is code o e parity old (ecc-low (K .words) G net limit-is code o) q)
+          subst (λ (d : ℕ). HoldsLayer (K .words) G s e (overwrite (encodeRow (K .words) (layerBit (dist G s) d parity)) old)) (sym (depth-is G net s o))
+          (row-last (K .words) G net limit-is s o e parity old (ecc-low (K .words) G net limit-is s o) q)
 
-      before : (parity : ℕ) (old : List ℕ) → eqb (e % 2) parity ≡ false → HoldsBefore (K .words) G code e (overwrite (encodeRow (K .words) (bits parity)) old)
+      before : (parity : ℕ) (old : List ℕ) → eqb (e % 2) parity ≡ false → HoldsBefore (K .words) G s e (overwrite (encodeRow (K .words) (bits parity)) old)
       before parity old q =
-          subst (λ (d : ℕ). HoldsBefore (K .words) G code e (overwrite (encodeRow (K .words) (layerBit (dist G code) d parity)) old)) (sym (depth-is G net code o))
-          (row-before (K .words) G net limit-is code o e parity old (ecc-low (K .words) G net limit-is code o) q)
+          subst (λ (d : ℕ). HoldsBefore (K .words) G s e (overwrite (encodeRow (K .words) (layerBit (dist G s) d parity)) old)) (sym (depth-is G net s o))
+          (row-before (K .words) G net limit-is s o e parity old (ecc-low (K .words) G net limit-is s o) q)
+
+pub search-demand2 : (K : Shape) → IsShape K → Demand2 K
+unfolding searchCall searchGiven
+search-demand2 K shape rec links B code z =
+    let G = networkOf (K .words) (rec .codes) links in
+    let g = granted K rec links (length (B .hops)) (length (B .even)) (length (B .odd)) code z in
+    subst (λ (left : SearchLeft). IsSearch K G code B left) (ap (λ (k : ℕ). searchGiven k K rec links B code) (sym z))
+    (leaves-search K G (accepted-net K shape rec links B code z) (limit-of (K .words) (rec .codes) links) code (true→t (g .present)) B (g .hops-fit) (g .even-fit) (g .odd-fit))

@@ -1,30 +1,21 @@
 -- A sound network is connected, or some open depot is not reached from its lowest open code. Assumes nothing.
 use mathlib.Core.Path.{_≡_, refl, sym, ap, _∙_, subst}
 use mathlib.Core.Logic.{_⊎_, inl, inr}
-use mathlib.Core.Bool.{Bool, true, false, cond, _&&_}
+use mathlib.Core.Bool.{Bool, true, false, cond}
 use mathlib.Core.List.{List, [], _∷_, List·Memᴰ, List·Memᴰ·head, List·Memᴰ·tail}
 use Prim.Native.Nat.{ℕ, zero, suc, _+_, _≤_, _<_, zero-le}
 use native.Mathlib.Omega.{arith}
 use lib.Dec.{T, ltb}
 use lib.ListN.{length, getD}
 use borrow.Author.Tests.{lt-ltb}
-use Rattle.lists.specs.Lists.{from, range, filterb, allb}
+use Rattle.lists.specs.Lists.{from, range, filterb}
 use Rattle.lists.proofs.Tests.{look, eq-or-ne, t→true, clash}
+use Rattle.lists.proofs.Members.{all-fails}
 use Rattle.graph.specs.Network.{Network, IsSound}
 use Rattle.graph.specs.Distance.{vertices, unreached, dist, reachedAll, connected}
 use Rattle.graph.proofs.Distances.{vertices-out, vertices-length, dist-is, dist-below}
 use Rattle.graph.proofs.Connected.{connected-iff}
-use Rattle.search.specs.Refusals.{IsApart}
-
--- where a test does not hold of all, it fails somewhere
-all-fails : (p : ℕ → Bool) (xs : List ℕ) → allb p xs ≡ false → (x : ℕ) × List·Memᴰ x xs × (p x ≡ false)
-unfolding allb
-all-fails p [] e = absurd (clash refl e)
-all-fails p (x ∷ xs) e = go (look (p x)) (all-fails p xs)
-  where
-    go : (p x ≡ true) ⊎ (p x ≡ false) → (allb p xs ≡ false → (y : ℕ) × List·Memᴰ y xs × (p y ≡ false)) → (y : ℕ) × List·Memᴰ y (x ∷ xs) × (p y ≡ false)
-    go (inl t) more = let r = more (ap (λ (b : Bool). b && allb p xs) (sym t) ∙ e) in (r .0, List·Memᴰ·tail (r .1), r .2)
-    go (inr f) more = (x, List·Memᴰ·head refl, f)
+use Rattle.graph.specs.Refusals.{IsApart}
 
 -- the first number that passes a test is the least
 first-least : (p : ℕ → Bool) (i n r : ℕ) (vs : List ℕ) → filterb p (from i n) ≡ r ∷ vs → (u : ℕ) → i ≤ u → u < i + n → p u ≡ true → r ≤ u

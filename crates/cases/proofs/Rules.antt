@@ -1,0 +1,20 @@
+-- THE SECOND TABLE holds of the opening call on lent memory, carried over from the network. Assumes nothing.
+use mathlib.Core.Path.{_≡_, refl, _∙_}
+use mathlib.Core.Bool.{true}
+use Rattle.lists.specs.Lists.{allb}
+use Rattle.graph.specs.Cases.{followAll, noDepot}
+use Rattle.map.specs.Memory.{base}
+use Rattle.opening.specs.OpenCall.{openCall}
+use Rattle.cases.specs.Rules.{shrinkLines, shrinkAnswers, RuleCases}
+use Rattle.cases.proofs.Theorems.{areBytes, opened-lines}
+
+shrink-bytes : allb areBytes shrinkLines ≡ true
+unfolding allb areBytes
+shrink-bytes = refl
+
+shrink-followed : followAll noDepot shrinkLines ≡ shrinkAnswers
+unfolding followAll noDepot
+shrink-followed = refl
+
+pub rule-cases-hold : RuleCases (openCall base)
+rule-cases-hold = record { shrunk = λ cs e lent. opened-lines shrinkLines shrink-bytes cs e lent ∙ shrink-followed }

@@ -1,0 +1,51 @@
+-- REFUSALS 2 AND 3 of a map by their tests, before whatever tests follow them. Assumes nothing.
+use mathlib.Core.Path.{_≡_, refl}
+use mathlib.Core.Bool.{Bool, true, not, _&&_}
+use mathlib.Core.List.{List, _∷_}
+use Prim.Native.Nat.{ℕ, _<_}
+use native.Mathlib.Omega.{arith}
+use borrow.Author.Tests.{not-true, not-false}
+use Rattle.lists.proofs.Tests.{and-true}
+use Rattle.lists.proofs.Conditions.{Decides, decides-iff, decides-not, decides-nand, Tells}
+use Rattle.graph.specs.Network.{Network}
+use Rattle.graph.specs.Distance.{unreached, connected}
+use Rattle.graph.specs.Chart.{Pairs}
+use Rattle.graph.proofs.Apart.{apart-of, apart-not}
+use Rattle.map.specs.Memory.{networkOf}
+use Rattle.checks.specs.Sound.{soundLinks, soundFigures, AreLinksSound}
+use Rattle.checks.specs.Refusals.{IsSpoilt, IsMapSpoilt, IsSoundApart}
+use Rattle.checks.proofs.Theorems.{sound-links-iff, sound-figures-iff}
+
+module _ (W : ℕ) (most : W < 513) (codes links : List ℕ) (number : ℕ) where
+  abbrev G : Network
+  G = networkOf W codes links
+
+  small : G .limit < unreached
+  unfolding networkOf
+  small = omega (arith, most)
+
+  decides-links : Decides (soundLinks G number) (AreLinksSound G number)
+  decides-links = decides-iff (sound-links-iff W codes links number)
+
+  decides-apart : soundLinks G number ≡ true → Decides (not (connected G)) (IsSoundApart G number)
+  decides-apart e =
+      let s = decides-links .holds e in
+      record {
+        holds = λ t. (s, apart-of G (s .isSound) small (not-true (connected G) t));
+        fails = λ f a. apart-not G (s .isSound) small (not-false (connected G) f) (a .1);
+      }
+
+  module _ (tests : List (Bool × ℕ)) (conditions : List (Type 0 × ℕ)) (rest : Tells tests conditions) where
+    pub links-tell : Tells ((not (soundLinks (networkOf W codes links) number), 2) ∷ (not (connected (networkOf W codes links)), 3) ∷ tests)
+        ((IsSpoilt (networkOf W codes links) number, 2) ∷ (IsSoundApart (networkOf W codes links) number, 3) ∷ conditions)
+    links-tell =
+        let b = soundLinks G number in
+        (refl, decides-not b decides-links, λ f. (refl, decides-apart (not-false b f), λ g. rest))
+
+    pub map-tells : (P : Pairs) (chain count : ℕ)
+        → Tells ((not (soundLinks (networkOf W codes links) number && soundFigures (networkOf W codes links) P chain count), 2) ∷ (not (connected (networkOf W codes links)), 3) ∷ tests)
+        ((IsMapSpoilt (networkOf W codes links) number P chain count, 2) ∷ (IsSoundApart (networkOf W codes links) number, 3) ∷ conditions)
+    map-tells P chain count =
+        let a = soundLinks G number in
+        let b = soundFigures G P chain count in
+        (refl, decides-nand a b decides-links (decides-iff (sound-figures-iff G P chain count)), λ f. (refl, decides-apart (and-true a b (not-false (a && b) f) .0), λ g. rest))

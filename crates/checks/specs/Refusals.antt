@@ -1,0 +1,29 @@
+-- THE CONDITIONS OF DOCUMENT 01'S TABLE ('Numbers the scanner shows') that every call on a map shares, in the published words: 2 and 3.
+-- Assumes nothing.
+use mathlib.Core.Logic.{_⊎_}
+use mathlib.Core.List.{List, [], _∷_}
+use Prim.Native.Nat.{ℕ}
+use Rattle.graph.specs.Network.{Network}
+use Rattle.graph.specs.Chart.{Pairs}
+use Rattle.graph.specs.Refusals.{IsApart}
+use Rattle.checks.specs.Sound.{AreLinksSound, AreFiguresSound}
+
+-- 2, spoilt: the links are not sound
+abbrev pub IsSpoilt : Network → ℕ → Type 0
+IsSpoilt G number = AreLinksSound G number → ⊥
+
+-- 2 for a call that changes the map: the links or the figures are not sound
+abbrev pub IsMapSpoilt : Network → ℕ → Pairs → ℕ → ℕ → Type 0
+IsMapSpoilt G number P chain count = IsSpoilt G number ⊎ (AreFiguresSound G P chain count → ⊥)
+
+-- 3, apart: the links are sound, but some open depot is not reached from the lowest open code
+abbrev pub IsSoundApart : Network → ℕ → Type 0
+IsSoundApart G number = AreLinksSound G number × IsApart G
+
+-- the table for a call that reads the links alone
+abbrev pub linkConditions : Network → ℕ → List (Type 0 × ℕ)
+linkConditions G number = (IsSpoilt G number, 2) ∷ (IsSoundApart G number, 3) ∷ []
+
+-- the table for a call that changes the map
+abbrev pub mapConditions : Network → ℕ → Pairs → ℕ → ℕ → List (Type 0 × ℕ)
+mapConditions G number P chain count = (IsMapSpoilt G number P chain count, 2) ∷ (IsSoundApart G number, 3) ∷ []

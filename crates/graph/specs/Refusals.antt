@@ -1,0 +1,44 @@
+-- THE CONDITIONS OF DOCUMENT 01'S TABLE ('Numbers the scanner shows') that speak of the network and a notice, 3 to 8, in the published words.
+-- `notice-refusals` (proofs/Refusals) says that `noticeFaults` gives the first of 5 to 8 that holds, and 0 exactly if none does.
+-- Assumes nothing.
+use mathlib.Core.Path.{_≡_}
+use mathlib.Core.List.{List, [], _∷_, List·Memᴰ}
+use Prim.Native.Nat.{ℕ, suc, _≤_, _<_}
+use lib.Dec.{T}
+use lib.ListN.{length, getD}
+use Rattle.graph.specs.Network.{Network, Walk}
+use Rattle.graph.specs.Opening.{Notice}
+
+-- 3, apart: (the links are sound, but) some open depot is not reached from the lowest open code
+pub record IsApart (G : Network) : Type 0 where
+  pub lowest : ℕ
+  pub isOpen : T (G .isOpen lowest)
+  pub isLowest : (u : ℕ) → T (G .isOpen u) → lowest ≤ u
+  pub depot : ℕ
+  pub isDepot : T (G .isOpen depot)
+  pub noWalk : (k : ℕ) → Walk G k lowest depot → ⊥
+
+-- 4, absent: the code is closed
+abbrev pub IsAbsent : Network → ℕ → Type 0
+IsAbsent G code = T (G .isOpen code) → ⊥
+
+-- 5, taken: the code is open
+abbrev pub IsTaken : Network → ℕ → Type 0
+IsTaken G code = T (G .isOpen code)
+
+-- 6, lonely: no neighbours, though a depot is open
+abbrev pub IsLonely : Network → List ℕ → Type 0
+IsLonely G ns = (ns ≡ []) × ((u : ℕ) × (u < G .limit) × T (G .isOpen u))
+
+-- 7, unsorted: some neighbour is not above the one before it
+abbrev pub IsUnsorted : List ℕ → Type 0
+IsUnsorted ns = (i : ℕ) × (suc i < length ns) × (getD ns (suc i) 0 ≤ getD ns i 0)
+
+-- 8, unknown: some neighbour is closed
+abbrev pub IsUnknown : Network → List ℕ → Type 0
+IsUnknown G ns = (v : ℕ) × List·Memᴰ v ns × (T (G .isOpen v) → ⊥)
+
+-- the table for a notice
+abbrev pub noticeConditions : Network → Notice → List (Type 0 × ℕ)
+noticeConditions G o =
+    (IsTaken G (o .code), 5) ∷ (IsLonely G (o .neighbours), 6) ∷ (IsUnsorted (o .neighbours), 7) ∷ (IsUnknown G (o .neighbours), 8) ∷ []

@@ -1,0 +1,99 @@
+-- WHAT AN ACCEPTED OPENING LEAVES IN EVERY TABLE, by the published words. Assumes nothing.
+use mathlib.Core.Path.{_≡_, sym, ap, _∙_, subst}
+use mathlib.Core.List.{List, _∷_}
+use Prim.Native.Nat.{ℕ, zero, _<_}
+use lib.Dec.{T}
+use lib.ListN.{drop}
+use Rattle.lists.specs.Lists.{memb, lastOr}
+use Rattle.lists.proofs.Tests.{true→t}
+use Rattle.lists.proofs.Fills.{length-fill}
+use Rattle.graph.specs.Network.{Network}
+use Rattle.graph.specs.Chart.{chart, ecc}
+use Rattle.graph.specs.Rounds.{State}
+use Rattle.graph.specs.Opening.{Notice, Opened, shrank}
+use Rattle.graph.specs.Correct.{AreReferences, IsSettled}
+use Rattle.graph.proofs.Skipped.{opening-says}
+use Rattle.rows.specs.Rows.{tableBit}
+use Rattle.rows.proofs.Written.{encode-table-length}
+use Rattle.map.specs.Memory.{Shape, IsShape, places, networkOf}
+use Rattle.map.specs.declared.Record.{Record}
+use Rattle.search.specs.SearchCall.{searchLeft}
+use Rattle.search.specs.Demand2.{IsSearch}
+use Rattle.search.specs.declared.Found.the-variants.{Reached}
+use Rattle.search.proofs.Theorems.{leaves-search, over-keeps}
+use Rattle.rounds.specs.Leaves.{Lent, searchAfter, roundsLeave}
+use Rattle.rounds.specs.Sizes.{sizesOf}
+use Rattle.reckon.proofs.Longs.{AreLong, are-long}
+use Rattle.reckon.proofs.Marks.{last-memb, bound-ecc}
+use Rattle.reckon.proofs.Skips.{skip-bound, closed-at, waiting-at}
+use Rattle.outcome.specs.declared.Change.the-variants.{Shrank}
+use Rattle.outcome.specs.declared.Outcome.the-variants.{Accepted}
+use Rattle.opening.specs.OpenCall.{changeOf, openRefusal, networkAfter, openedBy, openGiven, openCall, referencesBy, referencesOf}
+use Rattle.opening.specs.Tables.{AreTables}
+use Rattle.opening.proofs.Memories.{IsHeld, open-below}
+use Rattle.opening.proofs.Grants.{granted-long, granted-net, granted-notice, granted-low, granted-chain, held-after}
+use Rattle.opening.proofs.Marks.{opened-searched, changed-shrank}
+
+shrank-changed : (o : Opened) → o .change ≡ shrank → changeOf (o .change) ≡ Accepted Shrank
+unfolding changeOf
+shrank-changed o q = ap changeOf q
+
+module _ (K : Shape) (shape : IsShape K) (rec : Record) (links : List ℕ) (B : Lent) (o : Notice) (ok : openRefusal K rec links (B .pairs) (sizesOf links B) o ≡ 0) (low : o .code < places K) where
+  abbrev H : Network
+  H = networkAfter K rec links o
+
+  abbrev x : Opened
+  x = openedBy K rec links (B .pairs) o
+
+  abbrev S : State
+  S = openedBy K rec links (B .pairs) o .final
+
+  held : IsHeld K H
+  held = held-after K shape rec links (B .pairs) (sizesOf links B) o ok low
+
+  below : (v : ℕ) → T (H .isOpen v) → v < places K
+  below = open-below K H held
+
+  long : AreLong K (sizesOf links B)
+  long = are-long K (sizesOf links B) (granted-long K shape rec links (B .pairs) (sizesOf links B) o ok)
+
+  references : AreReferences H S
+  references = opened-searched K shape rec links B o ok low .references
+
+  says : IsSettled H (o .code) x
+  unfolding networkAfter openedBy
+  says =
+      opening-says (networkOf (K .words) (rec .codes) links) (granted-net K shape rec links (B .pairs) (sizesOf links B) o ok) o
+      (granted-low K shape rec links (B .pairs) (sizesOf links B) o ok low) (granted-notice K shape rec links (B .pairs) (sizesOf links B) o ok)
+      (rec .chain) (granted-chain K shape rec links (B .pairs) (sizesOf links B) o ok) (tableBit (K .words) (B .pairs))
+
+  -- the last search
+  last-search : (rs : List ℕ) → S .references ≡ o .code ∷ rs
+      → (e : ℕ) × IsSearch K H (lastOr (o .code) rs) (B .searched) (searchLeft (Reached e) (searchAfter (K .words) H (S .references) (B .searched)))
+  unfolding searchAfter sizesOf
+  last-search rs q =
+      let s = lastOr (o .code) rs in
+      let m : T (memb s (S .references)) = true→t (ap (λ (l : List ℕ). memb s l) q ∙ last-memb (o .code) rs) in
+      let left = leaves-search K H (held .net) (held .limit) s (references .inside s m) (B .searched) (long .hops-fit) (long .even-fit) (long .odd-fit) in
+      (ecc (chart H) s, subst (λ (l : List ℕ). IsSearch K H s (B .searched) (searchLeft (Reached (ecc (chart H) s)) (searchAfter (K .words) H l (B .searched)))) (sym q) left)
+
+  given-tables : AreTables K H (o .code) (S .references) links B (openGiven zero K rec links B o)
+  unfolding openGiven roundsLeave sizesOf
+  given-tables = record {
+    later = says .first .0;
+    first = says .first .1;
+    once = λ n. ap (drop 1) (sym (says .first .1) ∙ says .once (λ q. n (shrank-changed x q)) .only);
+    eccentricity = bound-ecc K H (held .limit) below shape S references (B .bounds);
+    skipped = λ q v ov. skip-bound K H S (B .skips) (B .bounds) (says .skipped (changed-shrank (x .change) q)) v (below v ov) ov;
+    others = λ n v l d. waiting-at K H S (B .skips) (B .bounds) v l (says .once (λ q. n (shrank-changed x q)) .others v d);
+    closed = closed-at K H S (B .skips) (B .bounds);
+    searched = last-search (says .first .0) (says .first .1);
+    linksKept = over-keeps _ _ links (encode-table-length (K .words) (H .linked)) (long .links-fit);
+    pairsKept = over-keeps _ _ (B .pairs) (encode-table-length (K .words) (S .pairs)) (long .pairs-fit);
+    boundsKept = over-keeps _ _ (B .bounds) (length-fill _ (places K)) (long .bounds-fit);
+    skipsKept = over-keeps _ _ (B .skips) (length-fill _ (places K)) (long .skips-fit);
+  }
+
+  pub open-tables : AreTables K (networkAfter K rec links o) (o .code) (referencesOf K rec links B o) links B (openCall K rec links B o)
+  unfolding openCall referencesOf referencesBy
+  open-tables = subst (λ (k : ℕ). AreTables K H (o .code) (referencesBy k K rec links B o) links B (openGiven k K rec links B o)) (sym ok) given-tables

@@ -1,0 +1,46 @@
+-- WHAT AN ACCEPTED OPENING LEAVES IN EVERY TABLE, by the published words, on any stored figures that are not refused.
+-- `open-tables` (proofs/Tables) proves it of `openCall`. Which places are marked as searched stands in `IsMarked`, what the map means in `Represents`.
+-- Assumes nothing.
+use mathlib.Core.Path.{_≡_}
+use mathlib.Core.Bool.{not}
+use mathlib.Core.List.{List, [], _∷_}
+use Prim.Native.Nat.{ℕ, _<_}
+use lib.Dec.{T}
+use lib.ListN.{getD}
+use Rattle.lists.specs.Lists.{memb, lastOr}
+use Rattle.graph.specs.Network.{Network, IsEcc}
+use Rattle.graph.specs.Distance.{unreached}
+use Rattle.graph.specs.Correct.{IsSkipped}
+use Rattle.map.specs.Memory.{Shape, places, tableWords}
+use Rattle.search.specs.SearchCall.{searchLeft}
+use Rattle.search.specs.Demand2.{KeepsPast, IsSearch}
+use Rattle.search.specs.declared.Found.the-variants.{Reached}
+use Rattle.rounds.specs.Leaves.{Lent}
+use Rattle.outcome.specs.declared.Change.the-variants.{Shrank}
+use Rattle.outcome.specs.declared.Outcome.the-variants.{Accepted}
+use Rattle.opening.specs.OpenCall.{OpenLeft}
+
+-- the place of v holds neither a reference nor a bound: 257 and 65,535 in document 01
+abbrev pub IsBlank : Shape → OpenLeft → ℕ → Type 0
+IsBlank K l v = (getD (l .lent .skips) v 0 ≡ K .otherMark) × (getD (l .lent .bounds) v 0 ≡ unreached)
+
+-- An opening of a, lent the link table and the tables B: H is the network after it, references the depots that the rules search from, in order, and l
+-- what the call left.
+pub record AreTables (K : Shape) (H : Network) (a : ℕ) (references links : List ℕ) (B : Lent) (l : OpenLeft) : Type 0 where
+  -- the search from a is the first, and the only one unless the chain shrank
+  pub later : List ℕ
+  pub first : references ≡ a ∷ later
+  pub once : (l .report .outcome ≡ Accepted Shrank → ⊥) → later ≡ []
+  -- skip and bound table: a searched depot has its eccentricity; after a shrink every other was skipped by right; else every other place is blank
+  pub eccentricity : (v : ℕ) → T (memb v references) → IsEcc H (H .isOpen) v (getD (l .lent .bounds) v 0)
+  pub skipped : l .report .outcome ≡ Accepted Shrank → (v : ℕ) → T (H .isOpen v) → T (not (memb v references))
+      → IsSkipped H references (l .after .chain) v (getD (l .lent .skips) v 0) (getD (l .lent .bounds) v 0)
+  pub others : (l .report .outcome ≡ Accepted Shrank → ⊥) → (v : ℕ) → v < places K → (v ≡ a → ⊥) → IsBlank K l v
+  pub closed : (v : ℕ) → v < places K → (T (H .isOpen v) → ⊥) → IsBlank K l v
+  -- hop table and layer rows are left as the last search leaves them
+  pub searched : (e : ℕ) × IsSearch K H (lastOr a later) (B .searched) (searchLeft (Reached e) (l .lent .searched))
+  -- what stands past the named sizes stays
+  pub linksKept : KeepsPast (tableWords K) links (l .links)
+  pub pairsKept : KeepsPast (tableWords K) (B .pairs) (l .lent .pairs)
+  pub boundsKept : KeepsPast (places K) (B .bounds) (l .lent .bounds)
+  pub skipsKept : KeepsPast (places K) (B .skips) (l .lent .skips)

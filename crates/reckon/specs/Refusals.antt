@@ -1,0 +1,27 @@
+-- WHICH REFUSAL A RECKONING GIVES (document 01, 'Numbers the scanner shows'), in the published words: demand 1 for the whole reckoning.
+-- `reckon-refusals` (proofs/Theorems) says of `reckonCall` that it is refused with the first that holds, and then changes nothing.
+-- Assumes nothing.
+use mathlib.Core.List.{List, [], _∷_}
+use Prim.Native.Nat.{ℕ}
+use lib.ListN.{length}
+use Rattle.lists.specs.Conditions.{IsShort}
+use Rattle.map.specs.Memory.{Shape, places, tableWords, networkOf}
+use Rattle.checks.specs.Refusals.{linkConditions}
+use Rattle.map.specs.declared.Record.{Record}
+use Rattle.rounds.specs.Leaves.{Lent}
+
+-- the buffers that a reckoning or an opening is lent, each its named size with its length: link, pair, hop, bound and skip table, two layer rows
+abbrev pub roundsBuffers : Shape → List ℕ → Lent → List (ℕ × ℕ)
+roundsBuffers K links B =
+    (tableWords K, length links)
+    ∷ (tableWords K, length (B .pairs))
+    ∷ (places K, length (B .searched .hops))
+    ∷ (places K, length (B .bounds))
+    ∷ (places K, length (B .skips))
+    ∷ (K .words, length (B .searched .even))
+    ∷ (K .words, length (B .searched .odd))
+    ∷ []
+
+-- 1 short, 2 spoilt (links alone: whatever figures are stored), 3 apart
+abbrev pub reckonConditions : Shape → Record → List ℕ → Lent → List (Type 0 × ℕ)
+reckonConditions K rec links B = (IsShort (roundsBuffers K links B), 1) ∷ linkConditions (networkOf (K .words) (rec .codes) links) (rec .number)
