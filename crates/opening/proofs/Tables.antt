@@ -1,5 +1,5 @@
 -- WHAT AN ACCEPTED OPENING LEAVES IN EVERY TABLE, by the published words. Assumes nothing.
-use mathlib.Core.Path.{_≡_, sym, ap, _∙_, subst}
+use mathlib.Core.Path.{_≡_, refl, sym, ap, _∙_, subst}
 use mathlib.Core.List.{List, _∷_}
 use Prim.Native.Nat.{ℕ, zero, _<_}
 use lib.Dec.{T}
@@ -10,6 +10,7 @@ use Rattle.lists.proofs.Fills.{length-fill}
 use Rattle.graph.specs.Network.{Network}
 use Rattle.graph.specs.Chart.{chart, ecc}
 use Rattle.graph.specs.Rounds.{State}
+use Rattle.graph.specs.Opening as Graph
 use Rattle.graph.specs.Opening.{Notice, Opened, shrank}
 use Rattle.graph.specs.Correct.{AreReferences, IsSettled}
 use Rattle.graph.proofs.Skipped.{opening-says}
@@ -26,7 +27,8 @@ use Rattle.rounds.specs.Sizes.{sizesOf}
 use Rattle.reckon.proofs.Longs.{AreLong, are-long}
 use Rattle.reckon.proofs.Marks.{last-memb, bound-ecc}
 use Rattle.reckon.proofs.Skips.{skip-bound, closed-at, waiting-at}
-use Rattle.outcome.specs.declared.Change.the-variants.{Shrank}
+use Rattle.outcome.specs.declared.Change.{Change}
+use Rattle.outcome.specs.declared.Change.the-variants.{Grew, Kept, Shrank}
 use Rattle.outcome.specs.declared.Outcome.the-variants.{Accepted}
 use Rattle.opening.specs.OpenCall.{changeOf, openRefusal, networkAfter, openedBy, openGiven, openCall, referencesBy, referencesOf}
 use Rattle.opening.specs.Tables.{AreTables}
@@ -37,6 +39,12 @@ use Rattle.opening.proofs.Marks.{opened-searched, changed-shrank}
 shrank-changed : (o : Opened) → o .change ≡ shrank → changeOf (o .change) ≡ Accepted Shrank
 unfolding changeOf
 shrank-changed o q = ap changeOf q
+
+changed-accepted : (c : Graph.Change) → (d : Change) × (changeOf c ≡ Accepted d)
+unfolding changeOf
+changed-accepted Graph.grew = (Grew, refl)
+changed-accepted Graph.kept = (Kept, refl)
+changed-accepted Graph.shrank = (Shrank, refl)
 
 module _ (K : Shape) (shape : IsShape K) (rec : Record) (links : List ℕ) (B : Lent) (o : Notice) (ok : openRefusal K rec links (B .pairs) (sizesOf links B) o ≡ 0) (low : o .code < places K) where
   abbrev H : Network
@@ -80,6 +88,8 @@ module _ (K : Shape) (shape : IsShape K) (rec : Record) (links : List ℕ) (B : 
   given-tables : AreTables K H (o .code) (S .references) links B (openGiven zero K rec links B o)
   unfolding openGiven roundsLeave sizesOf
   given-tables = record {
+    change = changed-accepted (x .change) .0;
+    accepted = changed-accepted (x .change) .1;
     later = says .first .0;
     first = says .first .1;
     once = λ n. ap (drop 1) (sym (says .first .1) ∙ says .once (λ q. n (shrank-changed x q)) .only);

@@ -16,6 +16,7 @@ use Rattle.search.specs.SearchCall.{searchLeft}
 use Rattle.search.specs.Demand2.{KeepsPast, IsSearch}
 use Rattle.search.specs.declared.Found.the-variants.{Reached}
 use Rattle.rounds.specs.Leaves.{Lent}
+use Rattle.outcome.specs.declared.Change.{Change}
 use Rattle.outcome.specs.declared.Change.the-variants.{Shrank}
 use Rattle.outcome.specs.declared.Outcome.the-variants.{Accepted}
 use Rattle.opening.specs.OpenCall.{OpenLeft}
@@ -27,6 +28,9 @@ IsBlank K l v = (getD (l .lent .skips) v 0 ≡ K .otherMark) × (getD (l .lent .
 -- An opening of a, lent the link table and the tables B: H is the network after it, references the depots that the rules search from, in order, and l
 -- what the call left.
 pub record AreTables (K : Shape) (H : Network) (a : ℕ) (references links : List ℕ) (B : Lent) (l : OpenLeft) : Type 0 where
+  -- grew, kept or shrank
+  pub change : Change
+  pub accepted : l .report .outcome ≡ Accepted change
   -- the search from a is the first, and the only one unless the chain shrank
   pub later : List ℕ
   pub first : references ≡ a ∷ later
