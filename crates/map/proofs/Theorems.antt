@@ -5,22 +5,21 @@ use mathlib.Core.Bool.{Bool, true, false, not, _&&_, and-true as and-with-true}
 use mathlib.Core.List.{List, [], _∷_}
 use Prim.Native.Nat.{ℕ, zero, suc, _*_, _<_}
 use native.Mathlib.Omega.{arith}
-use lib.Dec.{T, eqb, ltb, leb, lit<, lit≤}
-use lib.ListN.{length}
+use lib.Dec.{T, eqb, ltb, lit<, lit≤}
 use borrow.Author.Tests.{ltb-true, lt-ltb, eqb-true, eqb-false, eq-eqb, ne-eqb, not-true}
 use Rattle.lists.specs.Lists.{range, countb, allb}
-use Rattle.lists.specs.Conditions.{Refuses}
+use Rattle.lists.specs.Conditions.{IsShort}
 use Rattle.lists.proofs.Conditions.{decides-short, refuses-by}
 use Rattle.lists.proofs.Counts.{count-none}
 use Rattle.lists.proofs.Tests.{t→true, true→t, false→not, and-true, and-intro}
 use Rattle.rows.specs.Rows.{rowBit, tableBit}
 use Rattle.graph.specs.Network.{Network}
 use Rattle.graph.specs.Chart.{Pairs, countPairs}
-use Rattle.map.specs.Memory.{Shape, tableWords, networkOf, IsShape, base}
+use Rattle.map.specs.Memory.{Shape, networkOf, IsShape, base}
 use Rattle.map.specs.Sound.{allSet, soundLink, soundLinks, soundPair, soundFigures, AreLinksSound, AreFiguresSound}
-use Rattle.map.specs.Empty.{emptyRecord, emptyRefusal, emptyGiven, emptyCall, EmptyLeft, emptyConditions, IsEmpty, refusalOf}
+use Rattle.map.specs.Empty.{emptyRecord, emptyRefusal, emptyGiven, emptyCall, EmptyLeft, emptyBuffers, Demand1, IsEmpty, refusalOf}
 use Rattle.map.specs.declared.Record.{Record}
-use Rattle.map.specs.declared.Emptying.the-variants.{Done, Refused}
+use Rattle.map.specs.declared.Emptying.the-variants.{Done}
 use Rattle.map.proofs.Sums.{sum-none}
 use Rattle.map.proofs.Empties.{row-zeros, table-zeros}
 use Rattle.map.proofs.Sets.{all-set-intro, all-set-elim}
@@ -149,13 +148,11 @@ emptying-numbered K rec links pairs = go (emptyRefusal K links pairs)
     go (suc k) = refl
 
 -- refused if and only if a table is short, and then nothing changes
-pub empty-refusals : (K : Shape) (rec : Record) (links pairs : List ℕ)
-    → Refuses (emptyConditions K links pairs) (refusalOf (emptyCall K rec links pairs .answer)) (λ k. record { answer = Refused k; after = rec; links = links; pairs = pairs }) (emptyCall K rec links pairs)
+pub empty-refusals : (K : Shape) → Demand1 K (emptyCall K)
 unfolding emptyCall emptyRefusal emptyGiven allb
 empty-refusals K rec links pairs =
-    let buffers : List (ℕ × ℕ) = (tableWords K, length links) ∷ (tableWords K, length pairs) ∷ [] in
-    refuses-by ((not (leb (tableWords K) (length links) && leb (tableWords K) (length pairs)), 1) ∷ []) (emptyConditions K links pairs)
-    (refl, rw and-with-true at (decides-short buffers), λ f. tt)
+    refuses-by _ ((IsShort (emptyBuffers K links pairs), 1) ∷ [])
+    (refl, rw and-with-true at (decides-short (emptyBuffers K links pairs)), λ f. tt)
     (λ k. emptyGiven k K rec links pairs) _ (λ l. refusalOf (l .answer)) numbered (λ k. refl)
   where
     numbered : (k : ℕ) → refusalOf (emptyGiven k K rec links pairs .answer) ≡ k

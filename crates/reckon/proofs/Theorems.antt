@@ -7,7 +7,6 @@ use Prim.Native.Nat.{ℕ, zero, suc, _*_, _<_}
 use native.Mathlib.Omega.{arith}
 use lib.Dec.{T}
 use Rattle.lists.specs.Lists.{range, allb, countb, memb, lastOr}
-use Rattle.lists.specs.Conditions.{Refuses}
 use Rattle.lists.proofs.Tests.{true→t}
 use Rattle.lists.proofs.Conditions.{allFit, decides-short, refuses-by}
 use Rattle.lists.proofs.Fills.{length-fill}
@@ -29,8 +28,8 @@ use Rattle.search.specs.declared.Found.the-variants.{Reached}
 use Rattle.search.proofs.Theorems.{leaves-search, over-keeps}
 use Rattle.rounds.specs.Leaves.{Lent, roundsLeave, searchAfter}
 use Rattle.rounds.specs.Sizes.{sizesOf, longEnough}
-use Rattle.reckon.specs.ReckonCall.{linkFaults, reckonRefusal, figuredBy, reckonLeft, reckonGiven, reckonCall, refusalOf}
-use Rattle.reckon.specs.Refusals.{roundsBuffers, reckonConditions}
+use Rattle.reckon.specs.ReckonCall.{linkFaults, reckonRefusal, figuredBy, reckonGiven, reckonCall, refusalOf}
+use Rattle.reckon.specs.Refusals.{roundsBuffers, reckonConditions, Demand1}
 use Rattle.reckon.specs.Demand2.{IsReckoning, Demand2}
 use Rattle.reckon.specs.declared.Reckoning.the-variants.{Refused}
 use Rattle.reckon.proofs.Longs.{AreLong}
@@ -139,8 +138,7 @@ pub long-is : (K : Shape) (links : List ℕ) (B : Lent) → longEnough K (sizesO
 unfolding longEnough sizesOf allb
 long-is K links B = simp (and-assoc, and-with-true)
 
-pub reckon-refusals : (K : Shape) → IsShape K → (rec : Record) (links : List ℕ) (B : Lent)
-    → Refuses (reckonConditions K rec links B) (refusalOf (reckonCall K rec links B .reckoned .answer)) (λ k. reckonLeft (record { answer = Refused k; after = rec }) B) (reckonCall K rec links B)
+pub reckon-refusals : (K : Shape) → IsShape K → Demand1 K (reckonCall K)
 unfolding reckonCall reckonRefusal linkFaults reckonGiven
 reckon-refusals K shape rec links B =
     refuses-by _ (reckonConditions K rec links B) (
