@@ -19,10 +19,10 @@ abbrev joined : ℕ → List ℕ → List ℕ → (ℕ → ℕ → Bool) → ℕ
 joined a ms ns f u v = (eqb u a && memb v ms) || (eqb v a && memb u ns) || f u v
 
 -- the table that the loop has made of old when a is linked to each of ns
-abbrev pub linkedTo : ℕ → ℕ → List ℕ → List ℕ → List ℕ
-linkedTo W a ns old = overwrite (encodeTable W (joined a ns ns (tableBit W old))) old
+abbrev pub withLinks : ℕ → ℕ → List ℕ → List ℕ → List ℕ
+withLinks W a ns old = overwrite (encodeTable W (joined a ns ns (tableBit W old))) old
 
-pub linked-start : (W a : ℕ) (ns old : List ℕ) → W * (64 * W) ≤ length old → ((i : ℕ) → i < W * (64 * W) → getD old i 0 < 2 ^ 64) → old ≡ linkedTo W a (take 0 ns) old
+pub linked-start : (W a : ℕ) (ns old : List ℕ) → W * (64 * W) ≤ length old → ((i : ℕ) → i < W * (64 * W) → getD old i 0 < 2 ^ 64) → old ≡ withLinks W a (take 0 ns) old
 unfolding memb
 linked-start W a ns old l fits =
     table-whole W old l fits
@@ -66,8 +66,8 @@ memb-take v ns i l =
     ∙ ap (λ (ms : List ℕ). memb v ms) (take-suc ns i 0 l)
     ∙ memb-snoc v (take i ns) (getD ns i 0)
 
-pub linked-turn : (W a : ℕ) (ns old : List ℕ) (i : ℕ) {l m r : List ℕ} → l ≡ linkedTo W a (take i ns) old → m ≡ putBit W a (getD ns i 0) true l → r ≡ putBit W (getD ns i 0) a true m
-    → i < length ns → a < 64 * W → getD ns i 0 < 64 * W → r ≡ linkedTo W a (take (i + 1) ns) old
+pub linked-turn : (W a : ℕ) (ns old : List ℕ) (i : ℕ) {l m r : List ℕ} → l ≡ withLinks W a (take i ns) old → m ≡ putBit W a (getD ns i 0) true l → r ≡ putBit W (getD ns i 0) a true m
+    → i < length ns → a < 64 * W → getD ns i 0 < 64 * W → r ≡ withLinks W a (take (i + 1) ns) old
 linked-turn W a ns old i e e₁ e₂ h la ln =
     e₂
     ∙ ap (λ (t : List ℕ). putBit W n a true t) (e₁ ∙ ap (λ (t : List ℕ). putBit W a n true t) e ∙ put-table W a n true (joined a (take i ns) (take i ns) f) old la ln ∙ again there)
@@ -98,5 +98,5 @@ linked-turn W a ns old i e e₁ e₂ h la ln =
 
 -- ---- the end
 
-pub linked-end : (W a : ℕ) (ns old l : List ℕ) (i : ℕ) → l ≡ linkedTo W a (take i ns) old → length ns ≤ i → l ≡ linkedTo W a ns old
-linked-end W a ns old l i e h = e ∙ ap (λ (ms : List ℕ). linkedTo W a ms old) (take-all i ns h)
+pub linked-end : (W a : ℕ) (ns old l : List ℕ) (i : ℕ) → l ≡ withLinks W a (take i ns) old → length ns ≤ i → l ≡ withLinks W a ns old
+linked-end W a ns old l i e h = e ∙ ap (λ (ms : List ℕ). withLinks W a ms old) (take-all i ns h)

@@ -1,10 +1,16 @@
 // A line's map, and the notices that it takes.
 use map::Record;
-use opening::Opened;
+use opening::Returned;
 use outcome::Outcome;
 
 // An opening with scratch of its own.
-fn open(rec: Record, links: &mut [u64], pairs: &mut [u64], code: u8, neighbours: &[u8]) -> Opened {
+fn open(
+    rec: Record,
+    links: &mut [u64],
+    pairs: &mut [u64],
+    code: u8,
+    neighbours: &[u8],
+) -> Returned {
     let mut hops = [0u16; 256];
     let mut bounds = [0u16; 256];
     let mut skips = [0u16; 256];
@@ -25,7 +31,7 @@ fn open(rec: Record, links: &mut [u64], pairs: &mut [u64], code: u8, neighbours:
 }
 
 // The number of the refusal, 0 for an opening that was accepted.
-fn refusal(got: Opened) -> u8 {
+fn refusal(got: Returned) -> u8 {
     let report = got.report;
     let outcome = report.outcome;
     match outcome {
@@ -49,12 +55,12 @@ fn begin(links: &mut [u64], pairs: &mut [u64]) -> Record {
 }
 
 // Notice A: 3 opens beside 2.
-fn take_a(rec: Record, links: &mut [u64], pairs: &mut [u64]) -> Opened {
+fn take_a(rec: Record, links: &mut [u64], pairs: &mut [u64]) -> Returned {
     open(rec, links, pairs, 3, b"\x02")
 }
 
 // Notice B: 4 opens beside `near`.
-fn take_b(rec: Record, links: &mut [u64], pairs: &mut [u64], near: u8) -> Opened {
+fn take_b(rec: Record, links: &mut [u64], pairs: &mut [u64], near: u8) -> Returned {
     let beside = [near; 1];
     open(rec, links, pairs, 4, &beside)
 }

@@ -11,7 +11,7 @@ use Rattle.graph.specs.Network.{Network}
 use Rattle.graph.specs.Distance.{vertices}
 use Rattle.graph.specs.Chart.{chart, Pairs, diameter, farthest, countPairs}
 use Rattle.graph.specs.Opening.{Notice, Change, grew, kept, shrank, addDepot, noticeFaults, Opened, opening}
-use Rattle.graph.specs.Cases.{pairList, Line, letterOf, Figured, lineFor, followOne, followAll}
+use Rattle.graph.specs.Cases.{pairList, AnswerLine, caseLetter, PlainMap, lineFor, followOne, followAll}
 use Rattle.graph.proofs.Theorems.{figures-are, true-chain, true-pairs, farthest-is, net-after, opening-correct}
 use Rattle.map.specs.Memory.{base}
 use Rattle.map.specs.declared.Record.{Record}
@@ -34,7 +34,7 @@ use Rattle.cases.proofs.Listings.{pairs-open, count-open}
 use Rattle.map.proofs.Theorems.{base-shape}
 
 -- a network with its own figures
-abbrev pub figuredFor : Network → Figured
+abbrev pub figuredFor : Network → PlainMap
 figuredFor G = record { net = G; chain = diameter G; pairs = farthest G }
 
 -- ---- graph's definitions, opened one step
@@ -49,13 +49,13 @@ unfolding vertices
 vertices-are N = refl
 
 -- the figures and the line of an opening that leaves x in the network N
-abbrev figuredBy : Network → Opened → Figured
+abbrev figuredBy : Network → Opened → PlainMap
 figuredBy N x = record { net = N; chain = x .final .candidate; pairs = x .final .pairs }
 
-abbrev lineBy : Network → Opened → Line
-lineBy N x = lineFor (letterOf (x .change)) 0 (length (x .final .references)) (figuredBy N x)
+abbrev lineBy : Network → Opened → AnswerLine
+lineBy N x = lineFor (caseLetter (x .change)) 0 (length (x .final .references)) (figuredBy N x)
 
-accepted-is : (M : Figured) (o : Notice)
+accepted-is : (M : PlainMap) (o : Notice)
     → followOne zero M o ≡ (
       figuredBy (addDepot (M .net) (o .code) (o .neighbours)) (opening (chart (addDepot (M .net) (o .code) (o .neighbours))) (o .code) (M .chain) (M .pairs)),
       lineBy (addDepot (M .net) (o .code) (o .neighbours)) (opening (chart (addDepot (M .net) (o .code) (o .neighbours))) (o .code) (M .chain) (M .pairs)),
@@ -63,11 +63,11 @@ accepted-is : (M : Figured) (o : Notice)
 unfolding followOne
 accepted-is M o = refl
 
-refused-is : (k : ℕ) (M : Figured) (o : Notice) → followOne (suc k) M o ≡ (M, lineFor 82 (suc k) 0 M)
+refused-is : (k : ℕ) (M : PlainMap) (o : Notice) → followOne (suc k) M o ≡ (M, lineFor 82 (suc k) 0 M)
 unfolding followOne
 refused-is k M o = refl
 
-follow-cons : (M : Figured) (o : Notice) (os : List Notice)
+follow-cons : (M : PlainMap) (o : Notice) (os : List Notice)
     → followAll M (o ∷ os) ≡ followOne (firstOf (noticeFaults (M .net) o)) M o .1 ∷ followAll (followOne (firstOf (noticeFaults (M .net) o)) M o .0) os
 unfolding followAll
 follow-cons M o os = refl
@@ -100,8 +100,8 @@ line-read N D P limit ends l s =
     listed = sym (pairs-open P (N .isOpen) ends (range 256)) ∙ ap (λ (vs : List ℕ). pairList vs P) open-codes
 
 -- the letters of specs and graph are one
-letter-same : (c : Change) → Outcome.letterOf (changeOf c) ≡ letterOf c
-unfolding Outcome.letterOf changeOf letterOf
+letter-same : (c : Change) → Outcome.letterOf (changeOf c) ≡ caseLetter c
+unfolding Outcome.letterOf changeOf caseLetter
 letter-same grew = refl
 letter-same kept = refl
 letter-same shrank = refl
@@ -171,14 +171,14 @@ module _ (G : Network) (held : IsHeld base G) (c : Call) (call : IsCall base c) 
         line-read H (x .final .candidate) (x .final .pairs) (held-after base base-shape R L (B .pairs) (sizesOf L B) o ok (call .code) .limit) ends l (left-stores base R L B o base-shape ok (call .code))
         ∙ given-line
         ∙ ap₂ lineBy (same .0) (same .1)
-        ∙ sym (ap (λ (r : Figured × Line). r .1) (accepted-is (figuredFor G) o))
+        ∙ sym (ap (λ (r : PlainMap × AnswerLine). r .1) (accepted-is (figuredFor G) o))
 
   accepted-next : firstOf (noticeFaults G o) ≡ 0 → followOne zero (figuredFor G) o .0 ≡ figuredFor N
   accepted-next ok =
       let low = subst (λ (n : ℕ). o .code < n) (sym (held .limit)) (call .code) in
       let net = net-after G (held .net) o low ok (diameter G) (farthest G) in
       let figures = opening-correct G (held .net) o low ok (diameter G) (farthest G) (figures-are G (held .net)) .figures in
-      ap (λ (r : Figured × Line). r .0) (accepted-is (figuredFor G) o)
+      ap (λ (r : PlainMap × AnswerLine). r .0) (accepted-is (figuredFor G) o)
       ∙ (λ i. record {
         net = N;
         chain = true-chain N net (y .final .candidate) (y .final .pairs) figures i;
@@ -194,7 +194,7 @@ module _ (G : Network) (held : IsHeld base G) (c : Call) (call : IsCall base c) 
   unfolding openGiven Outcome.letterOf Outcome.refusalOf
   refused-line k =
       line-read G (diameter G) (farthest G) (held .limit) own-ends (openGiven (suc k) base R L B o) says
-      ∙ sym (ap (λ (r : Figured × Line). r .1) (refused-is k (figuredFor G) o))
+      ∙ sym (ap (λ (r : PlainMap × AnswerLine). r .1) (refused-is k (figuredFor G) o))
 
   -- ---- either
 
@@ -212,7 +212,7 @@ module _ (G : Network) (held : IsHeld base G) (c : Call) (call : IsCall base c) 
     where
       go : (k : ℕ) → firstOf (noticeFaults G o) ≡ k → followOne k (figuredFor G) o .0 ≡ figuredFor (plainNext k G o)
       go zero ok = accepted-next ok
-      go (suc k) ko = ap (λ (r : Figured × Line). r .0) (refused-is k (figuredFor G) o)
+      go (suc k) ko = ap (λ (r : PlainMap × AnswerLine). r .0) (refused-is k (figuredFor G) o)
 
 -- ---- A LIST OF CALLS
 
@@ -221,7 +221,7 @@ lines-cons : (M : Memory) (c : Call) (cs : List Call)
 unfolding answersOf
 lines-cons M c cs = refl
 
-lines-nil : (M : Memory) (F : Figured) → answersOf (openCall base) M [] ≡ followAll F []
+lines-nil : (M : Memory) (F : PlainMap) → answersOf (openCall base) M [] ≡ followAll F []
 unfolding answersOf followAll
 lines-nil M F = refl
 
@@ -234,7 +234,7 @@ lines-are G held (c ∷ cs) calls lent =
     let H = plainNext (plainRefusal base G (feedOf base c)) G (c .notice) in
     let same = ap (λ (k : ℕ). figuredFor (plainNext k G (c .notice))) (plain-is G held c call long) in
     lines-cons (memoryFor base G) c cs
-    ∙ ap₂ (λ (r : Line) (M : Memory). r ∷ answersOf (openCall base) M cs) (call-line G held c call long) (call-memory base base-shape G held c call)
-    ∙ ap₂ (λ (r : Line) (rs : List Line). r ∷ rs) refl (lines-are H (one-step base base-shape G held c call .isHeld) cs (λ d m. calls d (List·Memᴰ·tail m)) (λ d m. lent d (List·Memᴰ·tail m)))
-    ∙ ap (λ (M : Figured). followOne (firstOf (noticeFaults G (c .notice))) (figuredFor G) (c .notice) .1 ∷ followAll M (noticesOf cs)) (same ∙ sym (call-next G held c call long))
+    ∙ ap₂ (λ (r : AnswerLine) (M : Memory). r ∷ answersOf (openCall base) M cs) (call-line G held c call long) (call-memory base base-shape G held c call)
+    ∙ ap₂ (λ (r : AnswerLine) (rs : List AnswerLine). r ∷ rs) refl (lines-are H (one-step base base-shape G held c call .isHeld) cs (λ d m. calls d (List·Memᴰ·tail m)) (λ d m. lent d (List·Memᴰ·tail m)))
+    ∙ ap (λ (M : PlainMap). followOne (firstOf (noticeFaults G (c .notice))) (figuredFor G) (c .notice) .1 ∷ followAll M (noticesOf cs)) (same ∙ sym (call-next G held c call long))
     ∙ sym (follow-cons (figuredFor G) (c .notice) (noticesOf cs))

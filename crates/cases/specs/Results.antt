@@ -1,4 +1,4 @@
--- WHAT A CALL LEFT in lent memory, read as numbers and pairs: a reckoning's `Result`, and an opening's `Line` (graph, Cases.antt).
+-- WHAT A CALL LEFT in lent memory, read as numbers and pairs: a reckoning's `Result`, and an opening's `AnswerLine` (graph, Cases.antt).
 -- Assumes nothing.
 use mathlib.Core.Path.{_≡_}
 use mathlib.Core.Bool.{true}
@@ -11,12 +11,12 @@ use Rattle.graph.specs.Network.{Network}
 use Rattle.graph.specs.Chart.{chart}
 use Rattle.graph.specs.Rounds.{reckon}
 use Rattle.graph.specs.Opening.{Notice}
-use Rattle.graph.specs.Cases.{pairList, Line}
+use Rattle.graph.specs.Cases.{pairList, AnswerLine}
 use Rattle.map.specs.Memory.{base, networkOf}
 use Rattle.map.specs.declared.Record.{Record}
 use Rattle.rounds.specs.Leaves.{Lent}
 use Rattle.rounds.specs.Sizes.{sizesOf, longEnough}
-use Rattle.reckon.specs.ReckonCall.{refusalOf, searchesOf, ReckonLeft}
+use Rattle.reckon.specs.ReckonCall.{reckoningNumber, searchesOf, ReckonLeft}
 use Rattle.outcome.specs.Outcome as Outcome
 use Rattle.opening.specs.OpenCall.{OpenLeft}
 use Rattle.opening.specs.Memory.{Memory}
@@ -57,7 +57,7 @@ unfoldable pub resultOf : (Record → List ℕ → Lent → ReckonLeft) → Reco
 resultOf step rec links B =
     let l = step rec links B in
     record {
-      refusal = refusalOf (l .reckoned .answer);
+      refusal = reckoningNumber (l .reckoned .answer);
       searches = searchesOf (l .reckoned .answer);
       references = reckon (chart (networkOf 4 (rec .codes) links)) .references;
       number = l .reckoned .after .number;
@@ -71,7 +71,7 @@ resultOf step rec links B =
 -- ---- the stream's openings
 
 -- letter, refusal, depots open, chain, pair count, searches; the pairs
-unfoldable pub answerOf : OpenLeft → Line
+unfoldable pub answerOf : OpenLeft → AnswerLine
 answerOf l = record {
   letter = Outcome.letterOf (l .report .outcome);
   refusal = Outcome.refusalOf (l .report .outcome);
@@ -83,7 +83,7 @@ answerOf l = record {
 }
 
 -- the lines of a list of calls, each lent the map as the last one left it, of a program whose opening call is `step`
-unfoldable pub answersOf : Step → Memory → List Call → List Line
+unfoldable pub answersOf : Step → Memory → List Call → List AnswerLine
 answersOf step M [] = []
 answersOf step M (c ∷ cs) = let l = callStep step M c in answerOf l ∷ answersOf step (memoryAfter M c l) cs
 

@@ -5,7 +5,7 @@
 use mathlib.Core.Path.{_≡_}
 use mathlib.Core.List.{List, [], _∷_}
 use Rattle.graph.specs.Opening.{Notice}
-use Rattle.graph.specs.Cases.{Line}
+use Rattle.graph.specs.Cases.{AnswerLine}
 use Rattle.map.specs.Memory.{base}
 use Rattle.opening.specs.Memory.{emptyMemory}
 use Rattle.history.specs.History.{Call}
@@ -25,7 +25,7 @@ shrinkLines =
     ∷ []
 
 -- letter (75 K, 71 G, 83 S) and refusal, depots open, chain, pair count, searches; and the pairs
-abbrev pub shrinkAnswers : List Line
+abbrev pub shrinkAnswers : List AnswerLine
 shrinkAnswers =
     record { letter = 75; refusal = 0; number = 1; chain = 0; count = 0; searches = 1; pairs = [] }
     ∷ record { letter = 71; refusal = 0; number = 2; chain = 1; count = 1; searches = 1; pairs = (0, 1) ∷ [] }

@@ -9,7 +9,7 @@ use Prim.Native.String.{String}
 use lib.ListN.{length}
 use Rattle.lists.specs.Lists.{overwrite}
 use Rattle.rows.specs.Rows.{encodeRow, encodeTable}
-use Rattle.graph.specs.Cases.{path, Line, sevenLines}
+use Rattle.graph.specs.Cases.{path, AnswerLine, sevenLines}
 use Rattle.map.specs.Memory.{base, networkOf}
 use Rattle.map.specs.Empty.{EmptyLeft}
 use Rattle.map.specs.declared.Record.{Record}
@@ -69,7 +69,7 @@ sevenResult = record {
 }
 
 -- the seven lines of the stream: letter (75 K, 71 G, 83 S, 82 R) and refusal, depots open, chain, pair count, searches; and the pairs
-abbrev pub sevenAnswers : List Line
+abbrev pub sevenAnswers : List AnswerLine
 sevenAnswers =
     record { letter = 75; refusal = 0; number = 1; chain = 0; count = 0; searches = 1; pairs = [] }
     ∷ record { letter = 71; refusal = 0; number = 2; chain = 1; count = 1; searches = 1; pairs = (0, 1) ∷ [] }

@@ -43,9 +43,13 @@ module _ (W : ℕ) (most : W < 513) (codes links : List ℕ) (number : ℕ) wher
         (refl, decides-not b decides-links, λ f. (refl, decides-apart (not-false b f), λ g. rest))
 
     pub map-tells : (P : Pairs) (chain count : ℕ)
-        → Tells ((not (soundLinks (networkOf W codes links) number && soundFigures (networkOf W codes links) P chain count), 2) ∷ (not (connected (networkOf W codes links)), 3) ∷ tests)
+        → Tells
+        ((not (soundLinks (networkOf W codes links) number && soundFigures (networkOf W codes links) P chain count), 2)
+        ∷ (not (connected (networkOf W codes links)), 3)
+        ∷ tests)
         ((IsMapSpoilt (networkOf W codes links) number P chain count, 2) ∷ (IsSoundApart (networkOf W codes links) number, 3) ∷ conditions)
     map-tells P chain count =
         let a = soundLinks G number in
         let b = soundFigures G P chain count in
-        (refl, decides-nand a b decides-links (decides-iff (sound-figures-iff G P chain count)), λ f. (refl, decides-apart (and-true a b (not-false (a && b) f) .0), λ g. rest))
+        let figures = decides-iff (sound-figures-iff G P chain count) in
+        (refl, decides-nand a b decides-links figures, λ f. (refl, decides-apart (and-true a b (not-false (a && b) f) .0), λ g. rest))

@@ -128,7 +128,7 @@ stepOf W links layer k hops other seen =
     }
 
 -- the sizes that the inner functions ask: W words in each row, a row of links and a hop for each code
-pub record Room (W : ℕ) (links hops : List ℕ) : Type 0 where
+pub record SearchRoom (W : ℕ) (links hops : List ℕ) : Type 0 where
   pub positive : 0 < W
   pub most : W < 513
   pub table : W * (64 * W) ≤ length links

@@ -5,7 +5,7 @@ ghost use Prim.Native.Nat.{_+_, _*_, _<_, _≤_};
 ghost use lib.ListN.{length};
 ghost use Rattle.words.specs.Bits.{bit, wordOf};
 ghost use Rattle.rows.specs.Rows.{rowBit, tableBit};
-ghost use Rattle.frontier.specs.Steps.{Room, AreWords, noWords, reached, reachSet, putWord, visited, visitOf};
+ghost use Rattle.frontier.specs.Steps.{SearchRoom, AreWords, noWords, reached, reachSet, putWord, visited, visitOf};
 ghost use Rattle.rows.specs.Rows.{inWord};
 ghost use Rattle.frontier.specs.Steps.{unseen, unseenOf, passed, passOn, stepped, stepOf};
 
@@ -40,7 +40,7 @@ fn reach_word(
     j: usize,
     k: u16,
 ) -> Four
-    requires { ⌜ Room words (now links) (now hops) × AreWords from × (w < words) × (j < words) ⌝ }
+    requires { ⌜ SearchRoom words (now links) (now hops) × AreWords from × (w < words) × (j < words) ⌝ }
     ensures { λ r. ⌜ reached r (now (hops .exit)) ≡ reachSet words (now (links .entry)) k j (inWord w word) (reached from (now (hops .entry))) ⌝ }
 {
     let mut a = from.a;
@@ -74,7 +74,7 @@ fn reach_layer(
     j: usize,
     k: u16,
 ) -> Four
-    requires { ⌜ Room words (now links) (now hops) × (words ≤ length (now layer)) × (j < words) ⌝ }
+    requires { ⌜ SearchRoom words (now links) (now hops) × (words ≤ length (now layer)) × (j < words) ⌝ }
     ensures { λ r.
         let before = reached noWords (now (hops .entry)) in
         let members = rowBit words (now (layer .entry)) in
@@ -107,7 +107,7 @@ fn put_word(row: &mut [u64], words: usize, j: usize, x: u64)
 // Visits the members of a layer: each gets the hop k, and the codes linked to it are next. Four words of next at a time, so that a row of
 // four is visited once; a longer one gets its hops again with each four.
 fn visit(next: &mut [u64], hops: &mut [u16], links: &[u64], layer: &[u64], words: usize, k: u16)
-    requires { ⌜ Room words (now links) (now hops) × (words ≤ length (now next)) × (words ≤ length (now layer)) ⌝ }
+    requires { ⌜ SearchRoom words (now links) (now hops) × (words ≤ length (now next)) × (words ≤ length (now layer)) ⌝ }
     ensures { λ r.
         let before = visited (now (next .entry)) (now (hops .entry)) in
         let after = visited (now (next .exit)) (now (hops .exit)) in
@@ -166,7 +166,7 @@ pub fn step(
     words: usize,
     k: u16,
 ) -> bool
-    requires { ⌜ Room words (now links) (now hops)
+    requires { ⌜ SearchRoom words (now links) (now hops)
         × (words ≤ length (now layer))
         × (words ≤ length (now other))
         × (words ≤ length (now seen))

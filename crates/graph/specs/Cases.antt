@@ -36,14 +36,14 @@ unfoldable pub path : ℕ → Network
 path k = record { limit = 256; isOpen = λ c. ltb c k; linked = λ u v. ltb u k && ltb v k && (eqb (suc u) v || eqb u (suc v)) }
 
 -- references in order; marks and bounds of the open depots; chain; pairs
-pub record Reckoning : Type 0 where
+pub record ReckoningCase : Type 0 where
   pub references : List ℕ
   pub marks : List ℕ
   pub bounds : List ℕ
   pub chain : ℕ
   pub pairs : List (ℕ × ℕ)
 
-unfoldable pub reckoning : Network → Reckoning
+unfoldable pub reckoning : Network → ReckoningCase
 unfolding chart reckon mapl pairList vertices
 reckoning G =
     let S = reckon (chart G) in
@@ -59,7 +59,7 @@ reckoning G =
 -- ---- the seven stream lines
 
 -- letter (ASCII: G K S, or R) and refusal; depots open, chain, pair count, searches of the call; the pairs themselves
-pub record Line : Type 0 where
+pub record AnswerLine : Type 0 where
   pub letter : ℕ
   pub refusal : ℕ
   pub number : ℕ
@@ -68,39 +68,39 @@ pub record Line : Type 0 where
   pub searches : ℕ
   pub pairs : List (ℕ × ℕ)
 
-unfoldable pub letterOf : Change → ℕ
-letterOf grew = 71
-letterOf kept = 75
-letterOf shrank = 83
+unfoldable pub caseLetter : Change → ℕ
+caseLetter grew = 71
+caseLetter kept = 75
+caseLetter shrank = 83
 
 -- a map without words: the network with its figures
-pub record Figured : Type 0 where
+pub record PlainMap : Type 0 where
   pub net : Network
   pub chain : ℕ
   pub pairs : Pairs
 
-unfoldable pub lineFor : ℕ → ℕ → ℕ → Figured → Line
+unfoldable pub lineFor : ℕ → ℕ → ℕ → PlainMap → AnswerLine
 unfolding vertices countPairs pairList
 lineFor l k s M =
     let vs = vertices (M .net) in
     record { letter = l; refusal = k; number = length vs; chain = M .chain; count = countPairs vs (M .pairs); searches = s; pairs = pairList vs (M .pairs) }
 
 -- the map after a notice, with its line; k is its refusal, 0 if it is accepted
-unfoldable pub followOne : ℕ → Figured → Notice → Figured × Line
-unfolding addDepot chart opening lineFor letterOf
+unfoldable pub followOne : ℕ → PlainMap → Notice → PlainMap × AnswerLine
+unfolding addDepot chart opening lineFor caseLetter
 followOne zero M o =
     let H = addDepot (M .net) (o .code) (o .neighbours) in
     let x = opening (chart H) (o .code) (M .chain) (M .pairs) in
-    let N : Figured = record { net = H; chain = x .final .candidate; pairs = x .final .pairs } in
-    (N, lineFor (letterOf (x .change)) 0 (length (x .final .references)) N)
+    let N : PlainMap = record { net = H; chain = x .final .candidate; pairs = x .final .pairs } in
+    (N, lineFor (caseLetter (x .change)) 0 (length (x .final .references)) N)
 followOne (suc k) M o = (M, lineFor 82 (suc k) 0 M)
 
-unfoldable pub followAll : Figured → List Notice → List Line
+unfoldable pub followAll : PlainMap → List Notice → List AnswerLine
 unfolding followOne firstOf noticeFaults
 followAll M [] = []
 followAll M (o ∷ os) = let r = followOne (firstOf (noticeFaults (M .net) o)) M o in r .1 ∷ followAll (r .0) os
 
-unfoldable pub noDepot : Figured
+unfoldable pub noDepot : PlainMap
 unfolding emptyNetwork
 noDepot = record { net = emptyNetwork 256; chain = 0; pairs = λ u v. false }
 
@@ -116,13 +116,13 @@ sevenLines =
     ∷ []
 
 -- THE TABLE
-pub record Cases : Type 0 where
-  pub empty : Reckoning
-  pub single : Reckoning
-  pub seven : Reckoning
-  pub stream : List Line
+pub record NetworkCases : Type 0 where
+  pub empty : ReckoningCase
+  pub single : ReckoningCase
+  pub seven : ReckoningCase
+  pub stream : List AnswerLine
 
-pub cases : _≡_ {A = Cases}
+pub cases : _≡_ {A = NetworkCases}
     (record { empty = reckoning (path 0); single = reckoning (path 1); seven = reckoning (path 7); stream = followAll noDepot sevenLines })
     (record {
       empty = record { references = []; marks = []; bounds = []; chain = 0; pairs = [] };

@@ -11,7 +11,7 @@ use Rattle.graph.specs.Distance.{vertices}
 use Rattle.graph.specs.Chart.{chart, Pairs}
 use Rattle.graph.specs.Rounds.{State, markOf, boundOf}
 use Rattle.graph.specs.Opening.{addDepot, opening}
-use Rattle.graph.specs.Cases.{pairList, path, Reckoning, reckoning, letterOf}
+use Rattle.graph.specs.Cases.{pairList, path, ReckoningCase, reckoning, caseLetter}
 
 -- the pairs of a list
 unfoldable pub listed : List (ℕ × ℕ) → Pairs
@@ -24,7 +24,7 @@ unfolding memb listed
 linkedBy vs ls = record { limit = 256; isOpen = λ c. memb c vs; linked = λ u v. listed ls u v || listed ls v u }
 
 -- what an opening's state says of the depots of G
-unfoldable pub readState : Network → State → Reckoning
+unfoldable pub readState : Network → State → ReckoningCase
 unfolding vertices mapl pairList
 readState G S =
     let vs = vertices G in
@@ -39,15 +39,15 @@ readState G S =
 -- an opening: its letter (ASCII: G K S), and what it leaves
 pub record Opening : Type 0 where
   pub letter : ℕ
-  pub final : Reckoning
+  pub final : ReckoningCase
 
 -- a opened beside ns in G, with the stored chain D and the stored pairs ps
 unfoldable pub opened : Network → ℕ → List ℕ → ℕ → List (ℕ × ℕ) → Opening
-unfolding addDepot chart listed opening letterOf readState
+unfolding addDepot chart listed opening caseLetter readState
 opened G a ns D ps =
     let H = addDepot G a ns in
     let x = opening (chart H) a D (listed ps) in
-    record { letter = letterOf (x .change); final = readState H (x .final) }
+    record { letter = caseLetter (x .change); final = readState H (x .final) }
 
 -- ---- THE TABLE
 

@@ -32,7 +32,7 @@ use Rattle.rounds.proofs.Holding.{leaves-over}
 use Rattle.rounds.proofs.Pairing.{own-pairs, settle-is}
 use Rattle.insertion.specs.Figured.{Figured, figured, figuredBy, changeAs, IsFigurable}
 use Rattle.bounds.specs.Once.{Marked, marking}
-use Rattle.insertion.specs.Steps.{markOnce, Joined, joined, joinOf, IsSearched, IsWhole}
+use Rattle.insertion.specs.Steps.{markOnceIn, Joined, joined, joinOf, HoldsSearch, IsWhole}
 use Rattle.insertion.proofs.Once.{once-leaves}
 use Rattle.insertion.proofs.Dropping.{left-is, candidate-is, none-left, some-left}
 use Rattle.insertion.proofs.Shrinking.{figured-over}
@@ -49,7 +49,7 @@ module _ (codes links : List ℕ) (p b s : List ℕ) (a e : ℕ) (T₀ T₁ : Ta
   left-search net o q = ap (λ (X : Searched). X .left) q ∙ table-leaves H (net .sound) (net .small) a o 4 links T₀ refl refl
 
   -- the search over the table is the network's, and stands in the tables
-  pub search-stands : IsNet H → T (H .isOpen a) → searched e T₁ ≡ searchTable 4 links a T₀ → IsSearched base codes links (lent p T₁ b s) a e
+  pub search-stands : IsNet H → T (H .isOpen a) → searched e T₁ ≡ searchTable 4 links a T₀ → HoldsSearch base codes links (lent p T₁ b s) a e
   unfolding searchTable networkOf
   search-stands net o q = record {
     net = net;
@@ -123,7 +123,7 @@ join-same G net a o D P u v = rw (le-ltb D D (le-refl D), eq-eqb D D refl) (firs
 
 -- ---- the cases
 
-module _ (codes links : List ℕ) (B : Lent) (a e D : ℕ) (I : IsSearched base codes links B a e) where
+module _ (codes links : List ℕ) (B : Lent) (a e D : ℕ) (I : HoldsSearch base codes links B a e) where
   abbrev G : Network
   G = networkOf 4 codes links
 
@@ -146,8 +146,8 @@ module _ (codes links : List ℕ) (B : Lent) (a e D : ℕ) (I : IsSearched base 
   last-row = ap₂ lastRow (sym (I .depth)) (sym (I .stands))
 
   -- the marks of a join, as those of the network's eccentricity
-  marks-are : (m m₀ : Marked) → m ≡ markOnce base a e m₀ → m ≡ markOnce base a (ecc (chart G) a) m₀
-  marks-are m m₀ h = h ∙ ap (λ (x : ℕ). markOnce base a x m₀) (I .depth)
+  marks-are : (m m₀ : Marked) → m ≡ markOnceIn base a e m₀ → m ≡ markOnceIn base a (ecc (chart G) a) m₀
+  marks-are m m₀ h = h ∙ ap (λ (x : ℕ). markOnceIn base a x m₀) (I .depth)
 
   -- e(a) > D: GREW
   pub grew-is : D < e → (count : ℕ) (p : List ℕ) (n : ℕ) (m : Marked)
@@ -202,7 +202,7 @@ module _ (codes links : List ℕ) (B : Lent) (a e D : ℕ) (I : IsSearched base 
             (λ u v lu lv. ap (λ (x : ℕ). joinPairs (chart G) a x D Left u v) (sym (I .depth) ∙ q) ∙ join-same G (I .net) a (I .present) D Left u v)
 
     -- e(a) < D, and a pair is left: KEPT
-    pub kept-is : (e ≡ D → ⊥) → (k ≡ 0 → ⊥) → (m : Marked) → m ≡ markOnce base a e (marking (B .bounds) (B .skips))
+    pub kept-is : (e ≡ D → ⊥) → (k ≡ 0 → ⊥) → (m : Marked) → m ≡ markOnceIn base a e (marking (B .bounds) (B .skips))
         → figured Kept (ran (lent t (B .searched) (m .bounds) (m .skips)) D k 1) ≡ figuredBy base G a D B
     unfolding changeAs openCase
     kept-is ne some m h =

@@ -21,11 +21,11 @@ use Rattle.pairs.specs.Pairs.{Tally, tally, tallyOf, settleOf}
 use Rattle.rounds.specs.Leaves.{Lent, lent, ran, ranBy, roundsLeave, searchAfter}
 use Rattle.rounds.specs.Workspace.{lastRow}
 use Rattle.bounds.specs.Once.{Marked, marking, markOnce as marksOnce}
-use Rattle.insertion.specs.Steps.{markOnce, Joined, joined, joinOf}
+use Rattle.insertion.specs.Steps.{markOnceIn, Joined, joined, joinOf}
 
 -- ---- pairs and marks
 
-pub join-is : (a e D : ℕ) (T : Tables) (J : Joined) (t : Tally) (m : Marked) → t ≡ settleOf 4 (lastRow e T) a e D (J .paired) → m ≡ markOnce base a e (J .marked)
+pub join-is : (a e D : ℕ) (T : Tables) (J : Joined) (t : Tally) (m : Marked) → t ≡ settleOf 4 (lastRow e T) a e D (J .paired) → m ≡ markOnceIn base a e (J .marked)
     → joined t m ≡ joinOf base a e D T J
 unfolding joinOf
 join-is a e D T J t m p q = ap₂ joined p q
@@ -53,13 +53,13 @@ module _ (K : Shape) (G : Network) (a : ℕ) (o : T (G .isOpen a)) where
       go (inr q) false p = rw q
 
   -- WHAT SUCH A CALL LEAVES, with the chain c and the pairs Q
-  pub once-leaves : (c : ℕ) (Q : Pairs) (B : Lent) (p : List ℕ) (n : ℕ) (m : Marked) → tally p n ≡ tallyOf (K .words) Q (B .pairs) → m ≡ markOnce K a e (marking (B .bounds) (B .skips))
+  pub once-leaves : (c : ℕ) (Q : Pairs) (B : Lent) (p : List ℕ) (n : ℕ) (m : Marked) → tally p n ≡ tallyOf (K .words) Q (B .pairs) → m ≡ markOnceIn K a e (marking (B .bounds) (B .skips))
       → B .searched ≡ searchLeaves (K .words) G a (B .searched)
       → ran (lent p (B .searched) (m .bounds) (m .skips)) c n 1 ≡ ranBy K G (searchedOnce (chart G) a c Q) B
   unfolding ranBy roundsLeave searchedOnce searchAfter lastOr marksOnce tallyOf
   once-leaves c Q B p n m t h s =
       ap₂ (λ (x : Tally) (y : Marked). ran (lent (x .pairs) (B .searched) (y .bounds) (y .skips)) c (x .count) 1) t h
-      ∙ ap (λ (T : Tables). ran (lent (tallyOf (K .words) Q (B .pairs) .pairs) T (markOnce K a e (marking (B .bounds) (B .skips)) .bounds) (markOnce K a e (marking (B .bounds) (B .skips)) .skips)) c (tallyOf (K .words) Q (B .pairs) .count) 1) s
+      ∙ ap (λ (T : Tables). ran (lent (tallyOf (K .words) Q (B .pairs) .pairs) T (markOnceIn K a e (marking (B .bounds) (B .skips)) .bounds) (markOnceIn K a e (marking (B .bounds) (B .skips)) .skips)) c (tallyOf (K .words) Q (B .pairs) .count) 1) s
       ∙ ap₂ (λ (x y : List ℕ). ran (lent (overwrite (encodeTable (K .words) Q) (B .pairs)) (searchLeaves (K .words) G a (B .searched)) (overwrite x (B .bounds)) (overwrite y (B .skips))) c (countPairs (range (places K)) Q) 1)
       (fill-ext (λ v. cond (eqb v a) e unreached) (λ v. cond (G .isOpen v) (boundOf (cond (eqb v a) (searched e) (waiting unreached 0))) unreached) (places K) (λ v l. bound-once v))
       (fill-ext (λ v. cond (eqb v a) (K .searchedMark) (K .otherMark)) (λ v. cond (G .isOpen v) (markOf (K .searchedMark) (K .otherMark) (cond (eqb v a) (searched e) (waiting unreached 0))) (K .otherMark)) (places K) (λ v l. skip-once v))

@@ -19,13 +19,13 @@ use Rattle.map.specs.Memory.{Shape, base, networkOf}
 use Rattle.pairs.specs.Pairs.{Tally, tally, Counted}
 use Rattle.bounds.specs.Bounds.{Marks, marks}
 use Rattle.rounds.specs.Leaves.{Lent, lent, ran, ranBy, roundsLeave, searchAfter}
-use Rattle.rounds.specs.Workspace.{Workspace, workspace, Absorbed, absorbed, absorbing, absorbOf, runOf, Begun, begun, beginOf}
+use Rattle.rounds.specs.Workspace.{Workspace, workspace, Absorbed, absorbed, absorbing, absorbOf, runOf, RoundsBegun, roundsBegun, roundsBeginOf}
 use Rattle.rounds.proofs.Holding.{Origin, Holds, leaves-over, after-snoc}
 use Rattle.rounds.proofs.Simulation.{Running, running-round, absorb}
 use Rattle.rounds.proofs.Finish.{start-holds, start-running, run-leaves, run-figures}
 use Rattle.pairs.proofs.Settling.{settle-counted}
 use Rattle.insertion.specs.Figured.{figured, figuredBy, changeAs}
-use Rattle.insertion.specs.Steps.{IsSearched}
+use Rattle.insertion.specs.Steps.{HoldsSearch}
 use Rattle.map.proofs.Theorems.{base-shape}
 
 -- ---- the pairs are counted at each call
@@ -38,7 +38,7 @@ absorbed-counted W mark r e T A p n m c k h =
 
 -- ---- the rounds
 
-module _ (codes links : List ℕ) (B : Lent) (a e way : ℕ) (row : List ℕ) (I : IsSearched base codes links B a e) (low : way ≤ unreached) where
+module _ (codes links : List ℕ) (B : Lent) (a e way : ℕ) (row : List ℕ) (I : HoldsSearch base codes links B a e) (low : way ≤ unreached) where
   abbrev G : Network
   G = networkOf 4 codes links
 
@@ -57,15 +57,15 @@ module _ (codes links : List ℕ) (B : Lent) (a e way : ℕ) (row : List ℕ) (I
       running-round 4 256 257 (base-shape .most) codes links (I .net) (start way) a (start-running base base-shape codes links (I .net) way low)
       (depot-in G (I .net) a (I .present)) fresh
 
-  module _ (p b s w : List ℕ) (begins : begun p (marks b s w) ≡ beginOf 4 257 codes (begun (B .pairs) (marks (B .bounds) (B .skips) row))) where
+  module _ (p b s w : List ℕ) (begins : roundsBegun p (marks b s w) ≡ roundsBeginOf 4 257 codes (roundsBegun (B .pairs) (marks (B .bounds) (B .skips) row))) where
     abbrev M : Workspace
     M = workspace (B .searched) (tally p 0) (marks b s w) way 0
 
     begun-holds : Holds 4 256 257 G O (start way) M
-    unfolding beginOf
+    unfolding roundsBeginOf
     begun-holds =
         start-holds base base-shape codes links (I .net) way O p b s w
-        (ap (λ (X : Begun). X .pairs) begins) (ap (λ (X : Begun). X .marked .bounds) begins) (ap (λ (X : Begun). X .marked .skips) begins) (ap (λ (X : Begun). X .marked .waiting) begins)
+        (ap (λ (X : RoundsBegun). X .pairs) begins) (ap (λ (X : RoundsBegun). X .marked .bounds) begins) (ap (λ (X : RoundsBegun). X .marked .skips) begins) (ap (λ (X : RoundsBegun). X .marked .waiting) begins)
 
     module _ (t : Tally) (m : Marks) (c : ℕ) (takes : absorbed t m c ≡ absorbing 4 256 a e (B .searched) (absorbed (tally p 0) (marks b s w) way)) where
       taken-in : absorbOf 4 256 a (ecc (chart G) a) (searchLeaves 4 G a (B .searched)) M ≡ workspace (B .searched) t m c 1

@@ -18,8 +18,8 @@ use Rattle.rounds.specs.Workspace.{lastRow}
 
 -- ---- the marks of a call that searched from a alone, with eccentricity e
 
-abbrev pub markOnce : Shape → ℕ → ℕ → Marked → Marked
-markOnce K a e M = marksOnce (K .words) (K .searchedMark) (K .otherMark) a e M
+abbrev pub markOnceIn : Shape → ℕ → ℕ → Marked → Marked
+markOnceIn K a e M = marksOnce (K .words) (K .searchedMark) (K .otherMark) a e M
 
 -- ---- the pairs and marks of such a call, D being the stored chain
 
@@ -31,12 +31,12 @@ abbrev pub joined : Tally → Marked → Joined
 joined t m = record { paired = t; marked = m }
 
 unfoldable pub joinOf : Shape → ℕ → ℕ → ℕ → Tables → Joined → Joined
-joinOf K a e D T J = joined (settleOf (K .words) (lastRow e T) a e D (J .paired)) (markOnce K a e (J .marked))
+joinOf K a e D T J = joined (settleOf (K .words) (lastRow e T) a e D (J .paired)) (markOnceIn K a e (J .marked))
 
 -- ---- what the functions ask
 
 -- the tables hold the search from the open depot a, with eccentricity e, of a sound, connected network
-pub record IsSearched (K : Shape) (codes links : List ℕ) (B : Lent) (a e : ℕ) : Type 0 where
+pub record HoldsSearch (K : Shape) (codes links : List ℕ) (B : Lent) (a e : ℕ) : Type 0 where
   pub net : IsNet (networkOf (K .words) codes links)
   pub present : T (networkOf (K .words) codes links .isOpen a)
   pub depth : e ≡ ecc (chart (networkOf (K .words) codes links)) a

@@ -12,9 +12,9 @@ ghost use Rattle.layers.specs.Slices.{tablesBefore, tablesAfter};
 ghost use Rattle.rounds.specs.Slices.{lentAt, lentBefore, lentAfter};
 ghost use Rattle.insertion.specs.Figured.{figured, figuredBy, IsFigurable};
 ghost use Rattle.bounds.specs.Once.{marking};
-ghost use Rattle.insertion.specs.Steps.{joined, joinOf, IsSearched, IsWhole, AreOpen};
+ghost use Rattle.insertion.specs.Steps.{joined, joinOf, HoldsSearch, IsWhole, AreOpen};
 use outcome::Change;
-use rounds::Tally;
+use rounds::RoundFigures;
 
 // The figures after an opening: how the chain moved, chain, pair count, number of searches.
 pub struct Figures {
@@ -70,10 +70,10 @@ fn shrink(
     a: usize,
     e: u16,
     way: u16,
-) -> Tally
+) -> RoundFigures
     requires { let given = lentAt pairs hops bounds skips even odd in
         ⌜ IsWhole base (now codes) (now links) given
-        × IsSearched base (now codes) (now links) given a e
+        × HoldsSearch base (now codes) (now links) given a e
         × (a < 256) ⌝ }
     ensures { λ t.
         let before = lentBefore pairs hops bounds skips even odd in
@@ -102,7 +102,7 @@ fn shrink(
         way,
         0,
     );
-    let before = Tally {
+    let before = RoundFigures {
         candidate: first.candidate,
         count: first.count,
         searches: 1,
@@ -160,7 +160,7 @@ fn settle_low(
     requires { let given = lentAt pairs hops bounds skips even odd in
         ⌜ IsWhole base (now codes) (now links) given
         × AreOpen base (now codes) (now links) (now pairs)
-        × IsSearched base (now codes) (now links) given a e
+        × HoldsSearch base (now codes) (now links) given a e
         × (a < 256)
         × (e ≤ chain) ⌝ }
     ensures { λ r.

@@ -41,15 +41,15 @@ module _ (n : ℕ) (adjacent : ℕ → ℕ → Bool) (s : ℕ) where
   hop-none k v l e = step-is k v ∙ rw (le-ltb (H k v) unreached l, e)
 
   -- the three cases of a place, with what each says
-  pub data Place (k v : ℕ) : Type 0 where
-    old : H k v ≤ k → H k v < unreached → H (k + 1) v ≡ H k v → Place k v
-    new : H k v ≡ unreached → near k v ≡ true → H (k + 1) v ≡ k + 1 → Place k v
-    none : H k v ≡ unreached → near k v ≡ false → H (k + 1) v ≡ unreached → Place k v
+  pub data HopCase (k v : ℕ) : Type 0 where
+    old : H k v ≤ k → H k v < unreached → H (k + 1) v ≡ H k v → HopCase k v
+    new : H k v ≡ unreached → near k v ≡ true → H (k + 1) v ≡ k + 1 → HopCase k v
+    none : H k v ≡ unreached → near k v ≡ false → H (k + 1) v ≡ unreached → HopCase k v
 
-  pub place : (k v : ℕ) → k < unreached → Place k v
+  pub place : (k v : ℕ) → k < unreached → HopCase k v
   place k v small = go (hops-range (range n) adjacent s k v) (look (near k v))
     where
-      go : (H k v ≤ k) ⊎ (H k v ≡ unreached) → (near k v ≡ true) ⊎ (near k v ≡ false) → Place k v
+      go : (H k v ≤ k) ⊎ (H k v ≡ unreached) → (near k v ≡ true) ⊎ (near k v ≡ false) → HopCase k v
       go (inl l) b = old l (omega arith) (hop-old k v (omega arith))
       go (inr e) (inl b) = new e b (hop-new k v (omega arith) b)
       go (inr e) (inr b) = none e b (hop-none k v (omega arith) b)
@@ -61,7 +61,7 @@ module _ (n : ℕ) (adjacent : ℕ → ℕ → Bool) (s : ℕ) where
     pub fresh-is : (v : ℕ) → (near k v && not (ltb (H k v) unreached)) ≡ eqb (H (k + 1) v) (k + 1)
     fresh-is v = go (place k v (omega arith))
       where
-        go : Place k v → (near k v && not (ltb (H k v) unreached)) ≡ eqb (H (k + 1) v) (k + 1)
+        go : HopCase k v → (near k v && not (ltb (H k v) unreached)) ≡ eqb (H (k + 1) v) (k + 1)
         go (old l m e) = rw (lt-ltb (H k v) unreached m, ne-eqb (H (k + 1) v) (k + 1) (λ q. omega arith)) (drop-false (near k v))
           where
             drop-false : (b : Bool) → (b && false) ≡ false
@@ -73,7 +73,7 @@ module _ (n : ℕ) (adjacent : ℕ → ℕ → Bool) (s : ℕ) where
     pub seen-is : (v : ℕ) → (ltb (H k v) unreached || eqb (H (k + 1) v) (k + 1)) ≡ ltb (H (k + 1) v) unreached
     seen-is v = go (place k v (omega arith))
       where
-        go : Place k v → (ltb (H k v) unreached || eqb (H (k + 1) v) (k + 1)) ≡ ltb (H (k + 1) v) unreached
+        go : HopCase k v → (ltb (H k v) unreached || eqb (H (k + 1) v) (k + 1)) ≡ ltb (H (k + 1) v) unreached
         go (old l m e) = rw (lt-ltb (H k v) unreached m, lt-ltb (H (k + 1) v) unreached (omega arith))
         go (new q b e) = rw (le-ltb (H k v) unreached (omega arith), eq-eqb (H (k + 1) v) (k + 1) e, lt-ltb (H (k + 1) v) unreached (omega arith))
         go (none q b e) = rw (le-ltb (H k v) unreached (omega arith), ne-eqb (H (k + 1) v) (k + 1) (λ p. omega arith), le-ltb (H (k + 1) v) unreached (omega arith))
@@ -81,7 +81,7 @@ module _ (n : ℕ) (adjacent : ℕ → ℕ → Bool) (s : ℕ) where
     pub layer-stays : (v : ℕ) → eqb (H k v) k ≡ eqb (H (k + 1) v) k
     layer-stays v = go (place k v (omega arith))
       where
-        go : Place k v → eqb (H k v) k ≡ eqb (H (k + 1) v) k
+        go : HopCase k v → eqb (H k v) k ≡ eqb (H (k + 1) v) k
         go (old l m e) = ap (λ (x : ℕ). eqb x k) (sym e)
         go (new q b e) = rw (ne-eqb (H k v) k (λ p. omega arith), ne-eqb (H (k + 1) v) k (λ p. omega arith))
         go (none q b e) = rw (ne-eqb (H k v) k (λ p. omega arith), ne-eqb (H (k + 1) v) k (λ p. omega arith))
@@ -90,7 +90,7 @@ module _ (n : ℕ) (adjacent : ℕ → ℕ → Bool) (s : ℕ) where
     pub hops-stay : (v : ℕ) → H k v ≡ cond (ltb (H (k + 1) v) (k + 1)) (H (k + 1) v) unreached
     hops-stay v = go (place k v (omega arith))
       where
-        go : Place k v → H k v ≡ cond (ltb (H (k + 1) v) (k + 1)) (H (k + 1) v) unreached
+        go : HopCase k v → H k v ≡ cond (ltb (H (k + 1) v) (k + 1)) (H (k + 1) v) unreached
         go (old l m e) = rw (lt-ltb (H (k + 1) v) (k + 1) (omega arith)) (sym e)
         go (new q b e) = rw (le-ltb (H (k + 1) v) (k + 1) (omega arith)) q
         go (none q b e) = rw (le-ltb (H (k + 1) v) (k + 1) (omega arith)) q
@@ -118,7 +118,7 @@ module _ (n : ℕ) (adjacent : ℕ → ℕ → Bool) (s : ℕ) where
         ∙ quiet (range n) adjacent s (n - (k + 1)) (k + 1) (omega arith) absent v
         ∙ go (place k v (omega arith))
       where
-        go : Place k v → H (k + 1) v ≡ H k v
+        go : HopCase k v → H (k + 1) v ≡ H k v
         go (old l m e) = e
         go (new q b e) = absurd (absent v (range-in n l) e)
         go (none q b e) = e ∙ sym q
@@ -139,7 +139,7 @@ module _ (n : ℕ) (adjacent : ℕ → ℕ → Bool) (s : ℕ) where
       out : (v : ℕ) → H (k + 1) v ≡ k + 1 → unreached ≤ H k v
       out v e = go (place k v (omega arith))
         where
-          go : Place k v → unreached ≤ H k v
+          go : HopCase k v → unreached ≤ H k v
           go (old l m q) = absurd (lt-irrefl k (omega arith))
           go (new q b f) = omega arith
           go (none q b f) = omega arith

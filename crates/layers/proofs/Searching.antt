@@ -20,7 +20,7 @@ use Rattle.rows.proofs.Wholes.{encode-row-ext, row-over}
 use Rattle.rows.proofs.Puts.{put-row}
 use Rattle.layers.specs.Layers.{layerBit, Tables, tables}
 use Rattle.frontier.specs.Steps.{reaches, fresh, Stepped, stepped, stepOf}
-use Rattle.layers.specs.Begin.{Begun, begun, beginOf}
+use Rattle.layers.specs.Begin.{SearchBegun, searchBegun, searchBeginOf}
 use Rattle.layers.proofs.Hops.{near, fresh-is, seen-is, hops-visit}
 
 -- ---- the start
@@ -37,8 +37,8 @@ alone W s l₀ l l′ h e p =
 
 pub begin-is : (W s : ℕ) (B : Tables) (seen₀ : List ℕ) (hops even odd seen : List ℕ) → hops ≡ overwrite (mapl (λ v. unreached) (range (64 * W))) (B .hops)
     → even ≡ overwrite (encodeRow W (λ v. eqb v s)) (B .even) → odd ≡ overwrite (encodeRow W (λ v. false)) (B .odd) → seen ≡ overwrite (encodeRow W (λ v. eqb v s)) seen₀
-    → begun (tables hops even odd) seen ≡ beginOf W s B seen₀
-unfolding beginOf
+    → searchBegun (tables hops even odd) seen ≡ searchBeginOf W s B seen₀
+unfolding searchBeginOf
 begin-is W s B seen₀ hops even odd seen a b c d = rw (a, b, c, d)
 
 -- ---- where the loop stands
@@ -84,18 +84,18 @@ module _ (W : ℕ) (links : List ℕ) (s : ℕ) where
       go true = refl
       go false = refl
 
-  pub at-start : (B : Tables) (seen₀ : List ℕ) (hops even odd seen : List ℕ) → s < 64 * W → begun (tables hops even odd) seen ≡ beginOf W s B seen₀ → AtLayer B seen₀ 0 hops even odd seen
-  unfolding beginOf layerBit
+  pub at-start : (B : Tables) (seen₀ : List ℕ) (hops even odd seen : List ℕ) → s < 64 * W → searchBegun (tables hops even odd) seen ≡ searchBeginOf W s B seen₀ → AtLayer B seen₀ 0 hops even odd seen
+  unfolding searchBeginOf layerBit
   at-start B seen₀ hops even odd seen l e = record {
     few = omega arith;
     reached = subst (λ (n : ℕ). n ≤ countb (λ v. ltb (H 0 v) unreached) (range (64 * W))) (count-one (64 * W) s l) (count-mono (λ v. eqb v s) (λ v. ltb (H 0 v) unreached) (range (64 * W)) (λ v m t. first-seen v ∙ t));
     some = any-intro (λ v. eqb (H 0 v) 0) (range (64 * W)) (range-in (64 * W) l) (first-hop s ∙ eq-eqb s s refl);
     hops-is =
-        ap (λ (x : Begun). x .lent .hops) e
+        ap (λ (x : SearchBegun). x .lent .hops) e
         ∙ ap (λ (r : List ℕ). overwrite r (B .hops)) (fill-ext (λ v. unreached) (λ v. cond (ltb (H 0 v) 0) (H 0 v) unreached) (64 * W) (λ v m. rw (le-ltb (H 0 v) 0 (omega arith))));
-    even-is = ap (λ (x : Begun). x .lent .even) e ∙ ap (λ (r : List ℕ). overwrite r (B .even)) (encode-row-ext W (λ v. eqb v s) (λ v. eqb (H 0 v) 0) (λ v m. sym (first-hop v)));
-    odd-is = ap (λ (x : Begun). x .lent .odd) e;
-    seen-now = ap (λ (x : Begun). x .seen) e ∙ ap (λ (r : List ℕ). overwrite r seen₀) (encode-row-ext W (λ v. eqb v s) (λ v. ltb (H 0 v) unreached) (λ v m. sym (first-seen v)));
+    even-is = ap (λ (x : SearchBegun). x .lent .even) e ∙ ap (λ (r : List ℕ). overwrite r (B .even)) (encode-row-ext W (λ v. eqb v s) (λ v. eqb (H 0 v) 0) (λ v m. sym (first-hop v)));
+    odd-is = ap (λ (x : SearchBegun). x .lent .odd) e;
+    seen-now = ap (λ (x : SearchBegun). x .seen) e ∙ ap (λ (r : List ℕ). overwrite r seen₀) (encode-row-ext W (λ v. eqb v s) (λ v. ltb (H 0 v) unreached) (λ v m. sym (first-seen v)));
   }
 
   -- ---- one turn, from the row that holds layer k to the other

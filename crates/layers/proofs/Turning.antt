@@ -19,7 +19,7 @@ use Rattle.rows.specs.Rows.{tableBit, encodeRow}
 use Rattle.rows.proofs.Wholes.{encode-row-ext, row-over}
 use Rattle.layers.specs.Layers.{tableNetwork, depthFrom, layerBit, Tables, tables, searchLeaves, searched, searchTable}
 use Rattle.frontier.specs.Steps.{stepped, stepOf}
-use Rattle.layers.specs.Begin.{Begun, begun, beginOf}
+use Rattle.layers.specs.Begin.{SearchBegun, searchBegun, searchBeginOf}
 use Rattle.layers.proofs.Hops.{layer-stays, hops-stay, hops-final, reached-more}
 use Rattle.layers.proofs.Searching.{H, AtLayer, at-start, more-is, hops-now, other-stays, other-next, seen-next}
 
@@ -177,24 +177,24 @@ module _ (W : ℕ) (links : List ℕ) (s : ℕ) where
 
 -- ---- the buffers of the loop were written by `begin`: over them or over those of the call is the same
 
-module _ (W : ℕ) (links : List ℕ) (s : ℕ) (B : Tables) (seen₀ hops even odd seen : List ℕ) (e : begun (tables hops even odd) seen ≡ beginOf W s B seen₀) where
+module _ (W : ℕ) (links : List ℕ) (s : ℕ) (B : Tables) (seen₀ hops even odd seen : List ℕ) (e : searchBegun (tables hops even odd) seen ≡ searchBeginOf W s B seen₀) where
   over-hops : (f : ℕ → ℕ) → overwrite (mapl f (range (64 * W))) hops ≡ overwrite (mapl f (range (64 * W))) (B .hops)
-  unfolding beginOf
+  unfolding searchBeginOf
   over-hops f =
-      ap (λ (x : Begun). overwrite (mapl f (range (64 * W))) (x .lent .hops)) e
+      ap (λ (x : SearchBegun). overwrite (mapl f (range (64 * W))) (x .lent .hops)) e
       ∙ overwrite-twice (mapl f (range (64 * W))) (mapl (λ v. unreached) (range (64 * W))) (B .hops) (omega (arith, length-fill f (64 * W), length-fill (λ v. unreached) (64 * W)))
 
   over-even : (f : ℕ → Bool) → overwrite (encodeRow W f) even ≡ overwrite (encodeRow W f) (B .even)
-  unfolding beginOf
-  over-even f = ap (λ (x : Begun). overwrite (encodeRow W f) (x .lent .even)) e ∙ row-over W f (λ v. eqb v s) (B .even)
+  unfolding searchBeginOf
+  over-even f = ap (λ (x : SearchBegun). overwrite (encodeRow W f) (x .lent .even)) e ∙ row-over W f (λ v. eqb v s) (B .even)
 
   over-odd : (f : ℕ → Bool) → overwrite (encodeRow W f) odd ≡ overwrite (encodeRow W f) (B .odd)
-  unfolding beginOf
-  over-odd f = ap (λ (x : Begun). overwrite (encodeRow W f) (x .lent .odd)) e ∙ row-over W f (λ v. false) (B .odd)
+  unfolding searchBeginOf
+  over-odd f = ap (λ (x : SearchBegun). overwrite (encodeRow W f) (x .lent .odd)) e ∙ row-over W f (λ v. false) (B .odd)
 
   over-seen : (f : ℕ → Bool) → overwrite (encodeRow W f) seen ≡ overwrite (encodeRow W f) seen₀
-  unfolding beginOf
-  over-seen f = ap (λ (x : Begun). overwrite (encodeRow W f) (x .seen)) e ∙ row-over W f (λ v. eqb v s) seen₀
+  unfolding searchBeginOf
+  over-seen f = ap (λ (x : SearchBegun). overwrite (encodeRow W f) (x .seen)) e ∙ row-over W f (λ v. eqb v s) seen₀
 
   pub at-loop : s < 64 * W → AtLayer W links s (tables hops even odd) seen 0 hops even odd seen
   at-loop l =

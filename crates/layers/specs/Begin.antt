@@ -9,16 +9,16 @@ use Rattle.rows.specs.Rows.{encodeRow}
 use Rattle.layers.specs.Layers.{Tables}
 
 -- the start of a search from s: no hop, s alone in the even row and seen
-pub record Begun : Type 0 where
+pub record SearchBegun : Type 0 where
   pub lent : Tables
   pub seen : List ℕ
 
-abbrev pub begun : Tables → List ℕ → Begun
-begun B l = record { lent = B; seen = l }
+abbrev pub searchBegun : Tables → List ℕ → SearchBegun
+searchBegun B l = record { lent = B; seen = l }
 
-unfoldable pub beginOf : ℕ → ℕ → Tables → List ℕ → Begun
-beginOf W s B seen =
-    begun
+unfoldable pub searchBeginOf : ℕ → ℕ → Tables → List ℕ → SearchBegun
+searchBeginOf W s B seen =
+    searchBegun
     (record {
       hops = overwrite (mapl (λ v. unreached) (range (64 * W))) (B .hops);
       even = overwrite (encodeRow W (λ v. eqb v s)) (B .even);

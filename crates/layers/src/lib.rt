@@ -4,8 +4,8 @@ ghost use Prim.Native.Nat.{_*_, _<_, _≤_};
 ghost use lib.ListN.{length};
 ghost use Rattle.layers.specs.Layers.{searched, searchTable};
 ghost use Rattle.layers.specs.Slices.{tablesBefore, tablesAfter};
-ghost use Rattle.frontier.specs.Steps.{Room};
-ghost use Rattle.layers.specs.Begin.{begun, beginOf};
+ghost use Rattle.frontier.specs.Steps.{SearchRoom};
+ghost use Rattle.layers.specs.Begin.{searchBegun, searchBeginOf};
 
 // The start of a search: no hop, the start alone in the even row and seen.
 fn begin(
@@ -26,7 +26,7 @@ fn begin(
     ensures { λ r.
         let before = tablesBefore hops even odd in
         let after = tablesAfter hops even odd in
-        ⌜ begun after (now (seen .exit)) ≡ beginOf words start before (now (seen .entry)) ⌝ }
+        ⌜ searchBegun after (now (seen .exit)) ≡ searchBeginOf words start before (now (seen .entry)) ⌝ }
 {
     rows::fill(hops, 64 * words, 65535);
     rows::clear(even, words);
@@ -48,7 +48,7 @@ pub fn search_table(
     words: usize,
     start: usize,
 ) -> u16
-    requires { ⌜ Room words (now links) (now hops)
+    requires { ⌜ SearchRoom words (now links) (now hops)
         × (words ≤ length (now even))
         × (words ≤ length (now odd))
         × (words ≤ length (now seen))

@@ -6,8 +6,8 @@ ghost use Rattle.rounds.specs.Slices.{lentBefore, lentAfter};
 ghost use Rattle.opening.specs.OpenCall.{leftOf, openLeft, openCall};
 ghost use Rattle.opening.specs.Steps.{noticeOf};
 use map::Record;
-use opening::Opened;
 use opening::Report;
+use opening::Returned;
 
 // The opening of a depot on a record that is lent: "The record of a line is lent to the opening call and brought up to date there."
 pub fn open(
@@ -57,7 +57,7 @@ pub fn open_value(
     odd: &mut [u64],
     code: u8,
     neighbours: &[u8],
-) -> Opened
+) -> Returned
     ensures { λ r.
         let before = lentBefore pairs hops bounds skips even odd in
         let after = lentAfter pairs hops bounds skips even odd in
@@ -77,5 +77,5 @@ pub fn open_value(
         code,
         neighbours,
     );
-    Opened { report, after: own }
+    Returned { report, after: own }
 }

@@ -10,12 +10,12 @@ use Rattle.lists.specs.Lists.{overwrite}
 use Rattle.report.specs.Line.{bufferLimit, ReportLeft, reportDone, reportLeft, reportLine, reportCall, writtenOf}
 use Rattle.report.specs.declared.Written.{Written}
 use Rattle.report.specs.declared.Written.the-variants.{Line, Refused as NoLine}
-use Rattle.report.specs.declared.Report.{Report}
+use Rattle.report.specs.declared.ReportFields.{ReportFields}
 use Rattle.line_buffer.specs.Lines.{pasted}
 use Rattle.lists.proofs.Appends.{append-none}
 
 -- the writer on a part that is long enough
-report-into : (r : Report) (buffer : List ℕ) → bufferLimit ≤ length buffer → reportCall r buffer ≡ reportLeft (reportDone (length (reportLine r))) (overwrite (reportLine r) buffer)
+report-into : (r : ReportFields) (buffer : List ℕ) → bufferLimit ≤ length buffer → reportCall r buffer ≡ reportLeft (reportDone (length (reportLine r))) (overwrite (reportLine r) buffer)
 unfolding reportCall
 report-into r buffer k = rw (le-ltb (length buffer) bufferLimit k)
 
@@ -23,7 +23,7 @@ report-into r buffer k = rw (le-ltb (length buffer) bufferLimit k)
 part-back : (out part : List ℕ) (at : ℕ) → take at out ++ (part ++ drop (length out - at) (drop at out)) ≡ take at out ++ part
 part-back out part at = ap (λ (r : List ℕ). take at out ++ r) (ap (λ (r : List ℕ). part ++ r) (drop-of-length-le (drop at out) {i = length out - at} (omega (arith, length-drop at out))) ∙ append-none part)
 
-module _ (r : Report) (out : List ℕ) (at : ℕ) (k : at + bufferLimit ≤ length out) where
+module _ (r : ReportFields) (out : List ℕ) (at : ℕ) (k : at + bufferLimit ≤ length out) where
   room : bufferLimit ≤ length (drop at out)
   room = omega (arith, length-drop at out)
 

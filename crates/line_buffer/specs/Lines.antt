@@ -7,10 +7,10 @@ use lib.ListN.{take, drop, set}
 use Rattle.lists.specs.Lists.{overwrite}
 use Rattle.notice.specs.Lines.{lineLimit, lineEnd}
 use Rattle.report.specs.Line.{bufferLimit}
-use Rattle.report.specs.declared.Report.{Report}
-use Rattle.opening.specs.declared.Opened.{Opened}
+use Rattle.report.specs.declared.ReportFields.{ReportFields}
+use Rattle.opening.specs.declared.Returned.{Returned}
 use Rattle.transcript.specs.Transcript.{linesLimit}
-use Rattle.line_buffer.specs.declared.Part.{Part}
+use Rattle.line_buffer.specs.declared.Gathered.{Gathered}
 
 -- ---- the line buffer
 
@@ -32,7 +32,7 @@ pub record PartLeft : Type 0 where
   pub ended : Bool
   pub buffer : Holding
 
-abbrev pub partLeft : Part → List ℕ → PartLeft
+abbrev pub partLeft : Gathered → List ℕ → PartLeft
 partLeft p line = record { at = p .at; ended = p .ended; buffer = holding line (p .held) }
 
 unfoldable pub partFrom : ℕ → Holding → List ℕ → PartLeft
@@ -42,7 +42,7 @@ partFrom at h (b ∷ bs) = cond (eqb b lineEnd) (record { at = at + 1; ended = t
 -- ---- the report
 
 -- the report of line n
-abbrev pub reportOf : ℕ → Opened → Report
+abbrev pub reportOf : ℕ → Returned → ReportFields
 reportOf n x = record {
   number = n;
   outcome = x .report .outcome;

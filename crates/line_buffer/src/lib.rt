@@ -5,11 +5,11 @@ ghost use lib.ListN.{length, drop};
 ghost use Rattle.notice.specs.Lines.{lineLimit};
 ghost use Rattle.report.specs.Line.{bufferLimit, reportLine};
 ghost use Rattle.line_buffer.specs.Lines.{holding, holdByte, partLeft, partFrom, reportOf, pasted, isStopped};
-use opening::Opened;
+use opening::Returned;
 use report::Written;
 
 // What the line buffer took of a piece: the place behind it, the bytes held then, and whether the line ended.
-pub struct Part {
+pub struct Gathered {
     pub at: usize,
     pub held: usize,
     pub ended: bool,
@@ -30,7 +30,7 @@ fn hold(line: &mut [u8], held: usize, b: u8) -> usize
 }
 
 // Takes the bytes of a piece up to the end of a line, or all that are left of it.
-pub fn hold_part(line: &mut [u8], piece: &[u8], from: usize, held: usize) -> Part
+pub fn hold_part(line: &mut [u8], piece: &[u8], from: usize, held: usize) -> Gathered
     requires { ⌜ lineLimit ≤ length (now line) ⌝ }
     ensures { λ r. ⌜ partLeft r (now (line .exit)) ≡ partFrom from (holding (now (line .entry)) held) (drop from (now (piece .entry))) ⌝ }
 {
@@ -41,14 +41,14 @@ pub fn hold_part(line: &mut [u8], piece: &[u8], from: usize, held: usize) -> Par
         count = hold(line, count, b);
         at += 1;
         if b == 10 {
-            return Part {
+            return Gathered {
                 at: at,
                 held: count,
                 ended: true,
             };
         }
     }
-    Part {
+    Gathered {
         at: at,
         held: count,
         ended: false,
@@ -58,7 +58,7 @@ pub fn hold_part(line: &mut [u8], piece: &[u8], from: usize, held: usize) -> Par
 // ---- the report
 
 // Writes the report of line `number` behind what is written, and answers the place behind it.
-pub fn put_report(out: &mut [u8], at: usize, number: u32, got: Opened) -> usize
+pub fn put_report(out: &mut [u8], at: usize, number: u32, got: Returned) -> usize
     requires { ⌜ at + bufferLimit ≤ length (now out) ⌝ }
     ensures { λ r.
         let line = reportLine (reportOf number got) in
@@ -69,7 +69,7 @@ pub fn put_report(out: &mut [u8], at: usize, number: u32, got: Opened) -> usize
     let rec = got.after;
     let call = got.report;
     let outcome = call.outcome;
-    let line = report::Report {
+    let line = report::ReportFields {
         number: number,
         outcome: outcome,
         depots: rec.number,

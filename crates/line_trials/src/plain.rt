@@ -2,7 +2,7 @@
 // looked up in a table, and a line is taken apart as it comes.
 use outcome::Change;
 use outcome::Outcome;
-use report::Report;
+use report::ReportFields;
 
 // What every lent buffer holds before a call: the bytes past what is written have to keep it.
 pub const FILL: u8 = 7;
@@ -104,7 +104,7 @@ pub fn write(frame: &[u8], out: &mut [u8]) -> usize {
 }
 
 // The length of a report's line, which is put into out.
-pub fn report(r: Report, out: &mut [u8]) -> usize {
+pub fn report(r: ReportFields, out: &mut [u8]) -> usize {
     let a = number(out, 0, r.number);
     let o = r.outcome;
     let b = outcome(out, a, o);

@@ -5,7 +5,7 @@ use notice::Reading;
 use notice::Writing;
 use outcome::Change;
 use outcome::Outcome;
-use report::Report;
+use report::ReportFields;
 use report::Written;
 use testbed::lent::part;
 use testbed::tally::Tally;
@@ -13,7 +13,7 @@ use testbed::tally::both;
 use testbed::tally::start;
 
 // One report, beside the plain one: answer, every byte of the buffer, and the part handed back.
-fn try_report(t: Tally, r: Report) -> Tally {
+fn try_report(t: Tally, r: ReportFields) -> Tally {
     let mut got = [FILL; 60];
     let mut want = [FILL; 60];
     let mut lent = [FILL; 60];
@@ -71,7 +71,7 @@ fn some_reports(before: Tally, first: u32, i: usize) -> Tally {
     while j < 16 {
         let second = VALUES[j];
         let outcome = outcome_of((i % 4 + j) % 4, (second % 256) as u8);
-        let r = Report {
+        let r = ReportFields {
             number: first,
             outcome,
             depots: (second % 65536) as u16,
@@ -116,7 +116,7 @@ fn reads_back(text: &[u8]) -> bool {
 
 // One line of the document's stream: it is read and written again, and its report is the document's,
 // which is printed from the part handed back.
-fn stream_line(t: Tally, text: &[u8], r: Report, expected: &[u8]) -> Tally {
+fn stream_line(t: Tally, text: &[u8], r: ReportFields, expected: &[u8]) -> Tally {
     let mut lent = [FILL; 48];
     let handed = report::report_line(&mut lent, r);
     let part = handed[0];
@@ -132,8 +132,8 @@ pub fn shown(
     chain: u16,
     pairs: u32,
     searches: u16,
-) -> Report {
-    Report {
+) -> ReportFields {
+    ReportFields {
         number,
         outcome,
         depots,

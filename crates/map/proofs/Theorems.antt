@@ -1,21 +1,20 @@
 -- What an open set and links read from words mean, and the emptying: theorems that are no function's contract. Assumes nothing.
 use mathlib.Core.Path.{_≡_, refl}
-use mathlib.Core.Bool.{not, _&&_, and-true as and-with-true}
+use mathlib.Core.Bool.{_&&_, and-true as and-with-true}
 use mathlib.Core.List.{List, [], _∷_}
 use Prim.Native.Nat.{ℕ, zero, suc, _*_, _<_}
 use native.Mathlib.Omega.{arith}
-use lib.Dec.{T, ltb, leb, lit<, lit≤}
-use lib.ListN.{length}
+use lib.Dec.{T, ltb, lit<, lit≤}
 use borrow.Author.Tests.{ltb-true}
 use Rattle.lists.specs.Lists.{allb}
-use Rattle.lists.specs.Conditions.{Refuses}
+use Rattle.lists.specs.Conditions.{IsShort}
 use Rattle.lists.proofs.Conditions.{decides-short, refuses-by}
 use Rattle.lists.proofs.Tests.{t→true, and-true}
 use Rattle.rows.specs.Rows.{rowBit, tableBit}
-use Rattle.map.specs.Memory.{Shape, tableWords, networkOf, IsShape, base}
-use Rattle.map.specs.Empty.{emptyRecord, emptyRefusal, emptyGiven, emptyCall, emptyConditions, IsEmpty, refusalOf}
+use Rattle.map.specs.Memory.{Shape, networkOf, IsShape, base}
+use Rattle.map.specs.Empty.{emptyRecord, emptyRefusal, emptyGiven, emptyCall, IsEmpty, emptyingNumber, emptyBuffers, EmptyDemand1}
 use Rattle.map.specs.declared.Record.{Record}
-use Rattle.map.specs.declared.Emptying.the-variants.{Done, Refused}
+use Rattle.map.specs.declared.Emptying.the-variants.{Done}
 use Rattle.map.proofs.Empties.{row-zeros, table-zeros}
 
 -- ---- codes and links read from words lie below the limit
@@ -34,25 +33,23 @@ network-linked-below W codes links u v l =
 -- ---- AN EMPTYING IS REFUSED ONLY WITH 1, and an emptied map is empty
 
 -- the answer's number is the refusal, 0 where there is none
-pub emptying-numbered : (K : Shape) (rec : Record) (links pairs : List ℕ) → refusalOf (emptyCall K rec links pairs .answer) ≡ emptyRefusal K links pairs
+pub emptying-numbered : (K : Shape) (rec : Record) (links pairs : List ℕ) → emptyingNumber (emptyCall K rec links pairs .answer) ≡ emptyRefusal K links pairs
 unfolding emptyCall emptyGiven
 emptying-numbered K rec links pairs = go (emptyRefusal K links pairs)
   where
-    go : (k : ℕ) → refusalOf (emptyGiven k K rec links pairs .answer) ≡ k
+    go : (k : ℕ) → emptyingNumber (emptyGiven k K rec links pairs .answer) ≡ k
     go zero = refl
     go (suc k) = refl
 
 -- refused if and only if a table is short, and then nothing changes
-pub empty-refusals : (K : Shape) (rec : Record) (links pairs : List ℕ)
-    → Refuses (emptyConditions K links pairs) (refusalOf (emptyCall K rec links pairs .answer)) (λ k. record { answer = Refused k; after = rec; links = links; pairs = pairs }) (emptyCall K rec links pairs)
+pub empty-refusals : (K : Shape) → EmptyDemand1 K (emptyCall K)
 unfolding emptyCall emptyRefusal emptyGiven allb
 empty-refusals K rec links pairs =
-    let buffers : List (ℕ × ℕ) = (tableWords K, length links) ∷ (tableWords K, length pairs) ∷ [] in
-    refuses-by ((not (leb (tableWords K) (length links) && leb (tableWords K) (length pairs)), 1) ∷ []) (emptyConditions K links pairs)
-    (refl, rw and-with-true at (decides-short buffers), λ f. tt)
-    (λ k. emptyGiven k K rec links pairs) _ (λ l. refusalOf (l .answer)) numbered (λ k. refl)
+    refuses-by _ ((IsShort (emptyBuffers K links pairs), 1) ∷ [])
+    (refl, rw and-with-true at (decides-short (emptyBuffers K links pairs)), λ f. tt)
+    (λ k. emptyGiven k K rec links pairs) _ (λ l. emptyingNumber (l .answer)) numbered (λ k. refl)
   where
-    numbered : (k : ℕ) → refusalOf (emptyGiven k K rec links pairs .answer) ≡ k
+    numbered : (k : ℕ) → emptyingNumber (emptyGiven k K rec links pairs .answer) ≡ k
     numbered zero = refl
     numbered (suc k) = refl
 

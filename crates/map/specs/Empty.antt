@@ -7,7 +7,7 @@ use Prim.Native.Nat.{ℕ, zero, suc}
 use lib.Dec.{leb}
 use lib.ListN.{length}
 use Rattle.lists.specs.Lists.{range, mapl, overwrite, firstOf}
-use Rattle.lists.specs.Conditions.{IsShort}
+use Rattle.lists.specs.Conditions.{Refuses, IsShort}
 use Rattle.rows.specs.Rows.{tableBit}
 use Rattle.map.specs.Memory.{Shape, tableWords, networkOf}
 use Rattle.map.specs.declared.Record.{Record}
@@ -22,9 +22,9 @@ unfoldable pub emptyRecord : ℕ → Record
 emptyRecord W = record { codes = zeros W; number = 0; chain = 0; count = 0 }
 
 -- this paper's number for each case of the answer: the refusal, 0 for none
-abbrev pub refusalOf : Emptying → ℕ
-refusalOf Done = 0
-refusalOf (Refused k) = k
+abbrev pub emptyingNumber : Emptying → ℕ
+emptyingNumber Done = 0
+emptyingNumber (Refused k) = k
 
 -- what the call leaves: its answer, the record and the two lent tables, words past the named size included
 pub record EmptyLeft : Type 0 where
@@ -51,9 +51,18 @@ emptyGiven (suc k) K rec links pairs = record { answer = Refused (suc k); after 
 unfoldable pub emptyCall : Shape → Record → List ℕ → List ℕ → EmptyLeft
 emptyCall K rec links pairs = emptyGiven (emptyRefusal K links pairs) K rec links pairs
 
--- which refusal: `empty-refusals` (proofs/Theorems)
-abbrev pub emptyConditions : Shape → List ℕ → List ℕ → List (Type 0 × ℕ)
-emptyConditions K links pairs = (IsShort ((tableWords K, length links) ∷ (tableWords K, length pairs) ∷ []), 1) ∷ []
+-- DEMAND 1 of a program whose emptying is `step`: refused with 1 exactly if a table is short, and then nothing changes (`empty-refusals`)
+abbrev pub emptyBuffers : Shape → List ℕ → List ℕ → List (ℕ × ℕ)
+emptyBuffers K links pairs = (tableWords K, length links) ∷ (tableWords K, length pairs) ∷ []
+
+abbrev pub EmptyDemand1 : Shape → (Record → List ℕ → List ℕ → EmptyLeft) → Type 0
+EmptyDemand1 K step =
+    (rec : Record) (links pairs : List ℕ)
+    → Refuses
+    ((IsShort (emptyBuffers K links pairs), 1) ∷ [])
+    (emptyingNumber (step rec links pairs .answer))
+    (λ k. record { answer = Refused k; after = rec; links = links; pairs = pairs })
+    (step rec links pairs)
 
 -- ---- what it means
 

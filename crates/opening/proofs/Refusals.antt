@@ -1,23 +1,18 @@
 -- AN OPENING IS REFUSED by the first of document 01's conditions that holds, and then changes nothing. Assumes nothing.
 use mathlib.Core.Path.{_≡_, refl}
-use mathlib.Core.List.{List}
 use Prim.Native.Nat.{ℕ, zero, suc}
-use Rattle.lists.specs.Conditions.{Refuses}
 use Rattle.lists.proofs.Conditions.{decides-short, refuses-by}
-use Rattle.graph.specs.Opening.{Notice, Change, grew, kept, shrank, noticeFaults}
+use Rattle.graph.specs.Opening.{Change, grew, kept, shrank, noticeFaults}
 use Rattle.graph.specs.Refusals.{noticeConditions}
 use Rattle.graph.proofs.Refusals.{notice-tells}
 use Rattle.rows.specs.Rows.{tableBit}
 use Rattle.map.specs.Memory.{Shape, IsShape, networkOf}
-use Rattle.map.specs.declared.Record.{Record}
 use Rattle.checks.proofs.Refusals.{map-tells}
-use Rattle.rounds.specs.Leaves.{Lent}
 use Rattle.reckon.specs.Refusals.{roundsBuffers}
 use Rattle.reckon.proofs.Theorems.{long-is}
 use Rattle.outcome.specs.Outcome.{refusalOf}
-use Rattle.outcome.specs.declared.Outcome.the-variants.{Refused}
-use Rattle.opening.specs.OpenCall.{changeOf, openedBy, openRefusal, leftOf, openGiven, openCall}
-use Rattle.opening.specs.Refusals.{openConditions}
+use Rattle.opening.specs.OpenCall.{changeOf, openedBy, openRefusal, openGiven, openCall}
+use Rattle.opening.specs.Refusals.{openConditions, OpenDemand1}
 
 -- an accepted call has no number
 accepted-number : (c : Change) → refusalOf (changeOf c) ≡ 0
@@ -26,15 +21,16 @@ accepted-number grew = refl
 accepted-number kept = refl
 accepted-number shrank = refl
 
-pub open-refusals : (K : Shape) → IsShape K → (rec : Record) (links : List ℕ) (B : Lent) (o : Notice)
-    → Refuses (openConditions K rec links B o) (refusalOf (openCall K rec links B o .report .outcome)) (λ k. leftOf (record { outcome = Refused k; searches = 0 }) rec links B) (openCall K rec links B o)
+pub open-refusals : (K : Shape) → IsShape K → OpenDemand1 K (openCall K)
 unfolding openCall openRefusal openGiven refusalOf
 open-refusals K shape rec links B o =
     let G = networkOf (K .words) (rec .codes) links in
     refuses-by _ (openConditions K rec links B o) (
       refl,
       rw (← long-is K links B) at (decides-short (roundsBuffers K links B)),
-      λ f. map-tells (K .words) (shape .most) (rec .codes) links (rec .number) (noticeFaults G o) (noticeConditions G o) (notice-tells G o) (tableBit (K .words) (B .pairs)) (rec .chain) (rec .count),
+      λ f.
+          map-tells (K .words) (shape .most) (rec .codes) links (rec .number) (noticeFaults G o) (noticeConditions G o) (notice-tells G o)
+          (tableBit (K .words) (B .pairs)) (rec .chain) (rec .count),
     )
     (λ k. openGiven k K rec links B o) _ (λ l. refusalOf (l .report .outcome)) numbered (λ k. refl)
   where

@@ -19,7 +19,7 @@ use Rattle.rounds.specs.Leaves.{Lent, lent}
 use Rattle.rounds.specs.Sizes.{Sizes, sizes, sizesOf, longEnough}
 use Rattle.opening.specs.OpenCall.{openRefusal, OpenLeft, openLeft, openGiven, openCall}
 use Rattle.opening.specs.Steps.{mapRefusal, refusedWith}
-use Rattle.opening.specs.declared.Opened.{Opened}
+use Rattle.opening.specs.declared.Returned.{Returned}
 
 module _ (K : Shape) (rec : Record) (links pairs : List ℕ) (z : Sizes) where
   abbrev G : Network
@@ -83,9 +83,9 @@ module _ (K : Shape) (rec : Record) (links p h b s x y : List ℕ) (o : Notice) 
   abbrev z : Sizes
   z = sizes (length links) (length p) (length h) (length b) (length s) (length x) (length y)
 
-  pub refused-call : (k : ℕ) (r : Opened) → r ≡ refusedWith k rec → k ≡ openRefusal K rec links p z o → (k ≡ 0 → ⊥) → openLeft r links B ≡ openCall K rec links B o
+  pub refused-call : (k : ℕ) (r : Returned) → r ≡ refusedWith k rec → k ≡ openRefusal K rec links p z o → (k ≡ 0 → ⊥) → openLeft r links B ≡ openCall K rec links B o
   unfolding openCall openGiven sizesOf
-  refused-call k r q e n = ap (λ (r : Opened). openLeft r links B) q ∙ go k n ∙ ap (λ (m : ℕ). openGiven m K rec links B o) e
+  refused-call k r q e n = ap (λ (r : Returned). openLeft r links B) q ∙ go k n ∙ ap (λ (m : ℕ). openGiven m K rec links B o) e
     where
       go : (k : ℕ) → (k ≡ 0 → ⊥) → openLeft (refusedWith k rec) links B ≡ openGiven k K rec links B o
       go zero n = absurd (n refl)

@@ -31,7 +31,7 @@ use Rattle.outcome.specs.declared.Change.{Change}
 use Rattle.outcome.specs.declared.Change.the-variants.{Grew, Kept, Shrank}
 use Rattle.outcome.specs.declared.Outcome.the-variants.{Accepted}
 use Rattle.opening.specs.OpenCall.{changeOf, openRefusal, networkAfter, openedBy, openGiven, openCall, referencesBy, referencesOf}
-use Rattle.opening.specs.Tables.{AreTables}
+use Rattle.opening.specs.Tables.{AreTables, LeavesTables}
 use Rattle.opening.proofs.Memories.{IsHeld, open-below}
 use Rattle.opening.proofs.Grants.{granted-long, granted-net, granted-notice, granted-low, granted-chain, held-after}
 use Rattle.opening.proofs.Marks.{opened-searched, changed-shrank}
@@ -46,7 +46,8 @@ changed-accepted Graph.grew = (Grew, refl)
 changed-accepted Graph.kept = (Kept, refl)
 changed-accepted Graph.shrank = (Shrank, refl)
 
-module _ (K : Shape) (shape : IsShape K) (rec : Record) (links : List ℕ) (B : Lent) (o : Notice) (ok : openRefusal K rec links (B .pairs) (sizesOf links B) o ≡ 0) (low : o .code < places K) where
+module _ (K : Shape) (shape : IsShape K) (rec : Record) (links : List ℕ) (B : Lent) (o : Notice)
+    (ok : openRefusal K rec links (B .pairs) (sizesOf links B) o ≡ 0) (low : o .code < places K) where
   abbrev H : Network
   H = networkAfter K rec links o
 
@@ -104,6 +105,9 @@ module _ (K : Shape) (shape : IsShape K) (rec : Record) (links : List ℕ) (B : 
     skipsKept = over-keeps _ _ (B .skips) (length-fill _ (places K)) (long .skips-fit);
   }
 
-  pub open-tables : AreTables K (networkAfter K rec links o) (o .code) (referencesOf K rec links B o) links B (openCall K rec links B o)
+  call-tables : AreTables K (networkAfter K rec links o) (o .code) (referencesOf K rec links B o) links B (openCall K rec links B o)
   unfolding openCall referencesOf referencesBy
-  open-tables = subst (λ (k : ℕ). AreTables K H (o .code) (referencesBy k K rec links B o) links B (openGiven k K rec links B o)) (sym ok) given-tables
+  call-tables = subst (λ (k : ℕ). AreTables K H (o .code) (referencesBy k K rec links B o) links B (openGiven k K rec links B o)) (sym ok) given-tables
+
+pub open-tables : (K : Shape) → IsShape K → LeavesTables K (openCall K)
+open-tables K shape = call-tables K shape

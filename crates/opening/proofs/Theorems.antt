@@ -12,7 +12,7 @@ use Rattle.rounds.specs.Sizes.{sizesOf}
 use Rattle.opening.specs.OpenCall.{openRefusal, networkAfter, openGiven, openCall, referencesBy, referencesOf}
 use Rattle.opening.specs.Memory.{Memory}
 use Rattle.opening.specs.Represents.{Represents, IsMarked}
-use Rattle.opening.specs.Demand2.{mapAfter, Demand2}
+use Rattle.opening.specs.Demand2.{mapAfter, OpenDemand2}
 use Rattle.opening.proofs.Memories.{written-represents}
 use Rattle.opening.proofs.Grants.{held-after}
 use Rattle.opening.proofs.Openings.{opened-writes}
@@ -38,10 +38,10 @@ module _ (K : Shape) (shape : IsShape K) (rec : Record) (links : List ℕ) (B : 
       subst (λ (k : ℕ). IsMarked K (networkAfter K rec links o) (referencesBy k K rec links B o) (openGiven k K rec links B o)) (sym ok)
       (opened-marked K shape rec links B o ok low)
 
-pub demand2 : (K : Shape) → IsShape K → Demand2 K (openCall K)
-demand2 K shape = record { figures = opened-represents K shape; marks = accepted-marked K shape }
+pub open-demand2 : (K : Shape) → IsShape K → OpenDemand2 K (openCall K)
+open-demand2 K shape = record { figures = opened-represents K shape; marks = accepted-marked K shape }
 
 -- ---- document 01's map
 
-pub demand2-base : Demand2 base (openCall base)
-demand2-base = demand2 base base-shape
+pub open-demand2-base : OpenDemand2 base (openCall base)
+open-demand2-base = open-demand2 base base-shape

@@ -20,7 +20,7 @@ use Rattle.opening.specs.Represents.{Represents, IsMarked}
 abbrev pub mapAfter : OpenLeft → Memory
 mapAfter l = record { links = l .links; pairs = l .lent .pairs; rec = l .after }
 
-pub record Demand2 (K : Shape) (step : Step) : Type 0 where
+pub record OpenDemand2 (K : Shape) (step : Step) : Type 0 where
   pub figures : (rec : Record) (links : List ℕ) (B : Lent) (o : Notice) → openRefusal K rec links (B .pairs) (sizesOf links B) o ≡ 0 → o .code < places K
       → AreTrue (networkOf (K .words) (rec .codes) links) (networkOf (K .words) (rec .codes) links .isOpen) (rec .chain) (tableBit (K .words) (B .pairs))
       → Represents K (mapAfter (step rec links B o)) (networkAfter K rec links o)

@@ -8,7 +8,7 @@ use Rattle.lists.specs.Lists.{range, overwrite, firstOf}
 use Rattle.graph.specs.Network.{Network}
 use Rattle.graph.specs.Distance.{connected}
 use Rattle.graph.specs.Chart.{chart, countPairs}
-use Rattle.graph.specs.Opening.{Notice, addDepot, noticeFaults, Change, grew, kept, shrank, Opened, opening}
+use Rattle.graph.specs.Opening.{Notice, addDepot, noticeFaults, Change, grew, kept, shrank, Returned, opening}
 use Rattle.rows.specs.Rows.{tableBit, encodeRow, encodeTable}
 use Rattle.map.specs.Memory.{Shape, places, networkOf}
 use Rattle.checks.specs.Sound.{soundLinks, soundFigures}
@@ -19,7 +19,7 @@ use Rattle.outcome.specs.declared.Change.the-variants.{Grew, Kept, Shrank}
 use Rattle.outcome.specs.declared.Outcome.{Outcome}
 use Rattle.outcome.specs.declared.Outcome.the-variants.{Accepted, Refused}
 use Rattle.opening.specs.declared.Report.{Report}
-use Rattle.opening.specs.declared.Opened.{Opened as Answer}
+use Rattle.opening.specs.declared.Returned.{Returned as Answer}
 
 -- the answer's case for each way in which the chain moves
 unfoldable pub changeOf : Change → Outcome
@@ -41,7 +41,7 @@ openRefusal K rec links pairs sizes o =
 unfoldable pub networkAfter : Shape → Record → List ℕ → Notice → Network
 networkAfter K rec links o = addDepot (networkOf (K .words) (rec .codes) links) (o .code) (o .neighbours)
 
-unfoldable pub openedBy : Shape → Record → List ℕ → List ℕ → Notice → Opened
+unfoldable pub openedBy : Shape → Record → List ℕ → List ℕ → Notice → Returned
 openedBy K rec links pairs o = opening (chart (networkAfter K rec links o)) (o .code) (rec .chain) (tableBit (K .words) pairs)
 
 -- what the call leaves: its report with the record, the link table, and the other lent tables

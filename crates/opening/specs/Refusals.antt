@@ -1,9 +1,9 @@
 -- WHICH REFUSAL AN OPENING GIVES (document 01, 'Numbers the scanner shows'), in the published words: demand 1 for the opening.
--- `open-refusals` (proofs/Refusals) says of `openCall` that it is refused with the first that holds, and then changes nothing.
+-- `open-refusals` (proofs/Refusals) proves it of `openCall` for every shape.
 -- Assumes nothing.
 use mathlib.Core.List.{List, _∷_, _++_}
 use Prim.Native.Nat.{ℕ}
-use Rattle.lists.specs.Conditions.{IsShort}
+use Rattle.lists.specs.Conditions.{Refuses, IsShort}
 use Rattle.graph.specs.Opening.{Notice}
 use Rattle.graph.specs.Refusals.{noticeConditions}
 use Rattle.rows.specs.Rows.{tableBit}
@@ -12,6 +12,9 @@ use Rattle.checks.specs.Refusals.{mapConditions}
 use Rattle.map.specs.declared.Record.{Record}
 use Rattle.rounds.specs.Leaves.{Lent}
 use Rattle.reckon.specs.Refusals.{roundsBuffers}
+use Rattle.outcome.specs.Outcome.{refusalOf}
+use Rattle.outcome.specs.declared.Outcome.the-variants.{Refused}
+use Rattle.opening.specs.OpenCall.{OpenLeft, leftOf}
 
 -- 1 short, 2 spoilt (links or figures), 3 apart, 5 taken, 6 lonely, 7 unsorted, 8 unknown
 abbrev pub openConditions : Shape → Record → List ℕ → Lent → Notice → List (Type 0 × ℕ)
@@ -20,3 +23,13 @@ openConditions K rec links B o =
     (IsShort (roundsBuffers K links B), 1)
     ∷ mapConditions G (rec .number) (tableBit (K .words) (B .pairs)) (rec .chain) (rec .count)
     ++ noticeConditions G o
+
+-- DEMAND 1 of a program whose opening call is `step`: refused with the first that holds, and then nothing changes
+abbrev pub OpenDemand1 : Shape → (Record → List ℕ → Lent → Notice → OpenLeft) → Type 0
+OpenDemand1 K step =
+    (rec : Record) (links : List ℕ) (B : Lent) (o : Notice)
+    → Refuses
+    (openConditions K rec links B o)
+    (refusalOf (step rec links B o .report .outcome))
+    (λ k. leftOf (record { outcome = Refused k; searches = 0 }) rec links B)
+    (step rec links B o)

@@ -12,7 +12,7 @@ use Rattle.checks.specs.Sound.{soundLinks, soundFigures}
 use Rattle.map.specs.declared.Record.{Record}
 use Rattle.rounds.specs.Sizes.{Sizes, longEnough}
 use Rattle.outcome.specs.declared.Outcome.the-variants.{Refused}
-use Rattle.opening.specs.declared.Opened.{Opened}
+use Rattle.opening.specs.declared.Returned.{Returned}
 
 -- the first refusal of the lent memory alone, whatever the notice: 1 short, 2 spoilt, 3 apart; 0: none
 unfoldable pub mapRefusal : Shape → Record → List ℕ → List ℕ → Sizes → ℕ
@@ -27,5 +27,5 @@ mapRefusal K rec links pairs sizes =
 abbrev pub noticeOf : ℕ → List ℕ → Notice
 noticeOf code neighbours = record { code = code; neighbours = neighbours }
 
-abbrev pub refusedWith : ℕ → Record → Opened
+abbrev pub refusedWith : ℕ → Record → Returned
 refusedWith number rec = record { report = record { outcome = Refused number; searches = 0 }; after = rec }

@@ -11,15 +11,18 @@ use Rattle.lists.specs.Lists.{memb, lastOr}
 use Rattle.graph.specs.Network.{Network, IsEcc}
 use Rattle.graph.specs.Distance.{unreached}
 use Rattle.graph.specs.Correct.{IsSkipped}
+use Rattle.graph.specs.Opening.{Notice}
 use Rattle.map.specs.Memory.{Shape, places, tableWords}
+use Rattle.map.specs.declared.Record.{Record}
 use Rattle.search.specs.SearchCall.{searchLeft}
 use Rattle.search.specs.Demand2.{KeepsPast, IsSearch}
 use Rattle.search.specs.declared.Found.the-variants.{Reached}
 use Rattle.rounds.specs.Leaves.{Lent}
+use Rattle.rounds.specs.Sizes.{sizesOf}
 use Rattle.outcome.specs.declared.Change.{Change}
 use Rattle.outcome.specs.declared.Change.the-variants.{Shrank}
 use Rattle.outcome.specs.declared.Outcome.the-variants.{Accepted}
-use Rattle.opening.specs.OpenCall.{OpenLeft}
+use Rattle.opening.specs.OpenCall.{openRefusal, networkAfter, OpenLeft, referencesOf}
 
 -- the place of v holds neither a reference nor a bound: 257 and 65,535 in document 01
 abbrev pub IsBlank : Shape → OpenLeft → ℕ → Type 0
@@ -48,3 +51,9 @@ pub record AreTables (K : Shape) (H : Network) (a : ℕ) (references links : Lis
   pub pairsKept : KeepsPast (tableWords K) (B .pairs) (l .lent .pairs)
   pub boundsKept : KeepsPast (places K) (B .bounds) (l .lent .bounds)
   pub skipsKept : KeepsPast (places K) (B .skips) (l .lent .skips)
+
+-- of a program whose opening call is `step`: every call that nothing refuses leaves such tables
+abbrev pub LeavesTables : Shape → (Record → List ℕ → Lent → Notice → OpenLeft) → Type 0
+LeavesTables K step =
+    (rec : Record) (links : List ℕ) (B : Lent) (o : Notice) → openRefusal K rec links (B .pairs) (sizesOf links B) o ≡ 0 → o .code < places K
+    → AreTables K (networkAfter K rec links o) (o .code) (referencesOf K rec links B o) links B (step rec links B o)

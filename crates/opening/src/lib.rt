@@ -20,7 +20,7 @@ pub struct Report {
 }
 
 // What an opening leaves beside the lent tables: its report and the record.
-pub struct Opened {
+pub struct Returned {
     pub report: Report,
     pub after: Record,
 }
@@ -59,14 +59,14 @@ pub fn map_refusal(
 }
 
 // What a refused opening answers.
-fn refused(rec: Record, number: u8) -> Opened
+fn refused(rec: Record, number: u8) -> Returned
     ensures { λ r. ⌜ r ≡ refusedWith number rec ⌝ }
 {
     let report = Report {
         outcome: Outcome::Refused(number),
         searches: 0,
     };
-    Opened { report, after: rec }
+    Returned { report, after: rec }
 }
 
 // ---- the opening
@@ -93,7 +93,7 @@ fn open_map(
     odd: &mut [u64],
     code: u8,
     neighbours: &[u8],
-) -> Opened
+) -> Returned
     requires { let long = sizesAt links pairs hops bounds skips even odd in
         ⌜ openRefusal base rec (now links) (now pairs) long (noticeOf code (now neighbours)) ≡ 0 ⌝ }
     ensures { λ r.
@@ -129,7 +129,7 @@ fn open_map(
         outcome: Outcome::Accepted(change),
         searches: got.searches,
     };
-    Opened {
+    Returned {
         report: report,
         after: after,
     }
@@ -147,7 +147,7 @@ pub fn open_sound(
     odd: &mut [u64],
     code: u8,
     neighbours: &[u8],
-) -> Opened
+) -> Returned
     requires { let long = sizesAt links pairs hops bounds skips even odd in
         ⌜ mapRefusal base rec (now links) (now pairs) long ≡ 0 ⌝ }
     ensures { λ r.
@@ -188,7 +188,7 @@ pub fn open_step(
     odd: &mut [u64],
     code: u8,
     neighbours: &[u8],
-) -> Opened
+) -> Returned
     ensures { λ r.
         let before = lentBefore pairs hops bounds skips even odd in
         let after = lentAfter pairs hops bounds skips even odd in

@@ -4,7 +4,7 @@ use crate::false_figures;
 use crate::notices;
 use crate::notices::Notice;
 use map::Record;
-use opening::Opened;
+use opening::Returned;
 use plain_steps::distances;
 use plain_steps::list;
 use plain_steps::list::wide;
@@ -85,7 +85,7 @@ fn open(
     odd: &mut [u64],
     n: Notice,
     near: &[u8],
-) -> Opened {
+) -> Returned {
     lent_opening::open_value(
         rec,
         first_words(links, size(1023, 1, n.short)),
@@ -154,7 +154,7 @@ fn is_left(
 }
 
 // Whether the call answered what is expected.
-fn is_answered(got: Opened, bits: &[u8], want: Want) -> bool {
+fn is_answered(got: Returned, bits: &[u8], want: Want) -> bool {
     let report = got.report;
     let after = got.after;
     both(
@@ -211,7 +211,7 @@ fn turn(
 }
 
 // Where the history stands after a call, and whether all was as expected.
-fn next(s: State, got: Opened, want: Want, ok: bool) -> State {
+fn next(s: State, got: Returned, want: Want, ok: bool) -> State {
     let before = s.tally;
     let rec = got.after;
     let tally = before.seen(ok);

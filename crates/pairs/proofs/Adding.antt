@@ -18,7 +18,7 @@ use Rattle.rows.specs.Rows.{rowBit, tableBit}
 use Rattle.rows.proofs.Written.{row-in}
 use Rattle.pairs.specs.Pairs.{tally, tallyOf, pairsWith}
 use Rattle.rows.specs.Rows.{inWord}
-use Rattle.pairs.proofs.Tallies.{Holds, holds-table, holds-ext, tally-again}
+use Rattle.pairs.proofs.Tallies.{HoldsPairs, holds-table, holds-ext, tally-again}
 
 -- ---- the pairs of r with the members of any set
 
@@ -166,13 +166,13 @@ addedBelow W last r t₀ at u v = tableBit W t₀ u v || withSet r (memberBelow 
 
 pub record Adding (W : ℕ) (last : List ℕ) (r : ℕ) (t₀ t : List ℕ) (n at : ℕ) : Type 0 where
   pub within : at ≤ 64 * W
-  pub holds : Holds W (addedBelow W last r t₀ at) t₀ t n
+  pub holds : HoldsPairs W (addedBelow W last r t₀ at) t₀ t n
 
 or-none : (x : Bool) → (x || false) ≡ x
 or-none true = refl
 or-none false = refl
 
-pub add-start : {W : ℕ} (last : List ℕ) (r : ℕ) {t : List ℕ} {n : ℕ} → Holds W (tableBit W t) t t n → Adding W last r t t n 0
+pub add-start : {W : ℕ} (last : List ℕ) (r : ℕ) {t : List ℕ} {n : ℕ} → HoldsPairs W (tableBit W t) t t n → Adding W last r t t n 0
 unfolding addedBelow
 add-start {W} last r {t} {n} h = record {
   within = omega arith;
@@ -185,12 +185,12 @@ add-start {W} last r {t} {n} h = record {
 module _ {W : ℕ} {last : List ℕ} {r : ℕ} {t₀ t : List ℕ} {n j : ℕ} (i : Adding W last r t₀ t n (64 * j)) (k : j < W) where
   -- the members above r, and their pairs
   module _ (hi : ℕ) {t₁ : List ℕ} {n₁ : ℕ} (q₁ : tally t₁ n₁ ≡ tallyOf W (λ u v. tableBit W t u v || (eqb u r && inWord j hi v)) t) where
-    pub add-upper : Holds W (λ u v. addedBelow W last r t₀ (64 * j) u v || (eqb u r && inWord j hi v)) t₀ t₁ n₁
+    pub add-upper : HoldsPairs W (λ u v. addedBelow W last r t₀ (64 * j) u v || (eqb u r && inWord j hi v)) t₀ t₁ n₁
     add-upper = record { is = q₁ ∙ tally-again W (addedBelow W last r t₀ (64 * j)) (λ b u v. b || (eqb u r && inWord j hi v)) t₀ t (holds-table (i .holds)) }
 
     -- the members below r, and their pairs
     module _ (lo : ℕ) {t₂ : List ℕ} {n₂ : ℕ} (q₂ : tally t₂ n₂ ≡ tallyOf W (λ u v. tableBit W t₁ u v || (eqb v r && inWord j lo u)) t₁) where
-      both : Holds W (λ u v. (addedBelow W last r t₀ (64 * j) u v || (eqb u r && inWord j hi v)) || (eqb v r && inWord j lo u)) t₀ t₂ n₂
+      both : HoldsPairs W (λ u v. (addedBelow W last r t₀ (64 * j) u v || (eqb u r && inWord j hi v)) || (eqb v r && inWord j lo u)) t₀ t₂ n₂
       both = record {
         is =
             q₂

@@ -11,16 +11,16 @@ use lib.Dec.{eqb, ltb}
 use Rattle.graph.specs.Chart.{Pairs}
 use Rattle.pairs.specs.Pairs.{tally, tallyOf, pairsWith, settleOf, Counted, Tally}
 use Rattle.pairs.proofs.PairCounts.{pairs-none}
-use Rattle.pairs.proofs.Tallies.{Holds, holds-table, tally-again, holds-counted}
+use Rattle.pairs.proofs.Tallies.{HoldsPairs, holds-table, tally-again, holds-counted}
 
 -- a table cleared as one long row has no pair
-pub clear-holds : (W : ℕ) (t₀ t : List ℕ) → t ≡ overwrite (encodeRow (W * (64 * W)) (λ v. false)) t₀ → Holds W (λ u v. false) t₀ t 0
+pub clear-holds : (W : ℕ) (t₀ t : List ℕ) → t ≡ overwrite (encodeRow (W * (64 * W)) (λ v. false)) t₀ → HoldsPairs W (λ u v. false) t₀ t 0
 unfolding tallyOf encodeRow encodeTable
 clear-holds W t₀ t e = record { is = ap₂ tally e (sym (pairs-none (64 * W) (λ u v. false) (λ u v l m. refl))) }
 
 module _ (W : ℕ) (last : List ℕ) (r : ℕ) {e c : ℕ} (t₀ : List ℕ) (n : ℕ) where
   -- the eccentricity is above the candidate: the old pairs went, t being the cleared table
-  pub settle-above : (t t′ : List ℕ) (n′ : ℕ) → Holds W (λ u v. false) t₀ t 0 → tally t′ n′ ≡ tallyOf W (λ u v. tableBit W t u v || pairsWith W last r u v) t
+  pub settle-above : (t t′ : List ℕ) (n′ : ℕ) → HoldsPairs W (λ u v. false) t₀ t 0 → tally t′ n′ ≡ tallyOf W (λ u v. tableBit W t u v || pairsWith W last r u v) t
       → c < e → tally t′ n′ ≡ settleOf W last r e c (tally t₀ n)
   unfolding settleOf
   settle-above t t′ n′ h q l = rw (lt-ltb c e l) (q ∙ tally-again W (λ u v. false) (λ b u v. b || pairsWith W last r u v) t₀ t (holds-table h))

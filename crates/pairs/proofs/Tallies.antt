@@ -43,10 +43,10 @@ tally-again W P g t₀ t e =
 
 -- ---- the table t, written over t₀, has the pairs P, and n is their number
 
-pub record Holds (W : ℕ) (P : Pairs) (t₀ t : List ℕ) (n : ℕ) : Type 0 where
+pub record HoldsPairs (W : ℕ) (P : Pairs) (t₀ t : List ℕ) (n : ℕ) : Type 0 where
   pub is : tally t n ≡ tallyOf W P t₀
 
-module _ {W : ℕ} {P : Pairs} {t₀ t : List ℕ} {n : ℕ} (h : Holds W P t₀ t n) where
+module _ {W : ℕ} {P : Pairs} {t₀ t : List ℕ} {n : ℕ} (h : HoldsPairs W P t₀ t n) where
   pub holds-table : t ≡ overwrite (encodeTable W P) t₀
   unfolding tallyOf
   holds-table = ap (λ (x : Tally). x .pairs) (h .is)
@@ -71,11 +71,11 @@ module _ {W : ℕ} {P : Pairs} {t₀ t : List ℕ} {n : ℕ} (h : Holds W P t₀
   }
 
   -- the same pairs below 64 W
-  pub holds-ext : (Q : Pairs) → ((u v : ℕ) → u < 64 * W → v < 64 * W → P u v ≡ Q u v) → Holds W Q t₀ t n
+  pub holds-ext : (Q : Pairs) → ((u v : ℕ) → u < 64 * W → v < 64 * W → P u v ≡ Q u v) → HoldsPairs W Q t₀ t n
   holds-ext Q e = record { is = h .is ∙ tally-ext W P Q t₀ e }
 
 -- a table as it is lent
-pub holds-whole : {W : ℕ} {t : List ℕ} {n : ℕ} → Counted W t n → ((i : ℕ) → i < W * (64 * W) → getD t i 0 < 2 ^ 64) → Holds W (tableBit W t) t t n
+pub holds-whole : {W : ℕ} {t : List ℕ} {n : ℕ} → Counted W t n → ((i : ℕ) → i < W * (64 * W) → getD t i 0 < 2 ^ 64) → HoldsPairs W (tableBit W t) t t n
 unfolding tallyOf
 holds-whole {W} {t} {n} c fits = record { is = ap₂ tally (table-whole W t (c .table) fits) (c .counted) }
 
@@ -89,7 +89,7 @@ tally-fits {W} {t} {n} c =
 -- ---- one pair put
 
 -- it was there
-pub put-old : {W : ℕ} {P : Pairs} {t₀ t : List ℕ} {n : ℕ} (a b : ℕ) → Holds W P t₀ t n → P a b ≡ true → Holds W (λ u v. P u v || (eqb u a && eqb v b)) t₀ t n
+pub put-old : {W : ℕ} {P : Pairs} {t₀ t : List ℕ} {n : ℕ} (a b : ℕ) → HoldsPairs W P t₀ t n → P a b ≡ true → HoldsPairs W (λ u v. P u v || (eqb u a && eqb v b)) t₀ t n
 put-old {W} {P} {t₀} a b h e =
     holds-ext h (λ u v. P u v || (eqb u a && eqb v b))
     (λ u v l m. same-test (P u v) (P u v || (eqb u a && eqb v b)) (λ q. or-left (eqb u a && eqb v b) q) (λ q. go u v (or-true (P u v) (eqb u a && eqb v b) q)))
@@ -99,8 +99,8 @@ put-old {W} {P} {t₀} a b h e =
     go u v (inr q) = let z = and-true (eqb u a) (eqb v b) q in ap₂ P (eqb-true u a (z .0)) (eqb-true v b (z .1)) ∙ e
 
 -- it is new, and counted
-pub put-new : {W : ℕ} {P : Pairs} {t₀ t : List ℕ} {n : ℕ} (a b : ℕ) → Holds W P t₀ t n → P a b ≡ false → a < 64 * W → b < 64 * W
-    → Holds W (λ u v. P u v || (eqb u a && eqb v b)) t₀ (putBit W a b true t) (n + 1)
+pub put-new : {W : ℕ} {P : Pairs} {t₀ t : List ℕ} {n : ℕ} (a b : ℕ) → HoldsPairs W P t₀ t n → P a b ≡ false → a < 64 * W → b < 64 * W
+    → HoldsPairs W (λ u v. P u v || (eqb u a && eqb v b)) t₀ (putBit W a b true t) (n + 1)
 unfolding tallyOf
 put-new {W} {P} {t₀} {t} {n} a b h e l m = record {
   is =

@@ -27,7 +27,7 @@ use Rattle.rows.proofs.WordPuts.{put-word}
 use Rattle.pairs.specs.Pairs.{tally, tallyOf}
 use Rattle.rows.specs.Rows.{inWord}
 use Rattle.pairs.proofs.PairCounts.{pairs-with-part}
-use Rattle.pairs.proofs.Tallies.{Holds, holds-table, holds-count, holds-bit, holds-ext, tally-again}
+use Rattle.pairs.proofs.Tallies.{HoldsPairs, holds-table, holds-count, holds-bit, holds-ext, tally-again}
 use Rattle.words.proofs.Lowest.{without-inside, without-here, without-other}
 
 -- ---- small laws of tests
@@ -87,7 +87,7 @@ word-few x e = omega (arith, e, count-le-length (bit x) (range 64), length-range
 
 -- ---- those above: the word or x in the row of `low`, and as many more as were not there
 
-module _ {W : ℕ} {P : Pairs} {t₀ t : List ℕ} {n : ℕ} (h : Holds W P t₀ t n) (low j x : ℕ) (l : low < 64 * W) (k : j < W) where
+module _ {W : ℕ} {P : Pairs} {t₀ t : List ℕ} {n : ℕ} (h : HoldsPairs W P t₀ t n) (low j x : ℕ) (l : low < 64 * W) (k : j < W) where
   abbrev place : ℕ
   place = W * low + j
 
@@ -148,9 +148,9 @@ module _ (W j x high : ℕ) (t₀ : List ℕ) where
 
   pub record Lowering (t : List ℕ) (n left : ℕ) : Type 0 where
     pub inside : (b : ℕ) → b < 64 → bit left b ≡ true → bit x b ≡ true
-    pub holds : Holds W (lowerPut left) t₀ t n
+    pub holds : HoldsPairs W (lowerPut left) t₀ t n
 
-  pub lower-start : {n : ℕ} → Holds W (tableBit W t₀) t₀ t₀ n → Lowering t₀ n x
+  pub lower-start : {n : ℕ} → HoldsPairs W (tableBit W t₀) t₀ t₀ n → Lowering t₀ n x
   unfolding lowerPut passed
   lower-start h = record {
     inside = λ b l e. e;
@@ -208,7 +208,7 @@ module _ (W j x high : ℕ) (t₀ : List ℕ) where
           (λ u v a c. sym (ap (λ (z : Bool). tableBit W t₀ u v || (eqb v high && z)) (passed-more u) ∙ go (tableBit W t₀ u v) (eqb v high) (passed left u) (eqb u (64 * j + b))));
     }
       where
-        put : tally t′ n′ ≡ tallyOf W (λ u v. lowerPut left u v || (eqb u (64 * j + b) && eqb v high)) t₀ → Holds W (λ u v. lowerPut left u v || (eqb u (64 * j + b) && eqb v high)) t₀ t′ n′
+        put : tally t′ n′ ≡ tallyOf W (λ u v. lowerPut left u v || (eqb u (64 * j + b) && eqb v high)) t₀ → HoldsPairs W (λ u v. lowerPut left u v || (eqb u (64 * j + b) && eqb v high)) t₀ t′ n′
         put q = record { is = q }
 
         go : (p a m e : Bool) → (p || (a && (m || e))) ≡ ((p || (a && m)) || (e && a))

@@ -23,7 +23,7 @@ use Rattle.pairs.specs.Pairs.{tally}
 use Rattle.bounds.specs.Bounds.{marks}
 use Rattle.rounds.specs.Leaves.{Lent, lent, Ran, ran, ranBy}
 use Rattle.rounds.specs.Sizes.{Sizes, sizes, sizesOf, longEnough}
-use Rattle.rounds.specs.Workspace.{Workspace, workspace, runOf, Begun, begun, beginOf}
+use Rattle.rounds.specs.Workspace.{Workspace, workspace, runOf, RoundsBegun, roundsBegun, roundsBeginOf}
 use Rattle.rounds.proofs.Holding.{Origin}
 use Rattle.rounds.proofs.Finish.{start-holds, start-running, run-leaves, run-figures}
 use Rattle.reckon.specs.ReckonCall.{linkFaults, reckonRefusal, figuredBy, reckonLeft, reckonGiven, reckonCall}
@@ -82,14 +82,14 @@ module _ (K : Shape) (shape : IsShape K) (codes links : List ℕ) (net : IsNet (
   abbrev N : Network
   N = networkOf (K .words) codes links
 
-  pub reckoned-is : (B : Lent) (row pairs bounds skips waiting : List ℕ) (M′ : Workspace) → begun pairs (marks bounds skips waiting) ≡ beginOf (K .words) (K .otherMark) codes (begun (B .pairs) (marks (B .bounds) (B .skips) row))
+  pub reckoned-is : (B : Lent) (row pairs bounds skips waiting : List ℕ) (M′ : Workspace) → roundsBegun pairs (marks bounds skips waiting) ≡ roundsBeginOf (K .words) (K .otherMark) codes (roundsBegun (B .pairs) (marks (B .bounds) (B .skips) row))
       → M′ ≡ runOf (K .words) links (K .searchedMark) (64 * K .words) (workspace (B .searched) (tally pairs 0) (marks bounds skips waiting) 0 0)
       → ran (lent (M′ .paired .pairs) (M′ .searched) (M′ .marked .bounds) (M′ .marked .skips)) (M′ .candidate) (M′ .paired .count) (M′ .searches) ≡ ranBy K (networkOf (K .words) codes links) (reckon (chart (networkOf (K .words) codes links))) B
-  unfolding ranBy reckon beginOf
+  unfolding ranBy reckon roundsBeginOf
   reckoned-is B row pairs bounds skips waiting M′ b e =
       let O : Origin = record { searched = B .searched; pairs = B .pairs; bounds = B .bounds; skips = B .skips; waiting = row } in
       let M : Workspace = workspace (B .searched) (tally pairs 0) (marks bounds skips waiting) 0 0 in
-      let H = start-holds K shape codes links net 0 O pairs bounds skips waiting (ap (λ (x : Begun). x .pairs) b) (ap (λ (x : Begun). x .marked .bounds) b) (ap (λ (x : Begun). x .marked .skips) b) (ap (λ (x : Begun). x .marked .waiting) b) in
+      let H = start-holds K shape codes links net 0 O pairs bounds skips waiting (ap (λ (x : RoundsBegun). x .pairs) b) (ap (λ (x : RoundsBegun). x .marked .bounds) b) (ap (λ (x : RoundsBegun). x .marked .skips) b) (ap (λ (x : RoundsBegun). x .marked .waiting) b) in
       let R = start-running K shape codes links net 0 (omega arith) in
       let figures = run-figures K shape codes links net (start 0) R O M M′ H e in
       rw (run-leaves K shape codes links net (start 0) R O M M′ H e, figures .0, figures .1, figures .2)

@@ -7,7 +7,6 @@ use Prim.Native.Nat.{ℕ, zero, suc, _*_, _<_}
 use native.Mathlib.Omega.{arith}
 use lib.Dec.{T}
 use Rattle.lists.specs.Lists.{range, allb, countb, memb, lastOr}
-use Rattle.lists.specs.Conditions.{Refuses}
 use Rattle.lists.proofs.Tests.{true→t}
 use Rattle.lists.proofs.Conditions.{allFit, decides-short, refuses-by}
 use Rattle.lists.proofs.Fills.{length-fill}
@@ -30,9 +29,9 @@ use Rattle.search.specs.declared.Found.the-variants.{Reached}
 use Rattle.search.proofs.Theorems.{leaves-search, over-keeps}
 use Rattle.rounds.specs.Leaves.{Lent, roundsLeave, searchAfter}
 use Rattle.rounds.specs.Sizes.{sizesOf, longEnough}
-use Rattle.reckon.specs.ReckonCall.{linkFaults, reckonRefusal, figuredBy, reckonLeft, reckonGiven, reckonCall, refusalOf}
-use Rattle.reckon.specs.Refusals.{roundsBuffers, reckonConditions}
-use Rattle.reckon.specs.Demand2.{IsReckoning, Demand2}
+use Rattle.reckon.specs.ReckonCall.{linkFaults, reckonRefusal, figuredBy, reckonGiven, reckonCall, reckoningNumber}
+use Rattle.reckon.specs.Refusals.{roundsBuffers, reckonConditions, ReckonDemand1}
+use Rattle.reckon.specs.Demand2.{IsReckoning, ReckonDemand2}
 use Rattle.reckon.specs.declared.Reckoning.the-variants.{Refused}
 use Rattle.reckon.proofs.Longs.{AreLong}
 use Rattle.reckon.proofs.Reckons.{granted-long, granted-tests, granted-net}
@@ -125,11 +124,11 @@ call-refused K rec links B k e = ap (λ (m : ℕ). reckonGiven m K rec links B) 
 
 -- ---- the answer's number is the refusal, 0 where there is none
 
-call-numbered : (K : Shape) (rec : Record) (links : List ℕ) (B : Lent) → refusalOf (reckonCall K rec links B .reckoned .answer) ≡ reckonRefusal K rec links (sizesOf links B)
+call-numbered : (K : Shape) (rec : Record) (links : List ℕ) (B : Lent) → reckoningNumber (reckonCall K rec links B .reckoned .answer) ≡ reckonRefusal K rec links (sizesOf links B)
 unfolding reckonCall reckonGiven
 call-numbered K rec links B = go (reckonRefusal K rec links (sizesOf links B))
   where
-    go : (k : ℕ) → refusalOf (reckonGiven k K rec links B .reckoned .answer) ≡ k
+    go : (k : ℕ) → reckoningNumber (reckonGiven k K rec links B .reckoned .answer) ≡ k
     go zero = refl
     go (suc k) = refl
 
@@ -140,8 +139,7 @@ pub long-is : (K : Shape) (links : List ℕ) (B : Lent) → longEnough K (sizesO
 unfolding longEnough sizesOf allb
 long-is K links B = simp (and-assoc, and-with-true)
 
-pub reckon-refusals : (K : Shape) → IsShape K → (rec : Record) (links : List ℕ) (B : Lent)
-    → Refuses (reckonConditions K rec links B) (refusalOf (reckonCall K rec links B .reckoned .answer)) (λ k. reckonLeft (record { answer = Refused k; after = rec }) B) (reckonCall K rec links B)
+pub reckon-refusals : (K : Shape) → IsShape K → ReckonDemand1 K (reckonCall K)
 unfolding reckonCall reckonRefusal linkFaults reckonGiven
 reckon-refusals K shape rec links B =
     refuses-by _ (reckonConditions K rec links B) (
@@ -149,17 +147,17 @@ reckon-refusals K shape rec links B =
       rw (← long-is K links B) at (decides-short (roundsBuffers K links B)),
       λ f. links-tell (K .words) (shape .most) (rec .codes) links (rec .number) [] [] tt,
     )
-    (λ k. reckonGiven k K rec links B) _ (λ l. refusalOf (l .reckoned .answer)) numbered (λ k. refl)
+    (λ k. reckonGiven k K rec links B) _ (λ l. reckoningNumber (l .reckoned .answer)) numbered (λ k. refl)
   where
-    numbered : (k : ℕ) → refusalOf (reckonGiven k K rec links B .reckoned .answer) ≡ k
+    numbered : (k : ℕ) → reckoningNumber (reckonGiven k K rec links B .reckoned .answer) ≡ k
     numbered zero = refl
     numbered (suc k) = refl
 
 -- ---- DEMAND 2
 
-pub reckon-demand2 : (K : Shape) → IsShape K → Demand2 K (reckonCall K)
+pub reckon-demand2 : (K : Shape) → IsShape K → ReckonDemand2 K (reckonCall K)
 reckon-demand2 K shape = record { numbered = call-numbered K; accepted = call-reckoning K shape; refused = call-refused K }
 
 -- document 01's map
-pub demand2-base : Demand2 base (reckonCall base)
-demand2-base = reckon-demand2 base base-shape
+pub reckon-demand2-base : ReckonDemand2 base (reckonCall base)
+reckon-demand2-base = reckon-demand2 base base-shape

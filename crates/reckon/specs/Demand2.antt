@@ -1,6 +1,6 @@
 -- DEMAND 2 FOR THE WHOLE RECKONING, by the published words (graph, Network.antt): what every accepted call answers and leaves, on any lent memory,
 -- whatever figures were stored; and that a refused one changes nothing.
--- `reckon-demand2` (proofs/Theorems) proves it of `reckonCall` for every shape; `Demand2 base` is document 01's.
+-- `reckon-demand2` (proofs/Theorems) proves it of `reckonCall` for every shape; `ReckonDemand2 base` is document 01's.
 -- Assumes nothing.
 use mathlib.Core.Path.{_≡_}
 use mathlib.Core.Logic.{_↔_}
@@ -23,7 +23,7 @@ use Rattle.search.specs.Demand2.{KeepsPast, IsSearch}
 use Rattle.search.specs.declared.Found.the-variants.{Reached}
 use Rattle.rounds.specs.Leaves.{Lent}
 use Rattle.rounds.specs.Sizes.{sizesOf}
-use Rattle.reckon.specs.ReckonCall.{reckonRefusal, ReckonLeft, refusalOf, searchesOf}
+use Rattle.reckon.specs.ReckonCall.{reckonRefusal, ReckonLeft, reckoningNumber, searchesOf}
 use Rattle.reckon.specs.declared.Reckoning.the-variants.{Searches, Refused}
 
 -- A whole reckoning of G, lent the tables B; references are the depots that the rules search from, in order.
@@ -55,8 +55,8 @@ pub record IsReckoning (K : Shape) (G : Network) (rec : Record) (B : Lent) (refe
   pub skipsKept : KeepsPast (places K) (B .skips) (left .lent .skips)
 
 -- of a program whose reckoning call is `step`
-pub record Demand2 (K : Shape) (step : Record → List ℕ → Lent → ReckonLeft) : Type 0 where
-  pub numbered : (rec : Record) (links : List ℕ) (B : Lent) → refusalOf (step rec links B .reckoned .answer) ≡ reckonRefusal K rec links (sizesOf links B)
+pub record ReckonDemand2 (K : Shape) (step : Record → List ℕ → Lent → ReckonLeft) : Type 0 where
+  pub numbered : (rec : Record) (links : List ℕ) (B : Lent) → reckoningNumber (step rec links B .reckoned .answer) ≡ reckonRefusal K rec links (sizesOf links B)
   pub accepted : (rec : Record) (links : List ℕ) (B : Lent) → reckonRefusal K rec links (sizesOf links B) ≡ 0
       → IsReckoning K (networkOf (K .words) (rec .codes) links) rec B (reckon (chart (networkOf (K .words) (rec .codes) links)) .references) (step rec links B)
   pub refused : (rec : Record) (links : List ℕ) (B : Lent) (k : ℕ) → reckonRefusal K rec links (sizesOf links B) ≡ suc k

@@ -32,9 +32,9 @@ unfoldable pub figuredBy : Shape → Record → State → Record
 figuredBy K rec S = record { codes = rec .codes; number = rec .number; chain = S .candidate; count = countPairs (range (places K)) (S .pairs) }
 
 -- this paper's numbers for each case of the answer: the refusal, 0 for none; the searches, 0 in a refused call
-abbrev pub refusalOf : Reckoning → ℕ
-refusalOf (Searches k) = 0
-refusalOf (Refused n) = n
+abbrev pub reckoningNumber : Reckoning → ℕ
+reckoningNumber (Searches k) = 0
+reckoningNumber (Refused n) = n
 
 abbrev pub searchesOf : Reckoning → ℕ
 searchesOf (Searches k) = k

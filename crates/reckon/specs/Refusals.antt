@@ -1,14 +1,16 @@
 -- WHICH REFUSAL A RECKONING GIVES (document 01, 'Numbers the scanner shows'), in the published words: demand 1 for the whole reckoning.
--- `reckon-refusals` (proofs/Theorems) says of `reckonCall` that it is refused with the first that holds, and then changes nothing.
+-- `reckon-refusals` (proofs/Theorems) proves it of `reckonCall` for every shape.
 -- Assumes nothing.
 use mathlib.Core.List.{List, [], _∷_}
 use Prim.Native.Nat.{ℕ}
 use lib.ListN.{length}
-use Rattle.lists.specs.Conditions.{IsShort}
+use Rattle.lists.specs.Conditions.{Refuses, IsShort}
 use Rattle.map.specs.Memory.{Shape, places, tableWords, networkOf}
 use Rattle.checks.specs.Refusals.{linkConditions}
 use Rattle.map.specs.declared.Record.{Record}
 use Rattle.rounds.specs.Leaves.{Lent}
+use Rattle.reckon.specs.ReckonCall.{ReckonLeft, reckonLeft, reckoningNumber}
+use Rattle.reckon.specs.declared.Reckoning.the-variants.{Refused}
 
 -- the buffers that a reckoning or an opening is lent, each its named size with its length: link, pair, hop, bound and skip table, two layer rows
 abbrev pub roundsBuffers : Shape → List ℕ → Lent → List (ℕ × ℕ)
@@ -25,3 +27,13 @@ roundsBuffers K links B =
 -- 1 short, 2 spoilt (links alone: whatever figures are stored), 3 apart
 abbrev pub reckonConditions : Shape → Record → List ℕ → Lent → List (Type 0 × ℕ)
 reckonConditions K rec links B = (IsShort (roundsBuffers K links B), 1) ∷ linkConditions (networkOf (K .words) (rec .codes) links) (rec .number)
+
+-- DEMAND 1 of a program whose reckoning call is `step`: refused with the first that holds, and then nothing changes
+abbrev pub ReckonDemand1 : Shape → (Record → List ℕ → Lent → ReckonLeft) → Type 0
+ReckonDemand1 K step =
+    (rec : Record) (links : List ℕ) (B : Lent)
+    → Refuses
+    (reckonConditions K rec links B)
+    (reckoningNumber (step rec links B .reckoned .answer))
+    (λ k. reckonLeft (record { answer = Refused k; after = rec }) B)
+    (step rec links B)

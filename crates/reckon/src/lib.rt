@@ -10,7 +10,7 @@ ghost use Rattle.rounds.specs.Sizes.{sizes, longEnough};
 ghost use Rattle.rounds.specs.Slices.{lentBefore, lentAfter};
 ghost use Rattle.reckon.specs.ReckonCall.{reckonRefusal, reckonLeft, reckonCall};
 use map::Record;
-use rounds::Tally;
+use rounds::RoundFigures;
 
 // The answer of a whole reckoning: the number of searches, or the refusal's number.
 pub enum Reckoning {
@@ -93,7 +93,7 @@ fn reckon_map(
     odd: &mut [u64],
     codes: &[u64],
     links: &[u64],
-) -> Tally
+) -> RoundFigures
     requires { ⌜ (1024 ≤ length (now links))
         × (1024 ≤ length (now pairs))
         × (256 ≤ length (now hops))
@@ -113,7 +113,7 @@ fn reckon_map(
     let mut seen = [0u64; 4];
     let mut next = [0u64; 4];
     rounds::begin(pairs, bounds, skips, &mut ranks, codes, links, 4, 257);
-    let none = Tally {
+    let none = RoundFigures {
         candidate: 0,
         count: 0,
         searches: 0,

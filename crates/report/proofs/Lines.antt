@@ -15,7 +15,7 @@ use Rattle.outcome.specs.Outcome.{letterOf, refusalOf}
 use Rattle.outcome.specs.declared.Change.{Change}
 use Rattle.outcome.specs.declared.Outcome.{Outcome}
 use Rattle.outcome.specs.declared.Outcome.the-variants.{Accepted, Refused}
-use Rattle.report.specs.declared.Report.{Report}
+use Rattle.report.specs.declared.ReportFields.{ReportFields}
 use Rattle.report.specs.declared.Written.{Written}
 use Rattle.report.specs.declared.Written.the-variants.{Line, Refused as NoLine}
 use Rattle.report.specs.Decimal.{decimal}
@@ -58,12 +58,12 @@ refused-placed o at old {n} {l} e k w h =
 
 -- ---- the figures
 
-pub figures-length : (r : Report) → length (figuresText r) ≡ length (field (decimal (r .depots))) + length (field (decimal (r .chain))) + length (field (decimal (r .pairs))) + length (field (decimal (r .searches)))
+pub figures-length : (r : ReportFields) → length (figuresText r) ≡ length (field (decimal (r .depots))) + length (field (decimal (r .chain))) + length (field (decimal (r .pairs))) + length (field (decimal (r .searches)))
 unfolding figuresText
 figures-length r = simp length-append (omega arith)
 
 -- within the widths the figures take at most 29 bytes
-pub figures-most : (r : Report) → r .depots < 2 ^ 16 → r .chain < 2 ^ 16 → r .pairs < 2 ^ 32 → r .searches < 2 ^ 16 → length (figuresText r) ≤ 29
+pub figures-most : (r : ReportFields) → r .depots < 2 ^ 16 → r .chain < 2 ^ 16 → r .pairs < 2 ^ 32 → r .searches < 2 ^ 16 → length (figuresText r) ≤ 29
 figures-most r d c p s =
     omega (
       arith,
@@ -80,18 +80,18 @@ figures-most r d c p s =
 
 -- ---- the call
 
-pub report-short : (r : Report) (buffer : List ℕ) → length buffer < bufferLimit → reportLeft (reportRefused shortBuffer) buffer ≡ reportCall r buffer
+pub report-short : (r : ReportFields) (buffer : List ℕ) → length buffer < bufferLimit → reportLeft (reportRefused shortBuffer) buffer ≡ reportCall r buffer
 unfolding reportCall
 report-short r buffer h = rw (lt-ltb (length buffer) bufferLimit h)
 
-pub report-done : (r : Report) {buffer after : List ℕ} {end : ℕ} → Placed (reportLine r) 0 buffer end after → bufferLimit ≤ length buffer → reportLeft (reportDone end) after ≡ reportCall r buffer
+pub report-done : (r : ReportFields) {buffer after : List ℕ} {end : ℕ} → Placed (reportLine r) 0 buffer end after → bufferLimit ≤ length buffer → reportLeft (reportDone end) after ≡ reportCall r buffer
 unfolding reportCall
 report-done r {buffer} w k =
     ap₂ (λ (n : ℕ) (l : List ℕ). reportLeft (reportDone n) l) (w .behind ∙ zero-add (length (reportLine r))) (placed-whole w)
     ∙ rw (le-ltb (length buffer) bufferLimit k)
 
 -- the pieces of a line, and its ending
-pub line-placed : (r : Report) {buffer b₁ b₂ b₃ : List ℕ} {e₁ e₂ e₃ : ℕ} → Placed (decimal (r .number)) 0 buffer e₁ b₁ → Placed (field (outcomeText (r .outcome))) e₁ b₁ e₂ b₂ → Placed (figuresText r) e₂ b₂ e₃ b₃
+pub line-placed : (r : ReportFields) {buffer b₁ b₂ b₃ : List ℕ} {e₁ e₂ e₃ : ℕ} → Placed (decimal (r .number)) 0 buffer e₁ b₁ → Placed (field (outcomeText (r .outcome))) e₁ b₁ e₂ b₂ → Placed (figuresText r) e₂ b₂ e₃ b₃
     → e₃ < length b₃ → Placed (reportLine r) 0 buffer (e₃ + 1) (set b₃ e₃ 10)
 unfolding reportLine
 line-placed r {b₃ = b₃} {e₃ = e₃} p q s h = placed-join (placed-join (placed-join p q (omega arith)) s (omega arith)) (placed-byte e₃ b₃ 10 h) (omega arith)
@@ -99,7 +99,7 @@ line-placed r {b₃ = b₃} {e₃ = e₃} p q s h = placed-join (placed-join (pl
 -- ---- the part handed back
 
 -- the line lies within the buffer
-call-within : (r : Report) (buffer : List ℕ) → reportCall r buffer .answer .written ≤ length (reportCall r buffer .buffer)
+call-within : (r : ReportFields) (buffer : List ℕ) → reportCall r buffer .answer .written ≤ length (reportCall r buffer .buffer)
 unfolding reportCall overwrite
 call-within r buffer = go (ltb (length buffer) bufferLimit)
   where
@@ -107,7 +107,7 @@ call-within r buffer = go (ltb (length buffer) bufferLimit)
     go true = zero-le
     go false = omega (arith, length-append (reportLine r) (drop (length (reportLine r)) buffer))
 
-pub part-length : (r : Report) (buffer : List ℕ) {after : List ℕ} {a : Written} {k : ℕ} → a ≡ Line k → reportLeft (writtenOf a) after ≡ reportCall r buffer → k ≡ length (take k after)
+pub part-length : (r : ReportFields) (buffer : List ℕ) {after : List ℕ} {a : Written} {k : ℕ} → a ≡ Line k → reportLeft (writtenOf a) after ≡ reportCall r buffer → k ≡ length (take k after)
 unfolding writtenOf
 part-length r buffer {after} {a} {k} p e =
     let n : k ≡ reportCall r buffer .answer .written = sym (ap (λ (w : Written). writtenOf w .written) p) ∙ ap (λ (l : ReportLeft). l .answer .written) e in

@@ -13,7 +13,7 @@ use Rattle.outcome.specs.Outcome.{letterOf, refusalOf}
 use Rattle.outcome.specs.declared.Change.the-variants.{Grew, Kept, Shrank}
 use Rattle.outcome.specs.declared.Outcome.{Outcome}
 use Rattle.outcome.specs.declared.Outcome.the-variants.{Accepted, Refused}
-use Rattle.report.specs.declared.Report.{Report}
+use Rattle.report.specs.declared.ReportFields.{ReportFields}
 use Rattle.report.specs.Decimal.{decimal, spell}
 use Rattle.report.specs.Line.{outcomeText, field, figuresText, reportLine, IsWithin, bufferLimit, reportCall, handedBack}
 use Rattle.report.proofs.Decimals.{decimal-word, decimal-half, decimal-byte, isGraph, decimal-graph, decimal-injective}
@@ -68,14 +68,14 @@ regroup : (a b c d e f g : List ℕ) → a ++ b ++ (c ++ d ++ e ++ f) ++ g ≡ a
 regroup a b c d e f g = simp append-assoc
 
 -- the line read from the left
-line-fields : (r : Report) → reportLine r
+line-fields : (r : ReportFields) → reportLine r
     ≡ decimal (r .number) ++ 32 ∷ (outcomeText (r .outcome) ++ 32 ∷ (decimal (r .depots) ++ 32 ∷ (decimal (r .chain) ++ 32 ∷ (decimal (r .pairs) ++ 32 ∷ (decimal (r .searches) ++ 10 ∷ [])))))
 unfolding reportLine figuresText field
 line-fields r =
     regroup (decimal (r .number)) (field (outcomeText (r .outcome))) (field (decimal (r .depots))) (field (decimal (r .chain))) (field (decimal (r .pairs))) (field (decimal (r .searches))) (10 ∷ [])
 
 -- different reports give different lines
-pub line-injective : (r s : Report) → reportLine r ≡ reportLine s → r ≡ s
+pub line-injective : (r s : ReportFields) → reportLine r ≡ reportLine s → r ≡ s
 unfolding isGraph
 line-injective r s e =
     let e₁ = split 32 (decimal (r .number)) (decimal (s .number)) (decimal-graph (r .number)) (decimal-graph (s .number)) refl (sym (line-fields r) ∙ e ∙ line-fields s) in
@@ -99,13 +99,13 @@ unfolding outcomeText refusalOf
 outcome-most (Accepted c) h = omega arith
 outcome-most (Refused n) h = let l : length (decimal n) ≤ 3 = decimal-byte n h in omega arith
 
-pub line-length : (r : Report) → length (reportLine r)
+pub line-length : (r : ReportFields) → length (reportLine r)
     ≡ length (decimal (r .number)) + length (outcomeText (r .outcome)) + length (decimal (r .depots)) + length (decimal (r .chain)) + length (decimal (r .pairs)) + length (decimal (r .searches)) + 6
 unfolding reportLine figuresText field
 line-length r = simp length-append (omega arith)
 
 -- within the widths a line has at most 45 bytes
-pub line-most : (r : Report) → IsWithin r → length (reportLine r) ≤ 45
+pub line-most : (r : ReportFields) → IsWithin r → length (reportLine r) ≤ 45
 line-most r w =
     omega (
       arith,
@@ -119,7 +119,7 @@ line-most r w =
     )
 
 -- and one has 45
-pub longest : Report
+pub longest : ReportFields
 longest = record { number = 4294967295; outcome = Refused 255; depots = 65535; chain = 65535; pairs = 4294967295; searches = 65535 }
 
 pub line-longest : length (reportLine longest) ≡ 45
@@ -128,13 +128,13 @@ line-longest = refl
 
 -- ---- the part handed back: the line itself, and nothing exactly where the buffer is short
 
-pub part-written : (r : Report) (buffer : List ℕ) → bufferLimit ≤ length buffer → handedBack (reportCall r buffer) ≡ reportLine r ∷ overwrite (reportLine r) buffer ∷ []
+pub part-written : (r : ReportFields) (buffer : List ℕ) → bufferLimit ≤ length buffer → handedBack (reportCall r buffer) ≡ reportLine r ∷ overwrite (reportLine r) buffer ∷ []
 unfolding handedBack reportCall
 part-written r buffer h = rw (le-ltb (length buffer) bufferLimit h) (ap (λ (part : List ℕ). part ∷ overwrite (reportLine r) buffer ∷ []) (overwrite-take (reportLine r) buffer))
 
-pub part-refused : (r : Report) (buffer : List ℕ) → length buffer < bufferLimit → handedBack (reportCall r buffer) ≡ [] ∷ buffer ∷ []
+pub part-refused : (r : ReportFields) (buffer : List ℕ) → length buffer < bufferLimit → handedBack (reportCall r buffer) ≡ [] ∷ buffer ∷ []
 unfolding handedBack reportCall
 part-refused r buffer h = rw (lt-ltb (length buffer) bufferLimit h)
 
-pub line-some : (r : Report) → reportLine r ≡ [] → ⊥
+pub line-some : (r : ReportFields) → reportLine r ≡ [] → ⊥
 line-some r e = let l : length (reportLine r) ≡ 0 = ap length e in omega (arith, line-length r)

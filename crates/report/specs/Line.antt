@@ -10,7 +10,7 @@ use Rattle.outcome.specs.Outcome.{letterOf, refusalOf}
 use Rattle.outcome.specs.declared.Outcome.{Outcome}
 use Rattle.outcome.specs.declared.Outcome.the-variants.{Accepted, Refused}
 use Rattle.report.specs.Decimal.{decimal}
-use Rattle.report.specs.declared.Report.{Report}
+use Rattle.report.specs.declared.ReportFields.{ReportFields}
 use Rattle.report.specs.declared.Written.{Written}
 use Rattle.report.specs.declared.Written.the-variants.{Line, Refused as NoLine}
 
@@ -24,15 +24,15 @@ unfoldable pub field : List ℕ → List ℕ
 field text = 32 ∷ text
 
 -- depots open, chain, pair count and searches of this call
-unfoldable pub figuresText : Report → List ℕ
+unfoldable pub figuresText : ReportFields → List ℕ
 figuresText r = field (decimal (r .depots)) ++ field (decimal (r .chain)) ++ field (decimal (r .pairs)) ++ field (decimal (r .searches))
 
 -- line number, outcome, figures, and the ending 0A
-unfoldable pub reportLine : Report → List ℕ
+unfoldable pub reportLine : ReportFields → List ℕ
 reportLine r = decimal (r .number) ++ field (outcomeText (r .outcome)) ++ figuresText r ++ 10 ∷ []
 
 -- the widths of the fields: 32 bits for line number and pair count, 8 for the refusal, 16 for the others
-pub record IsWithin (r : Report) : Type 0 where
+pub record IsWithin (r : ReportFields) : Type 0 where
   pub number : r .number < 2 ^ 32
   pub refusal : refusalOf (r .outcome) < 2 ^ 8
   pub depots : r .depots < 2 ^ 16
@@ -69,7 +69,7 @@ abbrev pub reportLeft : ReportAnswer → List ℕ → ReportLeft
 reportLeft a b = record { answer = a; buffer = b }
 
 -- the line over the first bytes of the caller's buffer; bytes past it stay
-unfoldable pub reportCall : Report → List ℕ → ReportLeft
+unfoldable pub reportCall : ReportFields → List ℕ → ReportLeft
 reportCall r buffer =
     cond (ltb (length buffer) bufferLimit) (reportLeft (reportRefused shortBuffer) buffer)
     (reportLeft (reportDone (length (reportLine r))) (overwrite (reportLine r) buffer))

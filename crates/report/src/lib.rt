@@ -9,7 +9,7 @@ ghost use Rattle.report.specs.Placed.{Placed};
 use outcome::Outcome;
 
 // What a line reports: its number, the outcome of its call, and the figures of the map after it.
-pub struct Report {
+pub struct ReportFields {
     pub number: u32,
     pub outcome: Outcome,
     pub depots: u16,
@@ -25,7 +25,7 @@ pub enum Written {
 }
 
 // Writes the line of a report at the start of the caller's buffer.
-pub fn write_report(line: &mut [u8], report: Report) -> Written
+pub fn write_report(line: &mut [u8], report: ReportFields) -> Written
     ensures { λ r. ⌜ reportLeft (writtenOf r) (now (line .exit)) ≡ reportCall report (now (line .entry)) ⌝ }
 {
     if line.len() < 48 {
@@ -41,7 +41,7 @@ pub fn write_report(line: &mut [u8], report: Report) -> Written
 
 // The same, with the written part handed back as a part of the caller's buffer, and the whole buffer
 // beside it: the part is empty exactly where the buffer is too short.
-pub fn report_line<'a>(line: &'a mut [u8], report: Report) -> [&'a [u8]; 2]
+pub fn report_line<'a>(line: &'a mut [u8], report: ReportFields) -> [&'a [u8]; 2]
     ensures { λ r. ⌜ map now r ≡ handedBack (reportCall report (now (line .entry))) ⌝ }
 {
     let answer = write_report(&mut *line, report);
@@ -73,7 +73,7 @@ fn put_outcome(line: &mut [u8], at: usize, outcome: Outcome) -> usize
 }
 
 // Puts the figures of a report at a place of the line.
-fn put_figures(line: &mut [u8], at: usize, report: Report) -> usize
+fn put_figures(line: &mut [u8], at: usize, report: ReportFields) -> usize
     requires { ⌜ at + length (figuresText report) ≤ length (now line) ⌝ }
     ensures { λ r. ⌜ Placed (figuresText report) at (now (line .entry)) r (now (line .exit)) ⌝ }
 {

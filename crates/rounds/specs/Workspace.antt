@@ -65,16 +65,16 @@ runOf W links mark (suc k) M = orEnd (pickIn W links (M .marked .waiting)) M (λ
 -- ---- the start
 
 -- no pair, no bound, no mark, every open depot remaining
-pub record Begun : Type 0 where
+pub record RoundsBegun : Type 0 where
   pub pairs : List ℕ
   pub marked : Marks
 
-abbrev pub begun : List ℕ → Marks → Begun
-begun p m = record { pairs = p; marked = m }
+abbrev pub roundsBegun : List ℕ → Marks → RoundsBegun
+roundsBegun p m = record { pairs = p; marked = m }
 
-unfoldable pub beginOf : ℕ → ℕ → List ℕ → Begun → Begun
-beginOf W other codes B =
-    begun (overwrite (encodeTable W (λ u v. false)) (B .pairs))
+unfoldable pub roundsBeginOf : ℕ → ℕ → List ℕ → RoundsBegun → RoundsBegun
+roundsBeginOf W other codes B =
+    roundsBegun (overwrite (encodeTable W (λ u v. false)) (B .pairs))
     (marks
     (overwrite (mapl (λ v. unreached) (range (64 * W))) (B .marked .bounds))
     (overwrite (mapl (λ v. other) (range (64 * W))) (B .marked .skips))
@@ -83,7 +83,7 @@ beginOf W other codes B =
 -- ---- what the functions ask
 
 -- a link table and a search's memory of W words a row
-pub record Room (W : ℕ) (links hops even odd seen next : List ℕ) : Type 0 where
+pub record RoundRoom (W : ℕ) (links hops even odd seen next : List ℕ) : Type 0 where
   pub table : W * (64 * W) ≤ length links
   pub hopPlaces : 64 * W ≤ length hops
   pub evenRow : W ≤ length even

@@ -7,7 +7,7 @@ ghost use lib.ListN.{length};
 ghost use Rattle.layers.specs.Layers.{tables};
 ghost use Rattle.pairs.specs.Pairs.{tally, settleOf, Counted};
 ghost use Rattle.bounds.specs.Bounds.{AreRanks, AreThinned, Fits};
-ghost use Rattle.rounds.specs.Workspace.{lastRow, absorbed, absorbing, roundOf, runOf, begun, beginOf, Room};
+ghost use Rattle.rounds.specs.Workspace.{lastRow, absorbed, absorbing, roundOf, runOf, roundsBegun, roundsBeginOf, RoundRoom};
 ghost use Rattle.layers.specs.Slices.{tablesBefore};
 ghost use Rattle.bounds.specs.Slices.{marksBefore, marksAfter};
 ghost use Rattle.rounds.specs.Slices.{workspaceBefore, workspaceAfter};
@@ -51,7 +51,7 @@ pub fn settle_by(
 }
 
 // Candidate, pair count and number of searches.
-pub struct Tally {
+pub struct RoundFigures {
     pub candidate: u16,
     pub count: u32,
     pub searches: u16,
@@ -72,7 +72,7 @@ pub fn absorb(
     e: u16,
     candidate: u16,
     count: u32,
-) -> Tally
+) -> RoundFigures
     requires { ⌜ Counted words (now pairs) count
         × Fits words (now bounds) (now skips) (now ranks)
         × (64 * words ≤ length (now hops))
@@ -90,7 +90,7 @@ pub fn absorb(
     let c = raise(candidate, e);
     bounds::leave(bounds, skips, ranks, words, r, e, mark);
     bounds::relax(bounds, skips, ranks, hops, words, r as u16, e, c);
-    Tally {
+    RoundFigures {
         candidate: c,
         count: sum,
         searches: 0,
@@ -112,9 +112,9 @@ fn round(
     words: usize,
     mark: u16,
     r: usize,
-    before: Tally,
-) -> Tally
-    requires { ⌜ Room words (now links) (now hops) (now even) (now odd) (now seen) (now next)
+    before: RoundFigures,
+) -> RoundFigures
+    requires { ⌜ RoundRoom words (now links) (now hops) (now even) (now odd) (now seen) (now next)
         × Counted words (now pairs) (before .count)
         × Fits words (now bounds) (now skips) (now ranks)
         × (r < 64 * words)
@@ -141,7 +141,7 @@ fn round(
         before.candidate,
         before.count,
     );
-    Tally {
+    RoundFigures {
         candidate: got.candidate,
         count: got.count,
         searches: before.searches + 1,
@@ -164,9 +164,9 @@ pub fn run_rounds(
     links: &[u64],
     words: usize,
     mark: u16,
-    before: Tally,
-) -> Tally
-    requires { ⌜ Room words (now links) (now hops) (now even) (now odd) (now seen) (now next)
+    before: RoundFigures,
+) -> RoundFigures
+    requires { ⌜ RoundRoom words (now links) (now hops) (now even) (now odd) (now seen) (now next)
         × Counted words (now pairs) (before .count)
         × Fits words (now bounds) (now skips) (now ranks)
         × AreRanks words (now links) (now ranks)
@@ -218,9 +218,9 @@ pub fn begin(
         × (words ≤ length (now codes))
         × (words * (64 * words) ≤ length (now links)) ⌝ }
     ensures { λ x.
-        let before = begun (now (pairs .entry)) (marksBefore words bounds skips ranks) in
-        let after = begun (now (pairs .exit)) (marksAfter words bounds skips ranks) in
-        ⌜ (after ≡ beginOf words other (now (codes .entry)) before)
+        let before = roundsBegun (now (pairs .entry)) (marksBefore words bounds skips ranks) in
+        let after = roundsBegun (now (pairs .exit)) (marksAfter words bounds skips ranks) in
+        ⌜ (after ≡ roundsBeginOf words other (now (codes .entry)) before)
         × AreRanks words (now (links .entry)) (now (ranks .exit)) ⌝ }
 {
     rows::clear(pairs, words * (64 * words));

@@ -11,9 +11,8 @@ use lib.ListN.{length, getD, take, drop}
 use lib.Seq.{drop-append-seam}
 use borrow.Author.Tests.{eqb-false, eq-eqb, ne-eqb}
 use Rattle.lists.specs.Lists.{range, allb, mapl, overwrite}
-use Rattle.lists.specs.Conditions.{Refuses}
 use Rattle.lists.proofs.Tests.{look, true→t, false→not, lt-or-ge}
-use Rattle.lists.proofs.Conditions.{allFit, decides-test, decides-not, decides-short, refuses-by}
+use Rattle.lists.proofs.Conditions.{allFit, Tells, decides-test, decides-not, decides-short, refuses-by}
 use Rattle.lists.proofs.Fills.{length-fill, overwrite-length, fill-at}
 use Rattle.graph.specs.Network.{Network, IsDist}
 use Rattle.graph.specs.Distance.{unreached, dist}
@@ -29,35 +28,36 @@ use Rattle.rows.proofs.Written.{row-past, row-at, row-of-table, table-zero, enc
 use Rattle.layers.specs.Layers.{depthFrom, layerBit, Tables, searchLeaves}
 use Rattle.layers.proofs.Theorems.{depth-is, layer-is}
 use Rattle.map.specs.Memory.{Shape, places, IsShape, networkOf}
-use Rattle.map.specs.declared.Record.{Record}
 use Rattle.checks.proofs.Refusals.{links-tell}
-use Rattle.search.specs.SearchCall.{searchRoom, searchRefusal, SearchLeft, searchLeft, searchGiven, searchCall, lastLayer, refusalOf}
-use Rattle.search.specs.Refusals.{searchBuffers, searchConditions}
-use Rattle.search.specs.Demand2.{HoldsLayer, HoldsBefore, KeepsPast, IsSearch, Demand2}
-use Rattle.search.specs.declared.Found.the-variants.{Reached, Refused}
+use Rattle.search.specs.SearchCall.{searchRoom, searchRefusal, SearchLeft, searchLeft, searchGiven, searchCall, lastLayer, searchNumber}
+use Rattle.search.specs.Refusals.{searchBuffers, searchConditions, SearchDemand1}
+use Rattle.search.specs.Demand2.{HoldsLayer, HoldsBefore, KeepsPast, IsSearch, SearchDemand2}
+use Rattle.search.specs.declared.Found.the-variants.{Reached}
 use Rattle.search.proofs.Accepts.{granted, accepted-net}
 
 -- ---- WHICH REFUSAL
 
 -- the code's test of the sizes, and the condition's
-room-is : (K : Shape) (links : List ℕ) (B : Tables) → searchRoom K (length links) (length (B .hops)) (length (B .even)) (length (B .odd)) ≡ allFit (searchBuffers K links B)
+room-is : (K : Shape) (links : List ℕ) (B : Tables)
+    → searchRoom K (length links) (length (B .hops)) (length (B .even)) (length (B .odd)) ≡ allFit (searchBuffers K links B)
 unfolding searchRoom allb
 room-is K links B = simp (and-assoc, and-with-true)
 
-pub search-refusals : (K : Shape) → IsShape K → (rec : Record) (links : List ℕ) (B : Tables) (code : ℕ)
-    → Refuses (searchConditions K rec links B code) (refusalOf (searchCall K rec links B code .answer)) (λ k. searchLeft (Refused k) B) (searchCall K rec links B code)
+pub search-refusals : (K : Shape) → IsShape K → SearchDemand1 K (searchCall K)
 unfolding searchCall searchRefusal searchGiven
 search-refusals K shape rec links B code =
     let G = networkOf (K .words) (rec .codes) links in
     let b = G .isOpen code in
+    let test : List (Bool × ℕ) = (not b, 4) ∷ [] in
+    let absent : Tells test ((IsAbsent G code, 4) ∷ []) = (refl, decides-not b (decides-test b), λ g. tt) in
     refuses-by _ (searchConditions K rec links B code) (
       refl,
       rw (← room-is K links B) at (decides-short (searchBuffers K links B)),
-      λ f. links-tell (K .words) (shape .most) (rec .codes) links (rec .number) ((not b, 4) ∷ []) ((IsAbsent G code, 4) ∷ []) (refl, decides-not b (decides-test b), λ g. tt),
+      λ f. links-tell (K .words) (shape .most) (rec .codes) links (rec .number) test ((IsAbsent G code, 4) ∷ []) absent,
     )
-    (λ k. searchGiven k K rec links B code) _ (λ l. refusalOf (l .answer)) numbered (λ k. refl)
+    (λ k. searchGiven k K rec links B code) _ (λ l. searchNumber (l .answer)) numbered (λ k. refl)
   where
-    numbered : (k : ℕ) → refusalOf (searchGiven k K rec links B code .answer) ≡ k
+    numbered : (k : ℕ) → searchNumber (searchGiven k K rec links B code .answer) ≡ k
     numbered zero = refl
     numbered (suc k) = refl
 
@@ -186,10 +186,11 @@ module _ (K : Shape) (G : Network) (net : IsNet G) (limit-is : G .limit ≡ plac
           subst (λ (d : ℕ). HoldsBefore (K .words) G s e (overwrite (encodeRow (K .words) (layerBit (dist G s) d parity)) old)) (sym (depth-is G net s o))
           (row-before (K .words) G net limit-is s o e parity old (ecc-low (K .words) G net limit-is s o) q)
 
-pub search-demand2 : (K : Shape) → IsShape K → Demand2 K
+pub search-demand2 : (K : Shape) → IsShape K → SearchDemand2 K
 unfolding searchCall searchGiven
 search-demand2 K shape rec links B code z =
     let G = networkOf (K .words) (rec .codes) links in
     let g = granted K rec links (length (B .hops)) (length (B .even)) (length (B .odd)) code z in
     subst (λ (left : SearchLeft). IsSearch K G code B left) (ap (λ (k : ℕ). searchGiven k K rec links B code) (sym z))
-    (leaves-search K G (accepted-net K shape rec links B code z) (limit-of (K .words) (rec .codes) links) code (true→t (g .present)) B (g .hops-fit) (g .even-fit) (g .odd-fit))
+    (leaves-search K G (accepted-net K shape rec links B code z) (limit-of (K .words) (rec .codes) links) code (true→t (g .present))
+    B (g .hops-fit) (g .even-fit) (g .odd-fit))

@@ -1,5 +1,5 @@
 -- DEMAND 2 for the search, by the published words (Network.antt): what every accepted search answers and leaves, on any lent memory.
--- `search-demand2` (proofs/Theorems) proves it for every shape; `Demand2 base` is document 01's.
+-- `search-demand2` (proofs/Theorems) proves it for every shape; `SearchDemand2 base` is document 01's.
 -- Assumes nothing.
 use mathlib.Core.Path.{_≡_}
 use mathlib.Core.Logic.{_↔_}
@@ -46,6 +46,6 @@ pub record IsSearch (K : Shape) (G : Network) (s : ℕ) (B : Tables) (left : Sea
   pub evenKept : KeepsPast (K .words) (B .even) (left .lent .even)
   pub oddKept : KeepsPast (K .words) (B .odd) (left .lent .odd)
 
-abbrev pub Demand2 : Shape → Type 0
-Demand2 K = (rec : Record) (links : List ℕ) (B : Tables) (code : ℕ) → searchRefusal K rec links (length (B .hops)) (length (B .even)) (length (B .odd)) code ≡ 0
+abbrev pub SearchDemand2 : Shape → Type 0
+SearchDemand2 K = (rec : Record) (links : List ℕ) (B : Tables) (code : ℕ) → searchRefusal K rec links (length (B .hops)) (length (B .even)) (length (B .odd)) code ≡ 0
     → IsSearch K (networkOf (K .words) (rec .codes) links) code B (searchCall K rec links B code)

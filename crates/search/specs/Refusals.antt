@@ -1,15 +1,17 @@
 -- WHICH REFUSAL A SEARCH GIVES (document 01, 'Numbers the scanner shows'), line by line and in the published words: demand 1 for the search.
--- `search-refusals` (proofs/Theorems) says of `searchCall` that it is refused with the first that holds, and then changes nothing.
+-- `search-refusals` (proofs/Theorems) proves it of `searchCall` for every shape.
 -- Assumes nothing.
 use mathlib.Core.List.{List, [], _∷_, _++_}
 use Prim.Native.Nat.{ℕ}
 use lib.ListN.{length}
-use Rattle.lists.specs.Conditions.{IsShort}
+use Rattle.lists.specs.Conditions.{Refuses, IsShort}
 use Rattle.graph.specs.Refusals.{IsAbsent}
 use Rattle.layers.specs.Layers.{Tables}
 use Rattle.map.specs.Memory.{Shape, places, tableWords, networkOf}
 use Rattle.checks.specs.Refusals.{linkConditions}
 use Rattle.map.specs.declared.Record.{Record}
+use Rattle.search.specs.SearchCall.{SearchLeft, searchLeft, searchNumber}
+use Rattle.search.specs.declared.Found.the-variants.{Refused}
 
 -- the buffers that a search is lent, each its named size with its length: link table, hop table, two layer rows
 abbrev pub searchBuffers : Shape → List ℕ → Tables → List (ℕ × ℕ)
@@ -21,3 +23,9 @@ abbrev pub searchConditions : Shape → Record → List ℕ → Tables → ℕ �
 searchConditions K rec links B code =
     let G = networkOf (K .words) (rec .codes) links in
     (IsShort (searchBuffers K links B), 1) ∷ linkConditions G (rec .number) ++ (IsAbsent G code, 4) ∷ []
+
+-- DEMAND 1 of a program whose search call is `step`: refused with the first that holds, and then nothing changes
+abbrev pub SearchDemand1 : Shape → (Record → List ℕ → Tables → ℕ → SearchLeft) → Type 0
+SearchDemand1 K step =
+    (rec : Record) (links : List ℕ) (B : Tables) (code : ℕ)
+    → Refuses (searchConditions K rec links B code) (searchNumber (step rec links B code .answer)) (λ k. searchLeft (Refused k) B) (step rec links B code)

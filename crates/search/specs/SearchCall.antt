@@ -54,9 +54,9 @@ lastLayer W e even odd = take W (cond (eqb (e % 2) 0) even odd)
 -- ---- the same call with its last layer handed back beside both rows
 
 -- this paper's number for each case of the answer: the refusal, 0 for none
-abbrev pub refusalOf : Found → ℕ
-refusalOf (Reached e) = 0
-refusalOf (Refused k) = k
+abbrev pub searchNumber : Found → ℕ
+searchNumber (Reached e) = 0
+searchNumber (Refused k) = k
 
 -- the value of each case: the eccentricity; a refusal has only its number, so that what stood there stays
 abbrev pub eccOf : Found → ℕ → ℕ
@@ -84,6 +84,6 @@ rowsOf W left old =
     record {
       rows = lastOf W (left .answer) (B .even) (B .odd) ∷ B .even ∷ B .odd ∷ [];
       hops = B .hops;
-      refusal = refusalOf (left .answer);
+      refusal = searchNumber (left .answer);
       ecc = eccOf (left .answer) old;
     }

@@ -3,11 +3,11 @@ use mathlib.Core.Path.{_≡_, ap}
 use mathlib.Core.List.{List}
 use Prim.Native.Nat.{ℕ}
 use Rattle.pairs.specs.Pairs.{tally, Counted}
-use Rattle.pairs.proofs.Tallies.{Holds, holds-counted}
-use Rattle.stale_pairs.specs.Stale.{Dropped, dropped, staying, greatestWay, dropOf, Reckoned}
+use Rattle.pairs.proofs.Tallies.{HoldsPairs, holds-counted}
+use Rattle.stale_pairs.specs.Stale.{Dropped, dropped, staying, greatestWay, dropOf, HasHops}
 
 module _ (W : ℕ) (hops : List ℕ) (D : ℕ) (t : List ℕ) {t′ : List ℕ} {n w : ℕ} (q : dropped (tally t′ n) w ≡ dropOf W hops D t) where
-  pub drop-holds : Holds W (staying W hops D t) t t′ n
+  pub drop-holds : HoldsPairs W (staying W hops D t) t t′ n
   unfolding dropOf
   drop-holds = record { is = ap (λ (x : Dropped). x .left) q }
 
@@ -15,5 +15,5 @@ module _ (W : ℕ) (hops : List ℕ) (D : ℕ) (t : List ℕ) {t′ : List ℕ} 
   unfolding dropOf
   drop-way = ap (λ (x : Dropped). x .way) q
 
-  pub drop-counted : Reckoned W t hops → Counted W t′ n
+  pub drop-counted : HasHops W t hops → Counted W t′ n
   drop-counted a = holds-counted drop-holds (a .positive) (a .most) (a .table)

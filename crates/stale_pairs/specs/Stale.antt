@@ -54,7 +54,7 @@ pub record Bare (W : ℕ) (pairs : List ℕ) (u k : ℕ) : Type 0 where
 -- ---- what the functions ask
 
 -- a whole table, and a hop for each code
-pub record Reckoned (W : ℕ) (pairs hops : List ℕ) : Type 0 where
+pub record HasHops (W : ℕ) (pairs hops : List ℕ) : Type 0 where
   pub positive : 0 < W
   pub most : W < 513
   pub table : W * (64 * W) ≤ length pairs

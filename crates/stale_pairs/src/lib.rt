@@ -5,7 +5,7 @@ ghost use Prim.Native.Nat.{_+_, _*_, _%_, _<_, _≤_, min, max};
 ghost use lib.ListN.{length, getD};
 ghost use Rattle.words.specs.Bits.{wordOf};
 ghost use Rattle.pairs.specs.Pairs.{tally};
-ghost use Rattle.stale_pairs.specs.Stale.{Reckoned, Bare, dropped, stayingBit, greatestBit, dropRowOf, dropOf};
+ghost use Rattle.stale_pairs.specs.Stale.{HasHops, Bare, dropped, stayingBit, greatestBit, dropRowOf, dropOf};
 
 // How many pairs stay, and the greatest way of those that were there.
 pub struct Dropping {
@@ -70,7 +70,7 @@ fn sift(x: u64, hops: &[u16], u: usize, first: usize, chain: u16) -> Sifted
 
 // Drops the stale pairs of row u, a word at a time.
 fn drop_row(pairs: &mut [u64], hops: &[u16], words: usize, u: usize, chain: u16) -> Dropping
-    requires { ⌜ Reckoned words (now pairs) (now hops) × (u < 64 * words) ⌝ }
+    requires { ⌜ HasHops words (now pairs) (now hops) × (u < 64 * words) ⌝ }
     ensures { λ r. ⌜ dropped (tally (now (pairs .exit)) (r .count)) (r .way) ≡ dropRowOf words (now (hops .entry)) chain u (now (pairs .entry)) ⌝ }
 {
     let base = words * u;
@@ -126,7 +126,7 @@ fn bare_rows(pairs: &[u64], words: usize, u: usize) -> usize
 
 // Drops the stale pairs of the table, row by row in the table itself, and answers what is left of them and the greatest way that was there.
 pub fn drop_stale(pairs: &mut [u64], hops: &[u16], words: usize, chain: u16) -> Dropping
-    requires { ⌜ Reckoned words (now pairs) (now hops) ⌝ }
+    requires { ⌜ HasHops words (now pairs) (now hops) ⌝ }
     ensures { λ r. ⌜ dropped (tally (now (pairs .exit)) (r .count)) (r .way) ≡ dropOf words (now (hops .entry)) chain (now (pairs .entry)) ⌝ }
 {
     let mut count: u32 = 0;

@@ -20,7 +20,7 @@ use Rattle.notice.proofs.Ends.{all-at}
 use Rattle.notice.proofs.Theorems.{read-frame}
 use Rattle.opening.specs.OpenCall.{OpenLeft, openLeft, openCall}
 use Rattle.opening.specs.Steps.{noticeOf, refusedWith}
-use Rattle.opening.specs.declared.Opened.{Opened}
+use Rattle.opening.specs.declared.Returned.{Returned}
 use Rattle.transcript.specs.Transcript.{noticeIn}
 use Rattle.stream.specs.Feeding.{answerTo}
 
@@ -32,7 +32,7 @@ read-into text buffer k = rw (le-ltb (length buffer) frameLimit k)
 -- ---- a line that reads
 
 -- the frame f stands in the buffer: its length, its code, its neighbours
-pub record Stands (f : List ℕ) (n : ℕ) (after : List ℕ) : Type 0 where
+pub record FrameStands (f : List ℕ) (n : ℕ) (after : List ℕ) : Type 0 where
   pub long : 3 ≤ n
   pub fits : n ≤ frameLimit
   pub code : getD after 1 0 ≡ getD f 1 0
@@ -47,7 +47,7 @@ frame-length text f u e =
     let b = ltb-true (getD f 2 0) 256 (all-at isByte f 2 0 (omega (arith, q)) (p .1)) in
     (omega (arith, q), omega (arith, q, b))
 
-stands-in : (f buffer : List ℕ) → 3 ≤ length f → length f ≤ frameLimit → Stands f (length f) (overwrite f buffer)
+stands-in : (f buffer : List ℕ) → 3 ≤ length f → length f ≤ frameLimit → FrameStands f (length f) (overwrite f buffer)
 unfolding overwrite
 stands-in f buffer l k = record {
   long = l;
@@ -58,17 +58,17 @@ stands-in f buffer l k = record {
 
 -- the reader's answers, one by one
 pub frame-read : (text buffer : List ℕ) {r : Reading} {n u : ℕ} {after : List ℕ} → frameLimit ≤ length buffer → r ≡ Frame n u → lineLeft (readingOf r) after ≡ readCall text buffer
-    → (f : List ℕ) × (v : ℕ) × (readLine text ≡ frame f v) × Stands f n after
+    → (f : List ℕ) × (v : ℕ) × (readLine text ≡ frame f v) × FrameStands f n after
 unfolding readingOf readInto
 frame-read text buffer {r} {n} {u} {after} k g e = go (readLine text) refl (sym (ap (λ (x : Reading). lineLeft (readingOf x) after) g) ∙ e ∙ read-into text buffer k)
   where
-    go : (l : Line) → readLine text ≡ l → lineLeft (lineDone n u) after ≡ readInto l buffer → (f : List ℕ) × (v : ℕ) × (readLine text ≡ frame f v) × Stands f n after
+    go : (l : Line) → readLine text ≡ l → lineLeft (lineDone n u) after ≡ readInto l buffer → (f : List ℕ) × (v : ℕ) × (readLine text ≡ frame f v) × FrameStands f n after
     go garbled q r = let z : _≡_ {A = ℕ} 0 garbledLine = ap (λ (x : LineLeft). x .answer .refusal) r in absurd (omega arith)
     go (frame f v) q r =
         let p = frame-length text f v q in
         let s : length f ≡ n = sym (ap (λ (x : LineLeft). x .answer .written) r) in
         let t : overwrite f buffer ≡ after = sym (ap (λ (x : LineLeft). x .buffer) r) in
-        (f, v, q, subst (λ (m : ℕ). Stands f m after) s (subst (Stands f (length f)) t (stands-in f buffer (p .0) (p .1))))
+        (f, v, q, subst (λ (m : ℕ). FrameStands f m after) s (subst (FrameStands f (length f)) t (stands-in f buffer (p .0) (p .1))))
 
 -- a line that does not read
 pub garbled-read : (text buffer : List ℕ) {r : Reading} {n : ℕ} {after : List ℕ} → frameLimit ≤ length buffer → r ≡ NoReading n → lineLeft (readingOf r) after ≡ readCall text buffer
@@ -85,12 +85,12 @@ garbled-read text buffer {r} {n} {after} k g e = go (readLine text) refl (sym (a
 
 -- ---- the answers
 
-pub answered-frame : (text : List ℕ) (rec : Record) (links : List ℕ) (B : Lent) (f : List ℕ) (v : ℕ) {n : ℕ} {after : List ℕ} {x : OpenLeft} → readLine text ≡ frame f v → Stands f n after
+pub answered-frame : (text : List ℕ) (rec : Record) (links : List ℕ) (B : Lent) (f : List ℕ) (v : ℕ) {n : ℕ} {after : List ℕ} {x : OpenLeft} → readLine text ≡ frame f v → FrameStands f n after
     → x ≡ openCall base rec links B (noticeOf (getD after 1 0) (take (n - 3) (drop 3 after))) → x ≡ answerTo (readLine text) rec links B
 unfolding answerTo noticeIn
 answered-frame text rec links B f v q s e = rw (q, ← s .code, ← s .neighbours) e
 
-pub answered-garbled : (text : List ℕ) (rec : Record) (links : List ℕ) (B : Lent) {n : ℕ} {r : Opened} → (readLine text ≡ garbled) × (n ≡ garbledLine) → r ≡ refusedWith n rec
+pub answered-garbled : (text : List ℕ) (rec : Record) (links : List ℕ) (B : Lent) {n : ℕ} {r : Returned} → (readLine text ≡ garbled) × (n ≡ garbledLine) → r ≡ refusedWith n rec
     → openLeft r links B ≡ answerTo (readLine text) rec links B
 unfolding answerTo
 answered-garbled text rec links B q e = rw (q .0, e, q .1)

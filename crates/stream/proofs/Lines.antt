@@ -65,19 +65,19 @@ read-first text = ap readHead (take-take lineLimit lineLimit text (omega arith))
 
 -- ---- the held bytes are the first 517 of the line so far
 
-pub record Holds (p : List ℕ) (h : Holding) : Type 0 where
+pub record HoldsLine (p : List ℕ) (h : Holding) : Type 0 where
   pub text : take (h .held) (h .line) ≡ take lineLimit p
   pub count : h .held ≡ min lineLimit (length p)
   pub room : lineLimit ≤ length (h .line)
 
-pub holds-byte : (p : List ℕ) (h : Holding) (b : ℕ) → Holds p h → Holds (p ++ (b ∷ [])) (holdByte b h)
+pub holds-byte : (p : List ℕ) (h : Holding) (b : ℕ) → HoldsLine p h → HoldsLine (p ++ (b ∷ [])) (holdByte b h)
 unfolding holdByte
 holds-byte p h b is = go (lt-or-ge (h .held) lineLimit)
   where
     more : length (p ++ (b ∷ [])) ≡ length p + 1
     more = length-append p (b ∷ [])
 
-    go : (h .held < lineLimit) ⊎ (lineLimit ≤ h .held) → Holds (p ++ (b ∷ [])) (holdByte b h)
+    go : (h .held < lineLimit) ⊎ (lineLimit ≤ h .held) → HoldsLine (p ++ (b ∷ [])) (holdByte b h)
     go (inl l) =
         let n : length p ≡ h .held = omega (arith, is .count) in
         rw (lt-ltb (h .held) lineLimit l) (record {

@@ -21,7 +21,7 @@ use Rattle.transcript.specs.Transcript.{linesLimit, linesOf, followLine, report
 use Rattle.line_buffer.specs.Lines.{holding, pasted}
 use Rattle.stream.specs.Feeding.{Feeding, stopped, tookLine, heldByte, takeByte, feedBytes}
 use Rattle.line_buffer.proofs.Stops.{going}
-use Rattle.stream.proofs.Lines.{isOpenLine, lines-ended, open-none, open-more, read-first, Holds, holds-byte}
+use Rattle.stream.proofs.Lines.{isOpenLine, lines-ended, open-none, open-more, read-first, HoldsLine, holds-byte}
 use Rattle.stream.proofs.Following.{IsLine, line-is}
 use Rattle.lists.proofs.Appends.{append-append}
 
@@ -41,7 +41,7 @@ pub record StandsAt (a : Place) (F : Feeding) : Type 0 where
   pub isHeld : IsHeld base (a .network)
   pub isSaid : Says base (a .network) (F .fed .progress .rec) (F .links) (F .lent .pairs)
   pub long : longEnough base (sizesOf (F .links) (F .lent)) ≡ true
-  pub holds : Holds (a .begun) (holding (F .line) (F .fed .progress .held))
+  pub holds : HoldsLine (a .begun) (holding (F .line) (F .fed .progress .held))
 
 -- ---- a line is taken
 

@@ -17,7 +17,7 @@ use Rattle.report.specs.Line.{bufferLimit}
 use Rattle.opening.proofs.Memories.{Says}
 use Rattle.opening.proofs.Empties.{empty-held}
 use Rattle.transcript.specs.Transcript.{linesLimit, transcript}
-use Rattle.stream.specs.Feeding.{Begun, begun, beginCall, IsReady, Feeding, stopped, feedBytes}
+use Rattle.stream.specs.Feeding.{StreamBegun, streamBegun, beginCall, IsReady, Feeding, stopped, feedBytes}
 use Rattle.stream.specs.Pieces.{Standing, Turn, turnLeft, standsAfter, usedBy, writtenBy, lastWritten, HasBegun}
 use Rattle.stream.specs.declared.Progress.{Progress}
 use Rattle.line_buffer.proofs.Stops.{stopped-lines}
@@ -31,7 +31,7 @@ use Rattle.lists.proofs.Appends.{append-none}
 -- ---- the beginning
 
 atStart : Place
-atStart = record { lines = 0; network = emptyNetwork (places base); begun = [] }
+atStart = record { lines = 0; network = emptyNetwork (places base); streamBegun = [] }
 
 whole-rest : (input : List ℕ) → restFrom atStart input ≡ transcript input
 unfolding atStart restFrom transcript
@@ -92,7 +92,7 @@ turn-all s t =
     (subst (λ (n : ℕ). (stopped (feedBytes (t .piece) (entering s (t .out))) ≡ true) ⊎ (feedBytes (t .piece) (entering s (t .out)) .fed .used ≡ n)) (zero-add (length (t .piece)))
     (bytes-all (t .piece) (entering s (t .out))))
 
--- ---- a stream that has begun is ready, on buffers that have their named sizes
+-- ---- a stream that has streamBegun is ready, on buffers that have their named sizes
 
 long-by : (links : List ℕ) (B : Lent) → tableWords base ≤ length links → tableWords base ≤ length (B .pairs) → places base ≤ length (B .searched .hops) → places base ≤ length (B .bounds)
     → places base ≤ length (B .skips) → base .words ≤ length (B .searched .even) → base .words ≤ length (B .searched .odd) → longEnough base (sizesOf links B) ≡ true
@@ -108,7 +108,7 @@ long-by links B l p h b s e o =
       le-leb (base .words) (length (B .searched .odd)) o,
     )
 
-pub begun-ready : (links₀ pairs₀ : List ℕ) {p : Progress} {links : List ℕ} {B : Lent} {line : List ℕ} → begun p links (B .pairs) ≡ beginCall links₀ pairs₀
+pub begun-ready : (links₀ pairs₀ : List ℕ) {p : Progress} {links : List ℕ} {B : Lent} {line : List ℕ} → streamBegun p links (B .pairs) ≡ beginCall links₀ pairs₀
     → tableWords base ≤ length links → tableWords base ≤ length (B .pairs) → places base ≤ length (B .searched .hops) → places base ≤ length (B .bounds)
     → places base ≤ length (B .skips) → base .words ≤ length (B .searched .even) → base .words ≤ length (B .searched .odd) → lineLimit ≤ length line
     → IsReady p links B line
@@ -116,8 +116,8 @@ unfolding beginCall
 begun-ready links₀ pairs₀ {p} {links} {B} {line} e l q h b s x y room = record {
   free =
       says-free (emptyNetwork (places base)) (empty-held base base-shape) (p .rec) links B
-      (subst (λ (z : Begun). Says base (emptyNetwork (places base)) (z .progress .rec) (z .links) (z .pairs)) (sym e) (begun-says links₀ pairs₀))
+      (subst (λ (z : StreamBegun). Says base (emptyNetwork (places base)) (z .progress .rec) (z .links) (z .pairs)) (sym e) (begun-says links₀ pairs₀))
       (long-by links B l q h b s x y);
   room = room;
-  held = subst (λ (z : Begun). z .progress .held ≤ lineLimit) (sym e) zero-le;
+  held = subst (λ (z : StreamBegun). z .progress .held ≤ lineLimit) (sym e) zero-le;
 }

@@ -25,20 +25,20 @@ use Rattle.stream.specs.declared.Fed.{Fed}
 -- ---- the begin
 
 -- what the beginning leaves: progress, link table and pair table
-pub record Begun : Type 0 where
+pub record StreamBegun : Type 0 where
   pub progress : Progress
   pub links : List ℕ
   pub pairs : List ℕ
 
-abbrev pub begun : Progress → List ℕ → List ℕ → Begun
-begun p links pairs = record { progress = p; links = links; pairs = pairs }
+abbrev pub streamBegun : Progress → List ℕ → List ℕ → StreamBegun
+streamBegun p links pairs = record { progress = p; links = links; pairs = pairs }
 
 abbrev pub progressOf : Record → ℕ → ℕ → Progress
 progressOf rec lines held = record { rec = rec; lines = lines; held = held }
 
 -- the map is emptied, and no line is read
-unfoldable pub beginCall : List ℕ → List ℕ → Begun
-beginCall links pairs = begun (progressOf (emptyRecord (base .words)) 0 0) (overwrite (zeros (tableWords base)) links) (overwrite (zeros (tableWords base)) pairs)
+unfoldable pub beginCall : List ℕ → List ℕ → StreamBegun
+beginCall links pairs = streamBegun (progressOf (emptyRecord (base .words)) 0 0) (overwrite (zeros (tableWords base)) links) (overwrite (zeros (tableWords base)) pairs)
 
 -- what the step asks of lent memory and leaves: nothing refuses the map; the line buffer has room for a line, of which at most that is held
 pub record IsReady (p : Progress) (links : List ℕ) (B : Lent) (line : List ℕ) : Type 0 where

@@ -9,11 +9,11 @@ ghost use Rattle.report.specs.Line.{bufferLimit};
 ghost use Rattle.opening.specs.OpenCall.{openLeft};
 ghost use Rattle.opening.specs.Steps.{mapRefusal, refusedWith};
 ghost use Rattle.transcript.specs.Transcript.{linesLimit};
-ghost use Rattle.stream.specs.Feeding.{begun, beginCall, answerTo, IsReady, feeding, tookLine, feedCall, finishCall};
+ghost use Rattle.stream.specs.Feeding.{streamBegun, beginCall, answerTo, IsReady, feeding, tookLine, feedCall, finishCall};
 use map::Record;
 use notice::Reading;
-use opening::Opened;
 use opening::Report;
+use opening::Returned;
 use outcome::Outcome;
 
 // How far a stream has come: the map's record, the lines answered, and the bytes that the line buffer holds of the next one.
@@ -33,7 +33,7 @@ pub struct Fed {
 // Begins a stream: the map is emptied, and no line is read.
 pub fn begin(links: &mut [u64], pairs: &mut [u64]) -> Progress
     requires { ⌜ (tableWords base ≤ length (now links)) × (tableWords base ≤ length (now pairs)) ⌝ }
-    ensures { λ r. ⌜ begun r (now (links .exit)) (now (pairs .exit)) ≡ beginCall (now (links .entry)) (now (pairs .entry)) ⌝ }
+    ensures { λ r. ⌜ streamBegun r (now (links .exit)) (now (pairs .exit)) ≡ beginCall (now (links .entry)) (now (pairs .entry)) ⌝ }
 {
     let none = Record {
         codes: [0u64; 4],
@@ -53,14 +53,14 @@ pub fn begin(links: &mut [u64], pairs: &mut [u64]) -> Progress
 // ---- a line's answer
 
 // What a garbled line is answered.
-fn garbled(rec: Record, number: u8) -> Opened
+fn garbled(rec: Record, number: u8) -> Returned
     ensures { λ r. ⌜ r ≡ refusedWith number rec ⌝ }
 {
     let report = Report {
         outcome: Outcome::Refused(number),
         searches: 0,
     };
-    Opened { report, after: rec }
+    Returned { report, after: rec }
 }
 
 // Answers a line: the reader's refusal, or the opening of its frame.
@@ -74,7 +74,7 @@ fn answer_line(
     even: &mut [u64],
     odd: &mut [u64],
     text: &[u8],
-) -> Opened
+) -> Returned
     requires { let long = sizesAt links pairs hops bounds skips even odd in
         ⌜ mapRefusal base rec (now links) (now pairs) long ≡ 0 ⌝ }
     ensures { λ r.

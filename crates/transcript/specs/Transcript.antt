@@ -17,7 +17,7 @@ use Rattle.outcome.specs.declared.Outcome.the-variants.{Refused}
 use Rattle.plain_list.specs.PlainList.{plainAnswer, plainNext}
 use Rattle.notice.specs.Lines.{lineEnd, Line, garbled, frame, readLine}
 use Rattle.report.specs.Line.{reportLine}
-use Rattle.report.specs.declared.Report.{Report}
+use Rattle.report.specs.declared.ReportFields.{ReportFields}
 
 -- "it reads at most 1,000,000 lines"
 abbrev pub linesLimit : ℕ
@@ -68,7 +68,7 @@ followLine G (frame f used) = let o = noticeIn f in followBy (firstOf (noticeFau
 -- ---- the output
 
 -- "line number; G, K, S or R and the refusal; depots open; chain; pair count; searches of this call"
-unfoldable pub reportOn : ℕ → Followed → Report
+unfoldable pub reportOn : ℕ → Followed → ReportFields
 unfolding vertices diameter farthest countPairs
 reportOn n x =
     let H = x .network in

@@ -31,7 +31,7 @@ use Rattle.outcome.specs.Outcome.{letterOf}
 use Rattle.outcome.specs.declared.Change.{Change}
 use Rattle.outcome.specs.declared.Outcome.the-variants.{Accepted, Refused}
 use Rattle.opening.specs.OpenCall.{OpenLeft, openLeft, openRefusal, openGiven, openCall}
-use Rattle.opening.specs.declared.Opened.{Opened}
+use Rattle.opening.specs.declared.Returned.{Returned}
 use Rattle.c_values.specs.Words.{recordWords, recordOf, wordsOf, clampedOf}
 use Rattle.zorpedi.specs.Outs.{EmptyOut, emptiedOut, emptyFrom, emptyOut, SearchOut, searchedOut, searchFrom, searchOut, ReckonOut, reckonedOut, reckonFrom, reckonOut, OpenOut, openedOut, openFrom, openOut}
 use Rattle.c_values.proofs.Clamps.{links-clamp, figures-clamp, number-fits, figures-fit}
@@ -207,7 +207,7 @@ module _ (l links : List ℕ) (B : Lent) (o : Notice) (old : ℕ) where
   unfolding openOut
   open-whole h = rw (le-ltb (length l) recordWords h)
 
-  module _ (h : recordWords ≤ length l) {rec : Record} (read : rec ≡ clampedOf l) (got : Opened) {links′ : List ℕ} {B′ : Lent} (left : openLeft got links′ B′ ≡ openCall base rec links B o) where
+  module _ (h : recordWords ≤ length l) {rec : Record} (read : rec ≡ clampedOf l) (got : Returned) {links′ : List ℕ} {B′ : Lent} (left : openLeft got links′ B′ ≡ openCall base rec links B o) where
     called-open : opened (openLeft got links′ B′) ≡ openOut l links B o old
     called-open = ap opened (left ∙ ap (λ (x : Record). openCall base x links B o) read) ∙ open-clamp ∙ open-whole h
 

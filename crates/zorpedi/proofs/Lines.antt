@@ -20,7 +20,7 @@ use Rattle.notice.proofs.Spelling.{length-line}
 use Rattle.notice.proofs.Theorems.{read-frame}
 use Rattle.outcome.specs.declared.Outcome.{Outcome}
 use Rattle.report.specs.Line.{reportLine, bufferLimit, reportDone, reportRefused, writtenOf, ReportLeft, reportLeft, reportCall}
-use Rattle.report.specs.declared.Report.{Report}
+use Rattle.report.specs.declared.ReportFields.{ReportFields}
 use Rattle.report.specs.declared.Written.{Written as ReportWritten}
 use Rattle.report.specs.declared.Written.the-variants.{Line as ReportLine, Refused as NoReport}
 use Rattle.report.proofs.Theorems.{line-length}
@@ -91,10 +91,10 @@ module _ (f buffer : List ℕ) (l : ℕ) (r : Writing) {after : List ℕ} (left 
 
 -- ---- report lines
 
-line-some : (f : Report) → 0 < length (reportLine f)
+line-some : (f : ReportFields) → 0 < length (reportLine f)
 line-some f = omega (arith, line-length f)
 
-report-some : (f : Report) (buffer : List ℕ) (k : ℕ) (b : List ℕ) → reportLeft (reportRefused k) b ≡ reportCall f buffer → k ≡ 0 → ⊥
+report-some : (f : ReportFields) (buffer : List ℕ) (k : ℕ) (b : List ℕ) → reportLeft (reportRefused k) b ≡ reportCall f buffer → k ≡ 0 → ⊥
 unfolding reportCall
 report-some f buffer k b e z = go (ltb (length buffer) bufferLimit) e
   where
@@ -103,7 +103,7 @@ report-some f buffer k b e z = go (ltb (length buffer) bufferLimit) e
     go false r = let x = ap (λ (y : ReportLeft). y .answer .written) r in lt-irrefl 0 (omega (arith, x, line-some f))
 
 module _ (number answer depots chain pairs searches : ℕ) {o : Outcome} (given : o ≡ outcomeOf answer) where
-  abbrev asked : Report
+  abbrev asked : ReportFields
   asked = record { number = number; outcome = o; depots = depots; chain = chain; pairs = pairs; searches = searches }
 
   fields-are : asked ≡ reportFields number answer depots chain pairs searches
@@ -116,7 +116,7 @@ module _ (number answer depots chain pairs searches : ℕ) {o : Outcome} (given 
 
     called : reportFrom (reportLeft (writtenOf r) after) l ≡ said
     unfolding reportOut
-    called = ap (λ (x : ReportLeft). reportFrom x l) (left ∙ ap (λ (f : Report). reportCall f buffer) fields-are)
+    called = ap (λ (x : ReportLeft). reportFrom x l) (left ∙ ap (λ (f : ReportFields). reportCall f buffer) fields-are)
 
     pub report-line-out : {n : ℕ} → r ≡ ReportLine n → lineOut 0 n 0 after ≡ said
     unfolding reportFrom writtenOf orOld

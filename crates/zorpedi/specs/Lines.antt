@@ -3,7 +3,7 @@ use mathlib.Core.List.{List}
 use Prim.Native.Nat.{ℕ, zero, suc}
 use Rattle.notice.specs.Calls.{LineLeft, readCall, writeCall}
 use Rattle.report.specs.Line.{ReportLeft, reportCall}
-use Rattle.report.specs.declared.Report.{Report}
+use Rattle.report.specs.declared.ReportFields.{ReportFields}
 use Rattle.c_values.specs.Outcomes.{outcomeOf}
 
 -- a lent number after a call with this refusal: the new value, or the old one where the call is refused
@@ -31,12 +31,12 @@ writeOut frame line length = outOf (writeCall frame line) length 0
 
 -- ---- report lines
 
-unfoldable pub reportFields : ℕ → ℕ → ℕ → ℕ → ℕ → ℕ → Report
+unfoldable pub reportFields : ℕ → ℕ → ℕ → ℕ → ℕ → ℕ → ReportFields
 reportFields number answer depots chain pairs searches =
     record { number = number; outcome = outcomeOf answer; depots = depots; chain = chain; pairs = pairs; searches = searches }
 
 unfoldable pub reportFrom : ReportLeft → ℕ → LineOut
 reportFrom x length = lineOut (x .answer .refusal) (orOld (x .answer .refusal) (x .answer .written) length) 0 (x .buffer)
 
-unfoldable pub reportOut : Report → List ℕ → ℕ → LineOut
+unfoldable pub reportOut : ReportFields → List ℕ → ℕ → LineOut
 reportOut fields line length = reportFrom (reportCall fields line) length

@@ -3,7 +3,7 @@ ghost use mathlib.Core.Path.{_≡_};
 ghost use Rattle.zorpedi.specs.Lines.{lineOut, readOut, writeOut, reportFields, reportOut};
 use notice::Reading;
 use notice::Writing;
-use report::Report;
+use report::ReportFields;
 use report::Written;
 
 // Reads the notice line at the start of input into frame (258 bytes). 0, and the frame's length and the bytes used; or 1 (short), 9 (garbled).
@@ -61,7 +61,7 @@ pub extern "C" fn zorpedi_report(
         ⌜ lineOut r (now (length .exit)) 0 (now (line .exit)) ≡ reportOut fields (now (line .entry)) (now (length .entry)) ⌝ }
 {
     let outcome = c_values::outcome_of(answer);
-    let fields = Report {
+    let fields = ReportFields {
         number: number,
         outcome: outcome,
         depots: depots,

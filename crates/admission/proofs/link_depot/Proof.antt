@@ -4,13 +4,13 @@ use mathlib.Core.Path.{_≡_, refl, _∙_}
 use Prim.Native.Nat.{_-_}
 use native.Mathlib.Omega.{arith}
 use lib.ListN.{length, take}
-use Rattle.admission.proofs.Linking.{in-table, linkedTo, linked-start, linked-turn, linked-end}
+use Rattle.admission.proofs.Linking.{in-table, withLinks, linked-start, linked-turn, linked-end}
 use borrow.Author.Needs.{needs}
 use Rattle.admission.proofs.link_depot.Statement.{statement}
 use Rattle.admission.proofs.link_depot.Tie as tie
 
 abbrev Inv-loop : tie.InvT-loop
-Inv-loop links₀ words code neighbours a i₀ links i = (length links ≡ length links₀) × (links ≡ linkedTo words code (take i neighbours) links₀)
+Inv-loop links₀ words code neighbours a i₀ links i = (length links ≡ length links₀) × (links ≡ withLinks words code (take i neighbours) links₀)
 
 abbrev μ-loop : tie.MeasureT-loop
 μ-loop links₀ words code neighbours a i₀ links i = length neighbours - i

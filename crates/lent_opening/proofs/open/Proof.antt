@@ -43,7 +43,7 @@ use denote.Triple.Table.{entered, cited}
 use denote.Triple.Walked.{says, Stays, stay-ref, stay-none, stay-none-slice, gave-slice, walkOf, goes-ref, goes-none, goes-none-slice, goes-gave-slice, Walks, ends-at, walked, walk-meets}
 use denote.Signature.{plain}
 use Rattle.map.specs.declared.Record.{Record}
-use Rattle.opening.specs.declared.Opened.{Opened}
+use Rattle.opening.specs.declared.Returned.{Returned}
 use Rattle.opening.specs.declared.Report.{Report}
 use Rattle.layers.specs.Layers.{tables as searchTables}
 use Rattle.map.specs.Memory.{base as baseShape}
@@ -52,8 +52,8 @@ use Rattle.opening.specs.OpenCall.{openLeft, openCall}
 use Rattle.opening.specs.Steps.{noticeOf}
 use Rattle.map.proofs.Record as RT
 use Rattle.map.proofs.Record.Laws as RL
-use Rattle.opening.proofs.Opened as OT
-use Rattle.opening.proofs.Opened.Laws as OL
+use Rattle.opening.proofs.Returned as OT
+use Rattle.opening.proofs.Returned.Laws as OL
 use Rattle.opening.proofs.Report as VT
 use Rattle.opening.proofs.Report.Laws as VL
 use Rattle.opening.proofs.open_step as callee
@@ -155,7 +155,7 @@ module _ {M : Type 1} (𝓤 : URA M) (H : Heap 𝓤) (A : Atoms 𝓤) (W : Given
   goes g =
       qed W ((‵ (flft κ1 q1) ⊛ ‵ (flft κ2 q2) ⊛ ‵ (flft κ3 q3) ⊛ ‵ (flft κ4 q4) ⊛ ‵ (flft κ5 q5) ⊛ ‵ (flft κ6 q6) ⊛ ‵ (flft κ7 q7) ⊛ ‵ (flft κ9 q9) ⊛ ‵ ftrue) ∷ ‵ (fsep (MutSlice (named 1) κ1 u64 .own y1 (s1 ∷ [])) (fsep (MutSlice (named 2) κ2 u64 .own y2 (s2 ∷ [])) (fsep (MutSlice (named 3) κ3 u16 .own y3 (s3 ∷ [])) (fsep (MutSlice (named 4) κ4 u16 .own y4 (s4 ∷ [])) (fsep (MutSlice (named 5) κ5 u16 .own y5 (s5 ∷ [])) (fsep (MutSlice (named 6) κ6 u64 .own y6 (s6 ∷ [])) (fsep (MutSlice (named 7) κ7 u64 .own y7 (s7 ∷ [])) (fsep (u8 .own x8 (vint w8 x8 ∷ [])) (fsep (ShrSlice (named 8) κ9 u8 .own y9 (s9 ∷ [])) ftrue))))))))) ∷ []) ∵ move ! (1 ∷ []) $ fsplit ! $ move ! (1 ∷ []) $ fsplit ! $ move ! (1 ∷ []) $ fsplit ! $ move ! (1 ∷ []) $ fsplit ! $ move ! (1 ∷ []) $ fsplit ! $ move ! (1 ∷ []) $ fsplit ! $ move ! (1 ∷ []) $ fsplit ! $ move ! (1 ∷ []) $ fsplit ! $ move ! (1 ∷ []) $ fsplit ! $ use1 W (‵ (ShrSlice (named 8) κ9 u8 .own y9 (s9 ∷ [])) ⊛ ‵ (ShrSlice (named 8) κ9 u8 .own y9 (s9 ∷ []))) (shr-slice-copy 𝓤 H A W (named 8) κ9 u8 .twice y9 (s9 ∷ [])) $ split ! $ move ! (2 ∷ []) $ move ! (1 ∷ 0 ∷ []) $ fjoin ! $ move ! (2 ∷ 0 ∷ []) $ fjoin ! $ move ! (2 ∷ 0 ∷ []) $ fjoin ! $ move ! (2 ∷ 0 ∷ []) $ fjoin ! $ move ! (2 ∷ 0 ∷ []) $ fjoin ! $ move ! (2 ∷ 0 ∷ []) $ fjoin ! $ move ! (2 ∷ 0 ∷ []) $ fjoin ! $ move ! (2 ∷ 0 ∷ []) $ fjoin ! $ move ! (2 ∷ 0 ∷ []) $ fjoin ! $ owned ! R (Is R) (LL.makes RT.the-type RL.the-plain 𝓤 H A) h _ g $ move ! (0 ∷ 1 ∷ []) $ fjoin ! $ move ! (2 ∷ 0 ∷ []) $ use2 W (raw (Step 𝓤 H A at-mem run .pre to-step)) asked $ move ! (0 ∷ 1 ∷ []) $ frame ! $ done !
 
-  exits : (r : Opened) (z1 : List ℕ) (z2 : List ℕ) (z3 : List ℕ) (z4 : List ℕ) (z5 : List ℕ) (z6 : List ℕ) (z7 : List ℕ) → openLeft r z1 (lentTables z2 (searchTables z3 z6 z7) z4 z5) ≡ openCall baseShape h x1 (lentTables x2 (searchTables x3 x6 x7) x4 x5) (noticeOf x8 x9) → length z1 ≡ length x1 → length z2 ≡ length x2 → length z3 ≡ length x3 → length z4 ≡ length x4 → length z5 ≡ length x5 → length z6 ≡ length x6 → length z7 ≡ length x7 → Is VT.the-row (r .report) (out-val (r .report) ∷ [])
+  exits : (r : Returned) (z1 : List ℕ) (z2 : List ℕ) (z3 : List ℕ) (z4 : List ℕ) (z5 : List ℕ) (z6 : List ℕ) (z7 : List ℕ) → openLeft r z1 (lentTables z2 (searchTables z3 z6 z7) z4 z5) ≡ openCall baseShape h x1 (lentTables x2 (searchTables x3 x6 x7) x4 x5) (noticeOf x8 x9) → length z1 ≡ length x1 → length z2 ≡ length x2 → length z3 ≡ length x3 → length z4 ≡ length x4 → length z5 ≡ length x5 → length z6 ≡ length x6 → length z7 ≡ length x7 → Is VT.the-row (r .report) (out-val (r .report) ∷ [])
       → ent 𝓤 (⋆ 𝓤 H A (‵ (fobs γ (R .coded .code (r .after))) ∷ ‵ (fbor κ0 (Body (mem R) b o γ)) ∷ ‵ (flft κ0 q0) ∷ (‵ (flft κ1 q1) ⊛ ‵ (flft κ2 q2) ⊛ ‵ (flft κ3 q3) ⊛ ‵ (flft κ4 q4) ⊛ ‵ (flft κ5 q5) ⊛ ‵ (flft κ6 q6) ⊛ ‵ (flft κ7 q7) ⊛ ‵ (flft κ9 q9) ⊛ ‵ ftrue) ∷ ‵ (finally u64 γ1 z1) ∷ ‵ (finally u64 γ2 z2) ∷ ‵ (finally u16 γ3 z3) ∷ ‵ (finally u16 γ4 z4) ∷ ‵ (finally u16 γ5 z5) ∷ ‵ (finally u64 γ6 z6) ∷ ‵ (finally u64 γ7 z7) ∷ ‵ (ShrSlice (named 8) κ9 u8 .own y9 (s9 ∷ [])) ∷ [])) (Post (out-val (r .report)))
   exits r z1 z2 z3 z4 z5 z6 z7 e l1 l2 l3 l4 l5 l6 l7 is =
       qed W (‵ (fobs γ (R .coded .code (r .after))) ∷ ‵ (fbor κ0 (Body (mem R) b o γ)) ∷ ‵ (flft κ0 q0) ∷ (‵ (flft κ1 q1) ⊛ ‵ (flft κ2 q2) ⊛ ‵ (flft κ3 q3) ⊛ ‵ (flft κ4 q4) ⊛ ‵ (flft κ5 q5) ⊛ ‵ (flft κ6 q6) ⊛ ‵ (flft κ7 q7) ⊛ ‵ (flft κ9 q9) ⊛ ‵ ftrue) ∷ ‵ (finally u64 γ1 z1) ∷ ‵ (finally u64 γ2 z2) ∷ ‵ (finally u16 γ3 z3) ∷ ‵ (finally u16 γ4 z4) ∷ ‵ (finally u16 γ5 z5) ∷ ‵ (finally u64 γ6 z6) ∷ ‵ (finally u64 γ7 z7) ∷ ‵ (ShrSlice (named 8) κ9 u8 .own y9 (s9 ∷ [])) ∷ []) ∵
@@ -190,7 +190,7 @@ module _ {M : Type 1} (𝓤 : URA M) (H : Heap 𝓤) (A : Atoms 𝓤) (W : Given
         -- the call
         move ! (5 ∷ 6 ∷ []) $ use2 W (raw (Step 𝓤 H A at-mem run .pre to-step) ⊛ ‵ (ShrSlice (named 8) κ9 u8 .own y9 (s9 ∷ []))) (goes g) $ split ! $
         calls-at ! fm (Step 𝓤 H A at-mem run) known to-step (and-then ! (load ! (from ! (stop !)) (look ! 35 refl)) (and-then ! (load ! (from ! (stop !)) (look ! 31 refl)) (and-then ! (load ! (from ! (stop !)) (look ! 27 refl)) (and-then ! (load ! (from ! (stop !)) (look ! 23 refl)) (and-then ! (load ! (from ! (stop !)) (look ! 19 refl)) (and-then ! (load ! (from ! (stop !)) (look ! 15 refl)) (and-then ! (load ! (from ! (stop !)) (look ! 11 refl)) (and-then ! (load ! (from ! (stop !)) (look ! 7 refl)) (and-then ! (load ! (from ! (stop !)) (look ! 41 refl)) (and-then ! (load ! (from ! (stop !)) (look ! 39 refl)) (no-more !))))))))))) (λ w.
-        use1 W (later (some (λ (r : Opened). ((‵ (flft κ1 q1) ⊛ ‵ (flft κ2 q2) ⊛ ‵ (flft κ3 q3) ⊛ ‵ (flft κ4 q4) ⊛ ‵ (flft κ5 q5) ⊛ ‵ (flft κ6 q6) ⊛ ‵ (flft κ7 q7) ⊛ ‵ (flft κ9 q9) ⊛ ‵ ftrue) ⊛ ‵ (OT.the-row .own r (w ∷ []))) ⊛ raw (ensured 𝓤 H A callee.ended (callee.clauses 𝓤 H A at-mem run) (κ1, (κ2, (κ3, (κ4, (κ5, (κ6, (κ7, (κ9, tt)))))))) (h, (y1, (y2, (y3, (y4, (y5, (y6, (y7, (x8, (y9, tt)))))))))) tt r)))) (id⊢ 𝓤 _) $ await ! tt $ pick ! (λ r.
+        use1 W (later (some (λ (r : Returned). ((‵ (flft κ1 q1) ⊛ ‵ (flft κ2 q2) ⊛ ‵ (flft κ3 q3) ⊛ ‵ (flft κ4 q4) ⊛ ‵ (flft κ5 q5) ⊛ ‵ (flft κ6 q6) ⊛ ‵ (flft κ7 q7) ⊛ ‵ (flft κ9 q9) ⊛ ‵ ftrue) ⊛ ‵ (OT.the-row .own r (w ∷ []))) ⊛ raw (ensured 𝓤 H A callee.ended (callee.clauses 𝓤 H A at-mem run) (κ1, (κ2, (κ3, (κ4, (κ5, (κ6, (κ7, (κ9, tt)))))))) (h, (y1, (y2, (y3, (y4, (y5, (y6, (y7, (x8, (y9, tt)))))))))) tt r)))) (id⊢ 𝓤 _) $ await ! tt $ pick ! (λ r.
         split ! $ move ! (1 ∷ []) $ use1 W (some (λ (zs : (Unit {0} × (List ℕ × (List ℕ × (List ℕ × (List ℕ × (List ℕ × (List ℕ × (List ℕ × (Unit {0} × (Unit {0} × Unit {0}))))))))))). ‵ (lasts callee.ended (κ1, (κ2, (κ3, (κ4, (κ5, (κ6, (κ7, (κ9, tt)))))))) (h, (y1, (y2, (y3, (y4, (y5, (y6, (y7, (x8, (y9, tt)))))))))) zs) ⊛ raw (fact 𝓤 (openLeft r (zs .1 .0) (lentTables (zs .1 .1 .0) (searchTables (zs .1 .1 .1 .0) (zs .1 .1 .1 .1 .1 .1 .0) (zs .1 .1 .1 .1 .1 .1 .1 .0)) (zs .1 .1 .1 .1 .0) (zs .1 .1 .1 .1 .1 .0)) ≡ openCall baseShape h x1 (lentTables x2 (searchTables x3 x6 x7) x4 x5) (noticeOf x8 x9))))) (id⊢ 𝓤 _) $ pick ! (λ zs.
         split ! $ move ! (1 ∷ []) $ heard ! (openLeft r (zs .1 .0) (lentTables (zs .1 .1 .0) (searchTables (zs .1 .1 .1 .0) (zs .1 .1 .1 .1 .1 .1 .0) (zs .1 .1 .1 .1 .1 .1 .1 .0)) (zs .1 .1 .1 .1 .0) (zs .1 .1 .1 .1 .1 .0)) ≡ openCall baseShape h x1 (lentTables x2 (searchTables x3 x6 x7) x4 x5) (noticeOf x8 x9)) (λ e.
         fsplit ! $ move ! (1 ∷ []) $ fsplit ! $ fsplit ! $ move ! (1 ∷ []) $ feqL ! (λ lz1. move ! (1 ∷ []) $ fsplit ! $ fsplit ! $ move ! (1 ∷ []) $ feqL ! (λ lz2. move ! (1 ∷ []) $ fsplit ! $ fsplit ! $ move ! (1 ∷ []) $ feqL ! (λ lz3. move ! (1 ∷ []) $ fsplit ! $ fsplit ! $ move ! (1 ∷ []) $ feqL ! (λ lz4. move ! (1 ∷ []) $ fsplit ! $ fsplit ! $ move ! (1 ∷ []) $ feqL ! (λ lz5. move ! (1 ∷ []) $ fsplit ! $ fsplit ! $ move ! (1 ∷ []) $ feqL ! (λ lz6. move ! (1 ∷ []) $ fsplit ! $ fsplit ! $ move ! (1 ∷ []) $ feqL ! (λ lz7. move ! (1 ∷ []) $ fsplit ! $ move ! (1 ∷ []) $ fsplit ! $

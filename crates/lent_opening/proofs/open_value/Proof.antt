@@ -45,7 +45,7 @@ use denote.Triple.Table.{entered, cited}
 use denote.Triple.Walked.{says, Stays, stay-none, stay-none-slice, gave-slice, walkOf, goes-none, goes-none-slice, goes-gave-slice, Walks, ends-at, walked, walk-meets}
 use denote.Signature.{plain}
 use Rattle.map.specs.declared.Record.{Record}
-use Rattle.opening.specs.declared.Opened.{Opened}
+use Rattle.opening.specs.declared.Returned.{Returned}
 use Rattle.opening.specs.declared.Report.{Report}
 use Rattle.layers.specs.Layers.{tables as searchTables}
 use Rattle.map.specs.Memory.{base as baseShape}
@@ -54,8 +54,8 @@ use Rattle.opening.specs.OpenCall.{leftOf, openCall}
 use Rattle.opening.specs.Steps.{noticeOf}
 use Rattle.map.proofs.Record as RT
 use Rattle.map.proofs.Record.Laws as RL
-use Rattle.opening.proofs.Opened as OT
-use Rattle.opening.proofs.Opened.Laws as OL
+use Rattle.opening.proofs.Returned as OT
+use Rattle.opening.proofs.Returned.Laws as OL
 use Rattle.opening.proofs.Report as VT
 use Rattle.opening.proofs.Report.Laws as VL
 use Rattle.lent_opening.proofs.open as callee
@@ -84,10 +84,10 @@ vals = LL.vals RT.the-type RL.the-laws
 abbrev out-val : Report → Val
 out-val = LL.val VT.the-type VL.the-laws
 
-abbrev made : Report → Record → Opened
+abbrev made : Report → Record → Returned
 made r z = record { report = r; after = z }
 
-abbrev made-val : Opened → Val
+abbrev made-val : Returned → Val
 made-val = LL.val OT.the-type OL.the-laws
 
 module _ {M : Type 1} (𝓤 : URA M) (H : Heap 𝓤) (A : Atoms 𝓤) (W : Given 𝓤 H A) (z : Record) (l : ℕ) where

@@ -7,7 +7,7 @@ use native.Mathlib.Omega.{arith}
 use Rattle.rows.specs.Rows.{tableBit}
 use Rattle.rows.proofs.Places.{row-fits}
 use Rattle.pairs.specs.Pairs.{tally}
-use Rattle.pairs.proofs.Tallies.{Holds, holds-whole, tally-fits, put-old, put-new}
+use Rattle.pairs.proofs.Tallies.{HoldsPairs, holds-whole, tally-fits, put-old, put-new}
 use borrow.Author.Needs.{needs}
 use Rattle.pairs.proofs.put_pair.Statement.{statement}
 use Rattle.pairs.proofs.put_pair.Tie as tie
@@ -15,7 +15,7 @@ use Rattle.pairs.proofs.put_pair.Tie as tie
 -- the table as it is lent
 entered : (c : tie.After-slice-known) →
     let start : tie.Start = search in
-    let a = start .args in Holds (a .words) (tableBit (a .words) (a .pairs .now)) (a .pairs .now) (a .pairs .now) (a .count)
+    let a = start .args in HoldsPairs (a .words) (tableBit (a .words) (a .pairs .now)) (a .pairs .now) (a .pairs .now) (a .count)
 entered c =
     let start : tie.Start = search in
     holds-whole (start .pre .0) (λ i l. c .slice-known .given i .fits)

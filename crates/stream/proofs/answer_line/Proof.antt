@@ -4,7 +4,7 @@ use mathlib.Core.List.{List}
 use Prim.Native.Nat.{ℕ}
 use native.Mathlib.Omega.{arith}
 use Rattle.notice.specs.Lines.{frame, readLine}
-use Rattle.stream.proofs.Answers.{Stands, frame-read, garbled-read, answered-frame, answered-garbled}
+use Rattle.stream.proofs.Answers.{FrameStands, frame-read, garbled-read, answered-frame, answered-garbled}
 use borrow.Author.Needs.{needs}
 use Rattle.stream.proofs.answer_line.Statement.{statement}
 use Rattle.stream.proofs.answer_line.Tie as tie
@@ -29,7 +29,7 @@ read : (c : tie.After-known-told) →
     (f : List ℕ)
     × (v : ℕ)
     × (readLine (start .args .text .now) ≡ frame f v)
-    × Stands f (after-got .got .given .0 .0) (after-read-notice .read-notice .last .1 .0)
+    × FrameStands f (after-got .got .given .0 .0) (after-read-notice .read-notice .last .1 .0)
 read c =
     let after-got : tie.After-got = search back in
     let after-read-notice : tie.After-read-notice = search back in
