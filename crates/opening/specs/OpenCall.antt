@@ -8,7 +8,7 @@ use Rattle.lists.specs.Lists.{range, overwrite, firstOf}
 use Rattle.graph.specs.Network.{Network}
 use Rattle.graph.specs.Distance.{connected}
 use Rattle.graph.specs.Chart.{chart, countPairs}
-use Rattle.graph.specs.Opening.{Notice, addDepot, noticeFaults, Change, grew, kept, shrank, Returned, opening}
+use Rattle.graph.specs.Opening.{Notice, addDepot, noticeFaults, Change, grew, kept, shrank, Opened, opening}
 use Rattle.rows.specs.Rows.{tableBit, encodeRow, encodeTable}
 use Rattle.map.specs.Memory.{Shape, places, networkOf}
 use Rattle.checks.specs.Sound.{soundLinks, soundFigures}
@@ -19,7 +19,7 @@ use Rattle.outcome.specs.declared.Change.the-variants.{Grew, Kept, Shrank}
 use Rattle.outcome.specs.declared.Outcome.{Outcome}
 use Rattle.outcome.specs.declared.Outcome.the-variants.{Accepted, Refused}
 use Rattle.opening.specs.declared.Report.{Report}
-use Rattle.opening.specs.declared.Returned.{Returned as Answer}
+use Rattle.opening.specs.declared.Returned.{Returned}
 
 -- the answer's case for each way in which the chain moves
 unfoldable pub changeOf : Change → Outcome
@@ -41,7 +41,7 @@ openRefusal K rec links pairs sizes o =
 unfoldable pub networkAfter : Shape → Record → List ℕ → Notice → Network
 networkAfter K rec links o = addDepot (networkOf (K .words) (rec .codes) links) (o .code) (o .neighbours)
 
-unfoldable pub openedBy : Shape → Record → List ℕ → List ℕ → Notice → Returned
+unfoldable pub openedBy : Shape → Record → List ℕ → List ℕ → Notice → Opened
 openedBy K rec links pairs o = opening (chart (networkAfter K rec links o)) (o .code) (rec .chain) (tableBit (K .words) pairs)
 
 -- what the call leaves: its report with the record, the link table, and the other lent tables
@@ -54,7 +54,7 @@ pub record OpenLeft : Type 0 where
 abbrev pub leftOf : Report → Record → List ℕ → Lent → OpenLeft
 leftOf report after links B = record { report = report; after = after; links = links; lent = B }
 
-abbrev pub openLeft : Answer → List ℕ → Lent → OpenLeft
+abbrev pub openLeft : Returned → List ℕ → Lent → OpenLeft
 openLeft r links B = leftOf (r .report) (r .after) links B
 
 unfoldable pub openGiven : ℕ → Shape → Record → List ℕ → Lent → Notice → OpenLeft
