@@ -2,15 +2,18 @@
 use crate::sheet::SIZE;
 use crate::sheet::read;
 
+// Word i, 0 past the end.
+fn word(words: &[u64], i: usize) -> u64 {
+    if i < words.len() { words[i] } else { 0 }
+}
+
 // Bit i of a table of words, 0 past the end.
-pub fn bit(words: &[u64], i: usize) -> u16 {
-    let w = i / 64;
-    if w < words.len() {
-        if (words[w] >> (i % 64)) % 2 == 1 {
-            return 1;
-        }
+fn bit(words: &[u64], i: usize) -> u16 {
+    if (word(words, i / 64) >> (i % 64)) % 2 == 1 {
+        1
+    } else {
+        0
     }
-    0
 }
 
 // Turns bit i of a table of words over.
@@ -41,6 +44,18 @@ pub fn numbers_are(table: &[u16; 256], sheet: &[u16; SIZE], part: usize, u: usiz
             return false;
         }
         v += 1;
+    }
+    true
+}
+
+// Whether the first n words of two tables are the same.
+pub fn same_words(a: &[u64], b: &[u64], n: usize) -> bool {
+    let mut i = 0;
+    while i < n {
+        if word(a, i) != word(b, i) {
+            return false;
+        }
+        i += 1;
     }
     true
 }

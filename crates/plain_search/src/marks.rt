@@ -1,7 +1,6 @@
 // The marks of a call, held to the distances: which depots it searched, and that it could do without searching the others.
 use crate::sheet::DISTANCES;
 use crate::sheet::ECCENTRICITIES;
-use crate::sheet::NONE;
 use crate::sheet::OPEN;
 use crate::sheet::SIZE;
 use crate::sheet::next;
@@ -25,9 +24,12 @@ fn covers(skips: &[u16; 256], sheet: &[u16; SIZE], r: usize, v: usize, chain: u1
     e + d < chain as u32
 }
 
-// Whether v is closed or some searched depot covers it.
+// Whether v is closed, or searched, or some searched depot covers it.
 fn is_covered(skips: &[u16; 256], sheet: &[u16; SIZE], v: usize, chain: u16) -> bool {
     if read(sheet, OPEN, 0, v) != 1 {
+        return true;
+    }
+    if mark(skips, v) == SEARCHED {
         return true;
     }
     let mut r = 0;
@@ -40,17 +42,25 @@ fn is_covered(skips: &[u16; 256], sheet: &[u16; SIZE], v: usize, chain: u16) -> 
     false
 }
 
-// How many depots are marked as searched. If the call ran rounds, every other one has to be covered: NONE where one is not.
-pub fn count(skips: &[u16; 256], sheet: &[u16; SIZE], chain: u16, rounds: bool) -> u16 {
+// Whether every depot that was not searched is covered.
+pub fn are_covered(skips: &[u16; 256], sheet: &[u16; SIZE], chain: u16) -> bool {
+    let mut v = 0;
+    while v < 256 {
+        if !is_covered(skips, sheet, v, chain) {
+            return false;
+        }
+        v += 1;
+    }
+    true
+}
+
+// How many depots are marked as searched.
+pub fn count(skips: &[u16; 256]) -> u16 {
     let mut n = 0;
     let mut v = 0;
     while v < 256 {
-        if mark(skips, v) == SEARCHED {
+        if skips[v] == SEARCHED {
             n = next(n);
-        } else if rounds {
-            if !is_covered(skips, sheet, v, chain) {
-                return NONE;
-            }
         }
         v += 1;
     }

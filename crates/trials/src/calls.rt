@@ -6,6 +6,7 @@ use opening::Opened;
 use outcome::Change;
 use outcome::Outcome;
 use plain_search::bits::numbers_are;
+use plain_search::bits::same_words;
 use plain_search::marks;
 use plain_search::sheet::DISTANCES;
 use plain_search::sheet::ECCENTRICITIES;
@@ -13,40 +14,55 @@ use plain_search::sheet::SEVENS;
 use plain_search::sheet::SIZE;
 use plain_search::sheet::code_of_byte;
 use plain_search::sheet::read;
+use reckon::Reckoned;
 use reckon::Reckoning;
 use search::Found;
 
-// What a call answered and left: the number of its refusal, or its letter, D (done) where it has none; its searches; how many depots are marked as
-// searched, those without a mark being covered; whether its scratch is as it was; and the record.
+// What a call left in its scratch: how many depots are marked as searched, whether those that are not are covered, and whether nothing was written.
+pub struct Scratch {
+    pub marked: u16,
+    pub covered: bool,
+    pub untouched: bool,
+}
+
+// What a call answered and left: the number of its refusal, or its letter, D (done) where it has none; its searches; its scratch; and the record.
 pub struct Answer {
     pub word: u8,
     pub searches: u16,
-    pub marked: u16,
-    pub untouched: bool,
+    pub scratch: Scratch,
     pub after: Record,
 }
 
 // The word of a search that found something else than the plain one, or was refused and wrote all the same.
-pub const WRONG: u8 = 99;
+const WRONG: u8 = 99;
 
 // ---- scratch
 
-// Whether each word of a row is 7.
-fn is_seven(row: &[u64; 4]) -> bool {
-    let low = both(row[0] == 7, row[1] == 7);
-    both(low, both(row[2] == 7, row[3] == 7))
-}
-
 // Whether hop table and layer rows are as they were.
 fn hops_untouched(hops: &[u16; 256], even: &[u64; 4], odd: &[u64; 4], sheet: &[u16; SIZE]) -> bool {
-    let rows = both(is_seven(even), is_seven(odd));
+    let sevens = [7u64; 4];
+    let rows = both(same_words(even, &sevens, 4), same_words(odd, &sevens, 4));
     both(rows, numbers_are(hops, sheet, SEVENS, 0))
 }
 
-// Whether bound and skip table are as they were.
-fn marks_untouched(bounds: &[u16; 256], skips: &[u16; 256], sheet: &[u16; SIZE]) -> bool {
+// What stands in scratch after a call that left this chain.
+fn left(
+    hops: &[u16; 256],
+    bounds: &[u16; 256],
+    skips: &[u16; 256],
+    even: &[u64; 4],
+    odd: &[u64; 4],
+    sheet: &[u16; SIZE],
+    chain: u16,
+) -> Scratch {
     let first = numbers_are(bounds, sheet, SEVENS, 0);
-    both(first, numbers_are(skips, sheet, SEVENS, 0))
+    let second = numbers_are(skips, sheet, SEVENS, 0);
+    let third = hops_untouched(hops, even, odd, sheet);
+    Scratch {
+        marked: marks::count(skips),
+        covered: marks::are_covered(skips, sheet, chain),
+        untouched: both(first, both(second, third)),
+    }
 }
 
 // ---- an opening
@@ -63,18 +79,15 @@ fn word_of(o: Outcome) -> u8 {
     }
 }
 
-// What an opening answered, with what its scratch shows. Where the chain shrank, rounds were run.
-fn opened(got: Opened, skips: &[u16; 256], sheet: &[u16; SIZE], untouched: bool) -> Answer {
+// What an opening answered and left.
+fn opened(got: Opened, scratch: Scratch) -> Answer {
     let report = got.report;
     let outcome = report.outcome;
-    let word = word_of(outcome);
     let after = got.after;
-    let marked = marks::count(skips, sheet, after.chain, word == b'S');
     Answer {
-        word,
+        word: word_of(outcome),
         searches: report.searches,
-        marked,
-        untouched,
+        scratch,
         after,
     }
 }
@@ -106,35 +119,28 @@ pub fn open(
         n.code,
         near,
     );
-    let reached = hops_untouched(&hops, &even, &odd, sheet);
-    let marked = marks_untouched(&bounds, &skips, sheet);
-    opened(got, &skips, sheet, both(reached, marked))
+    let after = got.after;
+    let scratch = left(&hops, &bounds, &skips, &even, &odd, sheet, after.chain);
+    opened(got, scratch)
 }
 
 // ---- a whole reckoning
 
-// What a reckoning answered, with what its scratch shows. It always runs rounds.
-fn reckoned(
-    answer: Reckoning,
-    after: Record,
-    skips: &[u16; 256],
-    sheet: &[u16; SIZE],
-    untouched: bool,
-) -> Answer {
-    let marked = marks::count(skips, sheet, after.chain, !untouched);
+// What a reckoning answered and left.
+fn reckoned(got: Reckoned, scratch: Scratch) -> Answer {
+    let answer = got.answer;
+    let after = got.after;
     match answer {
         Reckoning::Searches(searches) => Answer {
             word: b'D',
             searches,
-            marked,
-            untouched,
+            scratch,
             after,
         },
         Reckoning::Refused(word) => Answer {
             word,
             searches: 0,
-            marked,
-            untouched,
+            scratch,
             after,
         },
     }
@@ -162,11 +168,9 @@ pub fn reckon(
         rec,
         links,
     );
-    let reached = hops_untouched(&hops, &even, &odd, sheet);
-    let marked = marks_untouched(&bounds, &skips, sheet);
-    let answer = got.answer;
     let after = got.after;
-    reckoned(answer, after, &skips, sheet, both(reached, marked))
+    let scratch = left(&hops, &bounds, &skips, &even, &odd, sheet, after.chain);
+    reckoned(got, scratch)
 }
 
 // ---- a search
@@ -178,19 +182,34 @@ fn is_found(hops: &[u16; 256], sheet: &[u16; SIZE], s: u8, e: u16) -> bool {
     both(farthest, numbers_are(hops, sheet, DISTANCES, own))
 }
 
-// A search from s: the number of its refusal, or D where it found what the plain search did.
+// The number of a search's refusal, if nothing was written; D, if it found what the plain search found; else WRONG.
+fn searched(
+    found: Found,
+    hops: &[u16; 256],
+    even: &[u64; 4],
+    odd: &[u64; 4],
+    sheet: &[u16; SIZE],
+    s: u8,
+) -> u8 {
+    match found {
+        Found::Reached(e) => if is_found(hops, sheet, s, e) {
+            b'D'
+        } else {
+            WRONG
+        },
+        Found::Refused(k) => if hops_untouched(hops, even, odd, sheet) {
+            k
+        } else {
+            WRONG
+        },
+    }
+}
+
+// A search from s.
 pub fn search(rec: Record, links: &[u64; 1024], sheet: &[u16; SIZE], s: u8) -> u8 {
     let mut hops = [7u16; 256];
     let mut even = [7u64; 4];
     let mut odd = [7u64; 4];
     let found = search::search_from(&mut hops, &mut even, &mut odd, rec, links, s);
-    let untouched = hops_untouched(&hops, &even, &odd, sheet);
-    match found {
-        Found::Reached(e) => if is_found(&hops, sheet, s, e) {
-            b'D'
-        } else {
-            WRONG
-        },
-        Found::Refused(k) => if untouched { k } else { WRONG },
-    }
+    searched(found, &hops, &even, &odd, sheet, s)
 }

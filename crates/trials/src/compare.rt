@@ -3,6 +3,7 @@ use crate::calls::Answer;
 use crate::tally::both;
 use map::Record;
 use plain_search::bits::bits_are;
+use plain_search::bits::same_words;
 use plain_search::sheet::CHAIN;
 use plain_search::sheet::COUNT;
 use plain_search::sheet::FIGURES;
@@ -15,22 +16,33 @@ use plain_search::sheet::read;
 
 // Whether two records are the same.
 fn same_record(a: Record, b: Record) -> bool {
-    let c = a.codes;
-    let d = b.codes;
-    let low = both(c[0] == d[0], c[1] == d[1]);
-    let high = both(c[2] == d[2], c[3] == d[3]);
+    let codes = a.codes;
+    let others = b.codes;
     let figures = both(a.chain == b.chain, a.count == b.count);
-    both(both(low, high), both(a.number == b.number, figures))
+    let open = both(a.number == b.number, same_words(&codes, &others, 4));
+    both(open, figures)
+}
+
+// Whether a call that answered this ran rounds, so that every depot is searched or covered.
+fn ran_rounds(word: u8) -> bool {
+    match word {
+        b'S' | b'D' => true,
+        _ => false,
+    }
 }
 
 // Whether a call on this record answered what is wanted, with as many searches as marks; a refused one having left record and scratch as they were.
 pub fn is_answer(got: Answer, rec: Record, want: u8) -> bool {
     let after = got.after;
-    let answered = both(got.word == want, got.searches == got.marked);
-    if 9 < want {
-        return answered;
+    let scratch = got.scratch;
+    let answered = both(got.word == want, got.searches == scratch.marked);
+    if want < 10 {
+        return both(answered, both(scratch.untouched, same_record(after, rec)));
     }
-    both(answered, both(got.untouched, same_record(after, rec)))
+    if ran_rounds(want) {
+        return both(answered, scratch.covered);
+    }
+    answered
 }
 
 // Whether a record has the figures of the plain search: number open, chain and pair count.

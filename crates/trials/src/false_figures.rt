@@ -1,12 +1,11 @@
 // False but sound figures: a chain that is not the longest, and pairs that are not the farthest. An opening takes them and follows document 01's
 // steps; what it leaves is sound again, and a whole reckoning mends it.
 use crate::calls;
-use crate::calls::Answer;
 use crate::compare::is_answer;
 use crate::compare::map_is;
-use crate::histories::begin;
+use crate::histories;
+use crate::histories::Made;
 use crate::histories::grow;
-use crate::notices;
 use crate::notices::Kind;
 use crate::notices::place;
 use crate::tally;
@@ -14,7 +13,6 @@ use crate::tally::Tally;
 use crate::tally::both;
 use map::Record;
 use plain_search::bits::flip;
-use plain_search::list;
 use plain_search::sheet::SIZE;
 
 // What stands before an opening: how many depots of which growth of four, a false chain, and false pairs, as bits of a number: 1 for the first and
@@ -35,24 +33,20 @@ struct Left {
     count: u32,
 }
 
-// Claims the pair of the depots i and j, whichever code is lower, where bit `at` says so. How many there are with it.
-fn claim(pairs: &mut [u64; 1024], b: Before, at: usize, i: usize, j: usize) -> u32 {
-    if (b.claimed >> (at % 64)) % 2 == 0 {
+// Claims a pair of depots, the one with the lower code first, if `claimed` is odd. How many there are with it.
+fn claim(pairs: &mut [u64; 1024], claimed: usize, low: usize, high: usize) -> u32 {
+    if claimed % 2 == 0 {
         return 0;
     }
-    if notices::code(i) < notices::code(j) {
-        flip(pairs, place(i, j));
-    } else {
-        flip(pairs, place(j, i));
-    }
+    flip(pairs, place(low, high));
     1
 }
 
 // The record with the false figures, whose pairs go into the table, which has none.
 fn claim_all(pairs: &mut [u64; 1024], b: Before, rec: Record) -> Record {
-    let first = claim(pairs, b, 0, 0, 1) % 2;
-    let second = claim(pairs, b, 1, 0, 2) % 2;
-    let third = claim(pairs, b, 2, 1, 2) % 2;
+    let first = claim(pairs, b.claimed, 0, 1) % 2;
+    let second = claim(pairs, b.claimed / 2, 2, 0) % 2;
+    let third = claim(pairs, b.claimed / 4, 2, 1) % 2;
     let codes = rec.codes;
     Record {
         codes,
@@ -65,31 +59,17 @@ fn claim_all(pairs: &mut [u64; 1024], b: Before, rec: Record) -> Record {
 // The map before the opening, with true figures. Its record.
 fn stand(links: &mut [u64; 1024], sheet: &mut [u16; SIZE], b: Before) -> Record {
     let mut pairs = [9u64; 1024];
-    let empty = begin(links, &mut pairs, sheet, tally::start());
     let kind = Kind::Four(b.growth);
-    let grown = grow(links, &mut pairs, sheet, kind, b.size, false, empty);
+    let grown = grow(
+        links,
+        &mut pairs,
+        sheet,
+        kind,
+        b.size,
+        false,
+        tally::start(),
+    );
     grown.rec
-}
-
-// The opening; then the same notice once more, which has to be refused as taken, and not as spoilt: what the opening left is sound.
-fn open_twice(
-    links: &mut [u64; 1024],
-    pairs: &mut [u64; 1024],
-    sheet: &mut [u16; SIZE],
-    b: Before,
-    rec: Record,
-) -> Answer {
-    let mut list = [0u8; 258];
-    let n = notices::write(&mut list, Kind::Four(b.growth), b.size, 0);
-    let near = notices::near(&list, n);
-    list::open(sheet, n.code, near, false);
-    let got = calls::open(rec, links, pairs, &*sheet, n, near);
-    let after = got.after;
-    let again = calls::open(after, links, pairs, &*sheet, n, near);
-    if is_answer(again, after, 5) {
-        return got;
-    }
-    again
 }
 
 // Whether a whole reckoning of the map finds the true figures.
@@ -107,24 +87,44 @@ fn is_mended(
     )
 }
 
-// An opening on false figures: accepted, with as many searches as marks, and mended by a reckoning.
-fn open(b: Before) -> Left {
-    let mut links = [9u64; 1024];
-    let mut pairs = [0u64; 1024];
-    let mut sheet = [0u16; SIZE];
-    let before = stand(&mut links, &mut sheet, b);
-    let rec = claim_all(&mut pairs, b, before);
-    let got = open_twice(&mut links, &mut pairs, &mut sheet, b, rec);
+// What an opening on false figures left, if it was accepted, with as many searches as marks, and the next one, of the same code, is refused as taken and
+// not as spoilt.
+fn judge(first: Made, second: Made, mended: bool) -> Left {
+    let got = first.got;
     let after = got.after;
-    let accepted = both(9 < got.word, got.searches == got.marked);
-    let mended = is_mended(&links, &mut pairs, &sheet, after);
+    let accepted = both(9 < got.word, is_answer(got, first.handed, got.word));
+    let sound = is_answer(second.got, after, 5);
     Left {
-        ok: both(accepted, mended),
+        ok: both(both(accepted, sound), mended),
         word: got.word,
         searches: got.searches,
         chain: after.chain,
         count: after.count,
     }
+}
+
+// An opening on false figures, one of a code that is then taken, and a whole reckoning.
+fn open(b: Before) -> Left {
+    let mut links = [9u64; 1024];
+    let mut pairs = [0u64; 1024];
+    let mut sheet = [0u16; SIZE];
+    let kind = Kind::Four(b.growth);
+    let before = stand(&mut links, &mut sheet, b);
+    let rec = claim_all(&mut pairs, b, before);
+    let j = b.size % 4;
+    let first = histories::open(&mut links, &mut pairs, &mut sheet, kind, j, 0, rec);
+    let got = first.got;
+    let second = histories::open(
+        &mut links,
+        &mut pairs,
+        &mut sheet,
+        kind,
+        j + 1,
+        5,
+        got.after,
+    );
+    let mended = is_mended(&links, &mut pairs, &sheet, got.after);
+    judge(first, second, mended)
 }
 
 // ---- the cases

@@ -1,6 +1,7 @@
 // Histories of openings from the empty map: after each call the map is held to the plain list and to a simple search from every depot; after the last one
 // a whole reckoning and a search of every code are too.
 use crate::calls;
+use crate::calls::Answer;
 use crate::compare::is_answer;
 use crate::compare::map_is;
 use crate::notices;
@@ -8,7 +9,6 @@ use crate::notices::BENDS;
 use crate::notices::Kind;
 use crate::notices::Notice;
 use crate::notices::code;
-use crate::notices::place;
 use crate::tally;
 use crate::tally::Tally;
 use crate::tally::both;
@@ -38,38 +38,20 @@ fn with_false_figures(codes: [u64; 4], number: u16) -> Record {
     }
 }
 
-// The empty map, and its sheet.
-pub fn begin(
-    links: &mut [u64; 1024],
-    pairs: &mut [u64; 1024],
-    sheet: &mut [u16; SIZE],
-    t: Tally,
-) -> State {
-    fill(sheet, SEVENS, 0, 7);
-    let emptied = map::empty_map(links, pairs, with_false_figures([9u64; 4], 9));
-    let rec = emptied.after;
-    let empty = map_is(&*links, &*pairs, rec, &*sheet);
-    State {
-        rec,
-        tally: t.seen(empty),
-    }
-}
-
 // ---- a call
 
-// The link bit of a call that is spoilt by a link turned over, and turned back by the same.
-fn bend_links(links: &mut [u64; 1024], bent: usize, j: usize) {
-    if bent == 2 {
-        flip(links, place(0, j % 256 + 255));
-    }
-}
-
-// The record handed to a call: with a depot that nothing is linked to, or with a pair too many, or as it is.
+// The record handed to a call: with a pair too many (2), with a depot that nothing is linked to (3), or as it is.
 fn bend_record(rec: Record, bent: usize, j: usize) -> Record {
     let mut codes = rec.codes;
     let number = rec.number % 1024;
     let count = rec.count % 65536;
     match bent {
+        2 => Record {
+            codes,
+            number: rec.number,
+            chain: rec.chain,
+            count: count + 1,
+        },
         3 => {
             flip(&mut codes, code_of_byte(code(j)));
             Record {
@@ -79,12 +61,6 @@ fn bend_record(rec: Record, bent: usize, j: usize) -> Record {
                 count: rec.count,
             }
         }
-        9 => Record {
-            codes,
-            number: rec.number,
-            chain: rec.chain,
-            count: count + 1,
-        },
         _ => rec,
     }
 }
@@ -92,37 +68,53 @@ fn bend_record(rec: Record, bent: usize, j: usize) -> Record {
 // What a call is to be answered: what it is bent to, or what the plain list says, whose network is then that after it.
 fn want(sheet: &mut [u16; SIZE], n: Notice, near: &[u8], bent: usize) -> u8 {
     match bent {
-        2 | 9 => 2,
+        2 => 2,
         3 => 3,
         _ => list::open(sheet, n.code, near, n.row < 4),
     }
 }
 
+// A call that was made: the record handed to it, what it was to be answered, and what it answered.
+pub struct Made {
+    pub handed: Record,
+    pub want: u8,
+    pub got: Answer,
+}
+
 // The opening of depot j, bent.
-fn turn(
+pub fn open(
     links: &mut [u64; 1024],
     pairs: &mut [u64; 1024],
     sheet: &mut [u16; SIZE],
     kind: Kind,
     j: usize,
     bent: usize,
-    s: State,
-) -> State {
+    rec: Record,
+) -> Made {
     let mut list = [0u8; 258];
     let n = notices::write(&mut list, kind, j, bent);
     let near = notices::near(&list, n);
-    let wanted = want(sheet, n, near, bent);
-    let rec = s.rec;
+    let want = want(sheet, n, near, bent);
     let handed = bend_record(rec, bent, j);
-    bend_links(links, bent, j);
     let got = calls::open(handed, links, pairs, &*sheet, n, near);
-    bend_links(links, bent, j);
-    let answered = is_answer(got, handed, wanted);
-    let after = if wanted < 10 { rec } else { got.after };
-    let left = map_is(&*links, &*pairs, after, &*sheet);
+    Made { handed, want, got }
+}
+
+// Where a history stands after a call, held to the plain list.
+fn judge(
+    links: &[u64; 1024],
+    pairs: &[u64; 1024],
+    sheet: &[u16; SIZE],
+    made: Made,
+    s: State,
+) -> State {
+    let got = made.got;
+    let rec = if made.want < 10 { s.rec } else { got.after };
+    let answered = is_answer(got, made.handed, made.want);
+    let left = map_is(links, pairs, rec, sheet);
     let before = s.tally;
     State {
-        rec: after,
+        rec,
         tally: before.seen(both(answered, left)),
     }
 }
@@ -138,15 +130,18 @@ fn search_closed(links: &[u64; 1024], sheet: &[u16; SIZE], j: usize, s: State) -
     }
 }
 
-// How call c of a history is bent, if every second one is: those of the empty map by a short buffer, the others in turn.
-fn bend_of(c: usize) -> usize {
-    if c % 2 == 1 {
+// How call c of a history is bent: every second one if they are `mixed`, that of the empty map by a short buffer, the others in turn.
+fn bend_of(c: usize, mixed: bool) -> usize {
+    if !mixed {
         return 0;
     }
-    if c == 0 { 1 } else { c / 2 % BENDS + 1 }
+    if c == 0 {
+        return 1;
+    }
+    if c % 2 == 0 { c / 2 % BENDS + 1 } else { 0 }
 }
 
-// Call c of a history, a bent one before each opening if `mixed`.
+// Call c of a history, a bent one before each opening if they are `mixed`.
 fn call(
     links: &mut [u64; 1024],
     pairs: &mut [u64; 1024],
@@ -156,17 +151,16 @@ fn call(
     mixed: bool,
     s: State,
 ) -> State {
-    if !mixed {
-        return turn(links, pairs, sheet, kind, c, 0, s);
-    }
-    let bent = bend_of(c);
+    let bent = bend_of(c, mixed);
+    let j = if mixed { c / 2 } else { c };
     if bent == 4 {
-        return search_closed(&*links, &*sheet, c / 2, s);
+        return search_closed(&*links, &*sheet, j, s);
     }
-    turn(links, pairs, sheet, kind, c / 2, bent, s)
+    let made = open(links, pairs, sheet, kind, j, bent, s.rec);
+    judge(&*links, &*pairs, &*sheet, made, s)
 }
 
-// So many calls of a history.
+// So many calls of a history, from the empty map.
 pub fn grow(
     links: &mut [u64; 1024],
     pairs: &mut [u64; 1024],
@@ -174,15 +168,19 @@ pub fn grow(
     kind: Kind,
     calls: usize,
     mixed: bool,
-    s: State,
+    t: Tally,
 ) -> State {
-    let mut state = s;
+    fill(sheet, SEVENS, 0, 7);
+    let emptied = map::empty_map(links, pairs, with_false_figures([9u64; 4], 9));
+    let rec = emptied.after;
+    let mut s = State { rec, tally: t };
+    let end = calls % 1024;
     let mut c = 0;
-    while c < calls {
-        state = call(links, pairs, sheet, kind, c, mixed, state);
+    while c < end {
+        s = call(links, pairs, sheet, kind, c, mixed, s);
         c += 1;
     }
-    state
+    s
 }
 
 // ---- what stands at the end
@@ -231,17 +229,8 @@ pub fn follow(t: Tally, kind: Kind, size: usize, mixed: bool) -> State {
     let mut links = [9u64; 1024];
     let mut pairs = [9u64; 1024];
     let mut sheet = [0u16; SIZE];
-    let empty = begin(&mut links, &mut pairs, &mut sheet, t);
     let calls = if mixed { 2 * (size % 257) } else { size };
-    let grown = grow(
-        &mut links,
-        &mut pairs,
-        &mut sheet,
-        kind,
-        calls,
-        mixed,
-        empty,
-    );
+    let grown = grow(&mut links, &mut pairs, &mut sheet, kind, calls, mixed, t);
     let rec = grown.rec;
     let whole = reckon(&links, &sheet, grown);
     State {

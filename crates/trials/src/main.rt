@@ -8,25 +8,27 @@ mod notices;
 mod spoilt;
 mod tally;
 
-use histories::all_four;
-use histories::ends;
-use histories::follow;
 use notices::Kind;
 use tally::print;
 
+// The greatest networks, and one that shrinks.
+fn large() {
+    let path = histories::ends(Kind::Path, 255, 1);
+    print(b"256 depots in a path, chain 255, 1 pair: ", path);
+    let complete = histories::ends(Kind::Complete, 1, 32640);
+    print(b"256 depots, all linked, chain 1, 32640 pairs: ", complete);
+    let ring = histories::follow(tally::start(), Kind::Ring, 40, false);
+    print(b"40 depots in a ring that closes: ", ring.tally);
+}
+
 fn main() {
-    let path = ends(Kind::Path, 255, 1);
-    print(b"256 depots in a path: chain 255, 1 pair", path);
-    let complete = ends(Kind::Complete, 1, 32640);
-    print(b"256 depots, all linked: chain 1, 32640 pairs", complete);
-    let ring = follow(tally::start(), Kind::Ring, 40, false);
-    print(b"40 depots in a ring that closes", ring.tally);
-    let random = follow(tally::start(), Kind::Random, 256, true);
+    large();
+    let random = histories::follow(tally::start(), Kind::Random, 256, true);
     print(
-        b"256 depots at random, every refusal in between",
+        b"256 depots at random, refusals 1 to 8 in between: ",
         random.tally,
     );
-    print(b"every growth of four depots", all_four());
-    print(b"false figures", false_figures::all());
-    print(b"a spoilt bit", spoilt::all());
+    print(b"every growth of four depots: ", histories::all_four());
+    print(b"false figures: ", false_figures::all());
+    print(b"a spoilt bit: ", spoilt::all());
 }

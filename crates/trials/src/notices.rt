@@ -103,22 +103,24 @@ fn neighbours(list: &mut [u8], kind: Kind, j: usize) -> usize {
     n
 }
 
-// The ways to bend a call, 0 for none: short (1), spoilt by a link (2), apart (3), a search of a closed code (4), taken (5), lonely (6), unsorted (7), unknown
-// (8), spoilt by the pair count (9). Links and record are bent by the history, and the search is made there.
-pub const BENDS: usize = 9;
+// The ways to bend a call, 0 for none: each is the number that it is refused with. Of 2 (spoilt) and 3 (apart) the record is bent, of 4 (absent) the call is
+// a search: the history does that.
+pub const BENDS: usize = 8;
 
-// The number of neighbours of the bent list: none; the first one once more at the end; or, alone, the next depot, which is closed, or the new one itself.
+// The number of neighbours of the bent list: none (6); one more, a 0 (7); or, alone, the next depot, which is closed, or the new one itself (8).
 fn bend(list: &mut [u8], n: usize, j: usize, bent: usize) -> usize {
-    let first = if 0 < list.len() { list[0] } else { 0 };
     match bent {
         6 => 0,
-        7 => append(list, n, first, true),
-        8 => append(list, 0, code(j % 256 + (j % 2 + 1) % 2), true),
+        7 => n % 1024 + 1,
+        8 => {
+            put(list, 0, code(j % 256 + (j % 2 + 1) % 2));
+            1
+        }
         _ => n,
     }
 }
 
-// The notice of depot j, bent.
+// The notice of depot j, bent. The list holds zeros.
 pub fn write(list: &mut [u8], kind: Kind, j: usize, bent: usize) -> Notice {
     let n = neighbours(list, kind, j);
     let count = bend(list, n, j, bent);

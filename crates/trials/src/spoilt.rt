@@ -3,7 +3,7 @@ use crate::calls;
 use crate::calls::Answer;
 use crate::compare::is_answer;
 use crate::compare::map_is;
-use crate::histories::begin;
+use crate::histories::State;
 use crate::histories::grow;
 use crate::notices::Kind;
 use crate::notices::Notice;
@@ -32,7 +32,13 @@ fn open_fifth(
     calls::open(rec, links, pairs, sheet, n, &near)
 }
 
-// An opening, a search and a reckoning with bit v of depot i's row turned over.
+// Whether all three calls were refused as spoilt and left record and scratch as they were.
+fn all_refused(opening: Answer, reckoning: Answer, search: u8, rec: Record) -> bool {
+    let tables = both(is_answer(opening, rec, 2), is_answer(reckoning, rec, 2));
+    both(tables, search == 2)
+}
+
+// An opening, a reckoning and a search with bit v of depot i's row turned over.
 fn is_refused(
     links: &mut [u64; 1024],
     pairs: &mut [u64; 1024],
@@ -45,35 +51,43 @@ fn is_refused(
     flip(links, bit);
     let opening = open_fifth(rec, links, pairs, sheet);
     let reckoning = calls::reckon(rec, &*links, pairs, sheet);
-    let word = calls::search(rec, &*links, sheet, code(0));
+    let search = calls::search(rec, &*links, sheet, code(0));
     flip(links, bit);
-    let opened = is_answer(opening, rec, 2);
-    let reckoned = is_answer(reckoning, rec, 2);
-    let searched = both(word == 2, map_is(&*links, &*pairs, rec, sheet));
-    both(both(opened, reckoned), searched)
+    let refused = all_refused(opening, reckoning, search, rec);
+    both(refused, map_is(&*links, &*pairs, rec, sheet))
 }
 
-// All bits of the four rows of a network of four.
+// All bits of the four rows.
+fn each_bit(
+    links: &mut [u64; 1024],
+    pairs: &mut [u64; 1024],
+    sheet: &[u16; SIZE],
+    s: State,
+) -> Tally {
+    let rec = s.rec;
+    let mut t = s.tally;
+    let mut k = 0;
+    while k < 1024 {
+        t = t.seen(is_refused(links, pairs, sheet, rec, k / 256, k % 256));
+        k += 1;
+    }
+    t
+}
+
+// A network of four, and its spoilt bits.
 pub fn all() -> Tally {
     let mut links = [9u64; 1024];
     let mut pairs = [9u64; 1024];
     let mut sheet = [0u16; SIZE];
-    let empty = begin(&mut links, &mut pairs, &mut sheet, tally::start());
+    let kind = Kind::Four(4);
     let grown = grow(
         &mut links,
         &mut pairs,
         &mut sheet,
-        Kind::Four(4),
+        kind,
         4,
         false,
-        empty,
+        tally::start(),
     );
-    let rec = grown.rec;
-    let mut t = grown.tally;
-    let mut k = 0;
-    while k < 1024 {
-        t = t.seen(is_refused(&mut links, &mut pairs, &sheet, rec, k / 256, k % 256));
-        k += 1;
-    }
-    t
+    each_bit(&mut links, &mut pairs, &sheet, grown)
 }

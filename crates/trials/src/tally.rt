@@ -1,20 +1,21 @@
-// How many cases a group tried, and how many of them came out otherwise than expected.
+// How many cases a group tried, and whether all of them came out as expected.
 pub struct Tally {
     tried: u32,
-    wrong: u32,
+    ok: bool,
 }
 
 // Nothing tried yet.
 pub fn start() -> Tally {
-    Tally { tried: 0, wrong: 0 }
+    Tally { tried: 0, ok: true }
 }
 
 impl Tally {
     // One case more, and whether it came out as expected.
     pub fn seen(self, ok: bool) -> Tally {
-        let tried = next(self.tried);
-        let wrong = if ok { self.wrong } else { next(self.wrong) };
-        Tally { tried, wrong }
+        Tally {
+            tried: next(self.tried),
+            ok: both(self.ok, ok),
+        }
     }
 }
 
@@ -31,13 +32,10 @@ pub fn both(a: bool, b: bool) -> bool {
 // A line for a group: what was tried, how many cases, and whether all came out as expected.
 pub fn print(what: &[u8], t: Tally) {
     io::write_all(1, what);
-    io::write_all(1, b": ");
     io::print_decimal(1, t.tried as u64);
-    if t.wrong == 0 {
+    if t.ok {
         io::write_all(1, b" cases, ok\n");
-        return;
+    } else {
+        io::write_all(1, b" cases, DIFFERENT\n");
     }
-    io::write_all(1, b" cases, DIFFERENT: ");
-    io::print_decimal(1, t.wrong as u64);
-    io::write_all(1, b"\n");
 }

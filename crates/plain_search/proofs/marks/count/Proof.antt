@@ -1,4 +1,4 @@
--- `plain_search::marks::count` is safe and ends: 256 turns at most.
+-- `plain_search::marks::count` is safe and ends: 256 turns.
 -- Assumes nothing.
 use Prim.Native.Nat.{_≤_, _-_}
 use borrow.Author.Needs.{needs}
@@ -6,10 +6,10 @@ use Rattle.plain_search.proofs.marks.count.Statement.{statement}
 use Rattle.plain_search.proofs.marks.count.Tie as tie
 
 abbrev Inv-loop : tie.InvT-loop
-Inv-loop skips sheet chain rounds n₀ v₀ n v = v ≤ 256
+Inv-loop skips n₀ v₀ n v = v ≤ 256
 
 abbrev μ-loop : tie.MeasureT-loop
-μ-loop skips sheet chain rounds n₀ v₀ n v = 256 - v
+μ-loop skips n₀ v₀ n v = 256 - v
 
 pub count-spec : {M : Type 1} → statement M
 count-spec =
@@ -18,11 +18,10 @@ count-spec =
     Inv-loop
     μ-loop
     (λ c. search needs)  -- loop-holds
-    (λ c. search needs)  -- mark-requires
+    (λ c. search needs)  -- mul-if1
+    (λ c. search needs)  -- element-copy-out-if1
     (λ c. search needs)  -- next-requires
-    (λ c. search needs)  -- is-covered-requires
-    (λ c. search needs)  -- returns
     (λ c. search needs)  -- add-v
     (λ c. search needs)  -- loop-less
     (λ c. search needs)  -- loop-again
-    (λ c. search needs))  -- returns-2
+    (λ c. search needs))  -- returns

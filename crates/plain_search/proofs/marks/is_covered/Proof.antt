@@ -19,10 +19,12 @@ is-covered-spec =
     μ-loop
     (λ c. search needs)  -- read-requires
     (λ c. search needs)  -- returns
+    (λ c. search needs)  -- mark-requires
+    (λ c. search needs)  -- returns-2
     (λ c. search needs)  -- loop-holds
     (λ c. search needs)  -- covers-requires
-    (λ c. search needs)  -- returns-2
+    (λ c. search needs)  -- returns-3
     (λ c. search needs)  -- add-r
     (λ c. search needs)  -- loop-less
     (λ c. search needs)  -- loop-again
-    (λ c. search needs))  -- returns-3
+    (λ c. search needs))  -- returns-4

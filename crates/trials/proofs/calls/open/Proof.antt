@@ -20,8 +20,6 @@ open-spec =
     (λ c. search needs)  -- array-borrow-prefix-odd
     slice-aggregate-open-value-5
     (λ c. search needs)  -- open-value-requires
-    (λ c. search needs)  -- hops-untouched-requires
-    (λ c. search needs)  -- marks-untouched-requires
-    (λ c. search needs)  -- both-requires
+    (λ c. search needs)  -- left-requires
     (λ c. search needs)  -- opened-requires
     (λ c. search needs))  -- returns

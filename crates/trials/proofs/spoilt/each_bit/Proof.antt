@@ -1,9 +1,9 @@
--- `trials::spoilt::all` is safe and ends: 1024 turns.
+-- `trials::spoilt::each_bit` is safe and ends: 1024 turns.
 -- Assumes nothing.
 use Prim.Native.Nat.{_≤_, _-_}
 use borrow.Author.Needs.{needs}
-use Rattle.trials.proofs.spoilt.all.Statement.{statement}
-use Rattle.trials.proofs.spoilt.all.Tie as tie
+use Rattle.trials.proofs.spoilt.each_bit.Statement.{statement}
+use Rattle.trials.proofs.spoilt.each_bit.Tie as tie
 
 abbrev Inv-loop : tie.InvT-loop
 Inv-loop links₀ pairs₀ sheet rec t₀ k₀ links pairs t k = k ≤ 1024
@@ -11,15 +11,12 @@ Inv-loop links₀ pairs₀ sheet rec t₀ k₀ links pairs t k = k ≤ 1024
 abbrev μ-loop : tie.MeasureT-loop
 μ-loop links₀ pairs₀ sheet rec t₀ k₀ links pairs t k = 1024 - k
 
-pub all-spec : {M : Type 1} → statement M
-all-spec =
+pub each-bit-spec : {M : Type 1} → statement M
+each-bit-spec =
     tie.close
     (tie.spec
     Inv-loop
     μ-loop
-    (λ c. search needs)  -- start-requires
-    (λ c. search needs)  -- begin-requires
-    (λ c. search needs)  -- grow-requires
     (λ c. search needs)  -- loop-holds
     (λ c. search needs)  -- is-refused-requires
     (λ c. search needs)  -- seen-requires
