@@ -5,9 +5,7 @@ mod maps;
 use map::Record;
 use maps::first_answer;
 use maps::line;
-use testbed::lent::same_words;
-use testbed::record::same_record;
-use testbed::tally::both;
+use plain_search::bits::same_words;
 
 fn print_order(a_first: bool) {
     if a_first {
@@ -27,8 +25,29 @@ fn print_figures(rec: Record) {
     io::write_all(1, b") ");
 }
 
+// Whether both tests hold.
+fn both(a: bool, b: bool) -> bool {
+    if a { b } else { false }
+}
+
+// Whether two records are the same.
+fn same_record(a: Record, b: Record) -> bool {
+    let codes = a.codes;
+    let others = b.codes;
+    let figures = both(a.chain == b.chain, a.count == b.count);
+    let open = both(a.number == b.number, same_words(&codes, &others, 4));
+    both(open, figures)
+}
+
 // Whether two maps are equal: record, link table and pair table.
-fn same(r: Record, s: Record, l: &[u64], m: &[u64], p: &[u64], q: &[u64]) -> bool {
+fn same(
+    r: Record,
+    s: Record,
+    l: &[u64; 1024],
+    m: &[u64; 1024],
+    p: &[u64; 1024],
+    q: &[u64; 1024],
+) -> bool {
     let tables = both(same_words(l, m, 1024), same_words(p, q, 1024));
     both(same_record(r, s), tables)
 }

@@ -6,8 +6,8 @@ use outcome::Outcome;
 // An opening with scratch of its own.
 fn open(
     rec: Record,
-    links: &mut [u64],
-    pairs: &mut [u64],
+    links: &mut [u64; 1024],
+    pairs: &mut [u64; 1024],
     code: u8,
     neighbours: &[u8],
 ) -> Returned {
@@ -30,6 +30,45 @@ fn open(
     )
 }
 
+// An opening beside one depot.
+fn open_beside(
+    rec: Record,
+    links: &mut [u64; 1024],
+    pairs: &mut [u64; 1024],
+    code: u8,
+    near: u8,
+) -> Returned {
+    let neighbours = [near; 1];
+    open(rec, links, pairs, code, &neighbours)
+}
+
+// The record after the depots 0, 1 and 2 have opened in a path, from the empty map.
+fn begin(links: &mut [u64; 1024], pairs: &mut [u64; 1024]) -> Record {
+    let empty = Record {
+        codes: [0u64; 4],
+        number: 0,
+        chain: 0,
+        count: 0,
+    };
+    let one = open(empty, links, pairs, 0, b"");
+    let two = open_beside(one.after, links, pairs, 1, 0);
+    let three = open_beside(two.after, links, pairs, 2, 1);
+    three.after
+}
+
+// Notice A, 3 opens beside 2; or notice B, 4 opens beside `near`.
+fn take(
+    rec: Record,
+    links: &mut [u64; 1024],
+    pairs: &mut [u64; 1024],
+    is_a: bool,
+    near: u8,
+) -> Returned {
+    let code = if is_a { 3 } else { 4 };
+    let beside = if is_a { 2 } else { near };
+    open_beside(rec, links, pairs, code, beside)
+}
+
 // The number of the refusal, 0 for an opening that was accepted.
 fn refusal(got: Returned) -> u8 {
     let report = got.report;
@@ -40,51 +79,16 @@ fn refusal(got: Returned) -> u8 {
     }
 }
 
-// The record after the depots 0, 1 and 2 have opened in a path, from the empty map.
-fn begin(links: &mut [u64], pairs: &mut [u64]) -> Record {
-    let empty = Record {
-        codes: [0u64; 4],
-        number: 0,
-        chain: 0,
-        count: 0,
-    };
-    let one = open(empty, links, pairs, 0, b"");
-    let two = open(one.after, links, pairs, 1, b"\x00");
-    let three = open(two.after, links, pairs, 2, b"\x01");
-    three.after
-}
-
-// Notice A: 3 opens beside 2.
-fn take_a(rec: Record, links: &mut [u64], pairs: &mut [u64]) -> Returned {
-    open(rec, links, pairs, 3, b"\x02")
-}
-
-// Notice B: 4 opens beside `near`.
-fn take_b(rec: Record, links: &mut [u64], pairs: &mut [u64], near: u8) -> Returned {
-    let beside = [near; 1];
-    open(rec, links, pairs, 4, &beside)
-}
-
-// B first, then A; a B that was refused is handed in again.
-fn take_b_first(rec: Record, links: &mut [u64], pairs: &mut [u64], near: u8) -> Record {
-    let early = take_b(rec, links, pairs, near);
-    let then = take_a(early.after, links, pairs);
-    if refusal(early) == 0 {
-        return then.after;
-    }
-    let again = take_b(then.after, links, pairs, near);
-    again.after
-}
-
-// One line's map after A and B, in one order.
-pub fn line(links: &mut [u64], pairs: &mut [u64], a_first: bool, near: u8) -> Record {
+// One line's map after A and B, in one order; a B that was refused is handed in again.
+pub fn line(links: &mut [u64; 1024], pairs: &mut [u64; 1024], a_first: bool, near: u8) -> Record {
     let rec = begin(links, pairs);
-    if a_first {
-        let a = take_a(rec, links, pairs);
-        let b = take_b(a.after, links, pairs, near);
-        return b.after;
+    let first = take(rec, links, pairs, a_first, near);
+    let second = take(first.after, links, pairs, !a_first, near);
+    if refusal(first) == 0 {
+        return second.after;
     }
-    take_b_first(rec, links, pairs, near)
+    let again = take(second.after, links, pairs, false, near);
+    again.after
 }
 
 // What B is answered where it comes first.
@@ -92,6 +96,6 @@ pub fn first_answer(near: u8) -> u8 {
     let mut links = [0u64; 1024];
     let mut pairs = [0u64; 1024];
     let rec = begin(&mut links, &mut pairs);
-    let got = take_b(rec, &mut links, &mut pairs, near);
+    let got = take(rec, &mut links, &mut pairs, false, near);
     refusal(got)
 }

@@ -1,0 +1,33 @@
+-- `plain_search::list::accept` is safe and ends: a turn for each neighbour.
+-- Assumes nothing.
+use Prim.Native.Nat.{_≤_, _-_}
+use lib.ListN.{length}
+use borrow.Author.Needs.{needs}
+use Rattle.plain_search.proofs.list.accept.Statement.{statement}
+use Rattle.plain_search.proofs.list.accept.Tie as tie
+
+abbrev Inv-loop : tie.InvT-loop
+Inv-loop sheet₀ code near own number i₀ sheet i = i ≤ length near
+
+abbrev μ-loop : tie.MeasureT-loop
+μ-loop sheet₀ code near own number i₀ sheet i = length near - i
+
+pub accept-spec : {M : Type 1} → statement M
+accept-spec =
+    tie.close
+    (tie.spec
+    Inv-loop
+    μ-loop
+    (λ c. search needs)  -- code-of-byte-requires
+    (λ c. search needs)  -- read-requires
+    (λ c. search needs)  -- next-requires
+    (λ c. search needs)  -- write-requires
+    (λ c. search needs)  -- write-requires-2
+    (λ c. search needs)  -- loop-holds
+    (λ c. search needs)  -- neighbour-requires
+    (λ c. search needs)  -- write-requires-3
+    (λ c. search needs)  -- write-requires-4
+    (λ c. search needs)  -- add-i
+    (λ c. search needs)  -- loop-less
+    (λ c. search needs)  -- loop-again
+    (λ c. search needs))  -- returns
