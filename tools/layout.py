@@ -58,7 +58,7 @@ def wrapped(line):
         return pad + clause.group(1) + '\n' + wrapped(pad + '    ' + clause.group(2))
     end = text[-1] if text[-1] in ',;' else ''
     term = text[:-1] if end else text
-    if is_bracketed(term) and len(split_at(term[1:-1], ',')) > 1:
+    if is_bracketed(term) and len(split_at(term[1:-1], ',')) > 1 and not is_chain(term):
         parts = [wrapped(f'{pad}  {part},') for part in split_at(term[1:-1], ',')]
         return '\n'.join([pad + '('] + parts + [pad + ')' + end])
     if term.startswith('record {') and is_bracketed(term[7:]):
@@ -68,6 +68,12 @@ def wrapped(line):
     if len(facts) > 1 and not text.startswith('let '):
         return '\n'.join([pad + facts[0]] + [pad + '× ' + fact for fact in facts[1:]]) + end
     return broken(pad, text, deeper)
+
+
+def is_chain(term):
+    """nested pairs, (a, (b, (c, d)))"""
+    parts = split_at(term[1:-1], ',')
+    return len(parts) == 2 and parts[1].startswith('(') and is_bracketed(parts[1]) and len(split_at(parts[1][1:-1], ',')) == 2
 
 
 def wrapped_import(module, names):

@@ -91,6 +91,7 @@ class Answer:
         self.signature, self.in_signature = named(par[:clause.start()], function, place, head)
         self.clause = par[clause.start():clause.end()]
         self.body, self.in_body = named(par[clause.end():], function, place, head)
+        self.stops = stops(function, place, self.in_signature) | stops(function, place, self.in_body)
         self.cost = max(cost(function, place, self.in_signature), cost(function, place, self.in_body))
         self.is_lengths = self.says_lengths(par, function, head)
         if self.is_lengths:
@@ -115,12 +116,20 @@ class Answer:
         return signature + self.clause + body
 
 
-def hops(function, used, typed):
-    """the way back as rules of `search`: from each call and branch that is named to the one behind it, at last to the start"""
-    stops = [place for place in used if function.is_call(place) or re.match(r'(Then|Else)\d', place)]
-    ends = stops + [place for place in used if place == 'Start']
+def stops(function, place, used):
+    """the places at which the way back from here to the farthest that is named can rest: each call and branch, and what is named and no statement"""
+    if not used:
+        return set()
+    way = function.way(place)
+    passed = way[:way.index(used[-1]) + 1]
+    return {other for other in passed if function.is_call(other) or re.match(r'(Then|Else)\d', other) or other in used and function.is_named(other)}
+
+
+def hops(function, found, typed):
+    """the way back as rules of `search`: from each stop to the one behind it"""
+    ends = {stop for answer in found for stop in answer.stops}
     names, out = [], []
-    for place in sorted(stops, key=lambda stop: -len(function.way(stop))):
+    for place in sorted(ends, key=lambda stop: -len(function.way(stop))):
         behind = next((other for other in function.way(place)[1:] if other in ends), None)
         if behind:
             names.append('before-' + variable(place.removeprefix('After-')))
@@ -146,13 +155,14 @@ def name_places(pars, function, always_hops):
     def typed(place, own=arguments):
         return place if is_short else f'tie.{place}{own}'
 
-    way_back = hops(function, used, typed) if always_hops or any(answer.cost > BOUND for answer in found) else ''
+    way_back = hops(function, found, typed) if always_hops or any(answer.cost > BOUND for answer in found) else ''
     for i, answer in work.items():
         pars[i] = answer.text(typed, f' {BACK[1]}' if way_back else '')
     if any(answer.is_lengths for answer in found):
         proofs.add_import(pars, 'native.Mathlib.Omega', 'arith')
     head = []
     if is_short:
+        used |= {stop for answer in found for stop in answer.stops} if way_back else set()
         order = sorted(used, key=lambda place: len(function.way(place)))
         head.append('-- the places, at this invariant and measure\n'
                     + '\n\n'.join(f'abbrev {place} : Type 0\n{place} = tie.{place}{arguments}' for place in order))
