@@ -1,27 +1,14 @@
-//! The calls on a map.
-use crate::dice::Dice;
-use crate::lent::{Buffer, Lent, SIZES};
-use crate::maps::{any_figures, any_memory, damage, network, some_size, store, true_map, Growth, DAMAGES, SHAPES};
-use crate::plain::Network;
-use crate::{beside, plain, raw, Tally};
+//! The calls on a map, by chance: lists of openings, true and false figures, damaged maps, any memory.
+use crate::both::{empty, open, reckon, search};
+use crate::expected::{network, store_map};
+use crate::inputs::growths::some_size;
+use crate::inputs::{Dice, Growth, SHAPES};
+use crate::lent::SIZES;
+use crate::maps::{any_figures, any_memory, damage, true_map, DAMAGES};
+use crate::plain::Map;
+use crate::tally::Tally;
+use crate::truth::{assert_opened, assert_reckoned};
 use std::collections::BTreeSet;
-
-fn empty(m: &mut Lent) -> u8 {
-    beside("empty", m, plain::empty, raw::empty)
-}
-
-fn search(m: &mut Lent, code: u8) -> u8 {
-    beside("search", m, |m| plain::search(m, code), |m| raw::search(m, code))
-}
-
-fn reckon(m: &mut Lent) -> u8 {
-    beside("reckon", m, plain::reckon, raw::reckon)
-}
-
-fn open(m: &mut Lent, code: u8, neighbours: &[u8]) -> u8 {
-    m.input = Buffer::new(neighbours.to_vec());
-    beside("open", m, |m| plain::open(m, code), |m| raw::open(m, code))
-}
 
 /// A notice for this set of open codes: most can be accepted, the others are refused in one way or in several.
 fn some_notice(dice: &mut Dice, open: &BTreeSet<usize>) -> (u8, Vec<u8>) {
@@ -68,29 +55,6 @@ fn some_notice(dice: &mut Dice, open: &BTreeSet<usize>) -> (u8, Vec<u8>) {
     (code, list)
 }
 
-/// After an accepted call on true figures: the figures are those of a search from every depot, and each skipped depot is covered.
-fn assert_true(m: &Lent, before: u64, letter: u8) {
-    let now = Network::of(&m.record.data, &m.links.data);
-    let figures = now.figures();
-    assert_eq!(m.record.data[5], figures.chain as u64);
-    assert_eq!(plain::bits_of_table(&m.pairs.data), figures.pairs);
-    let expected = match m.record.data[5].cmp(&before) {
-        std::cmp::Ordering::Greater => b'G',
-        std::cmp::Ordering::Equal => b'K',
-        std::cmp::Ordering::Less => b'S',
-    };
-    assert_eq!(letter, expected);
-    for &v in &now.open {
-        if let Ok(r) = u8::try_from(m.skips.data[v]) {
-            let distances = now.distances(r.into());
-            let bound = distances.values().max().copied().unwrap_or(0) + distances[&v];
-            assert_eq!(m.skips.data[usize::from(r)], 256);
-            assert_eq!(usize::from(m.bounds.data[v]), bound);
-            assert!(bound < figures.chain);
-        }
-    }
-}
-
 /// One list of openings from the empty map, some of its calls refused, some buffers short now and then.
 fn run_list(seed: u64, size: usize, tally: &mut Tally) {
     let mut dice = Dice::new(seed);
@@ -102,7 +66,7 @@ fn run_list(seed: u64, size: usize, tally: &mut Tally) {
     while next < size {
         // the next depot of the growth, or something between
         let (code, neighbours) = if dice.once_in(3) {
-            let open_set = Network::of(&m.record.data, &m.links.data).open;
+            let open_set = network(&m).open;
             some_notice(&mut dice, &open_set)
         } else {
             next += 1;
@@ -120,14 +84,13 @@ fn run_list(seed: u64, size: usize, tally: &mut Tally) {
         let answer = open(&mut m, code, &neighbours);
         tally.count(answer);
         if answer > 9 && (size <= 40 || dice.once_in(8)) {
-            assert_true(&m, chain, answer);
+            assert_opened(&m, chain, code, answer);
         }
     }
-    let chain = m.record.data[5];
+    let (record, pairs) = (m.record.clone(), m.pairs.clone());
     assert_eq!(reckon(&mut m), 0);
-    if !Network::of(&m.record.data, &m.links.data).open.is_empty() {
-        assert_true(&m, chain, b'K');
-    }
+    assert_reckoned(&m);
+    assert_eq!((m.record, m.pairs), (record, pairs));
 }
 
 #[test]
@@ -158,7 +121,7 @@ fn searches_and_reckonings_of_true_maps() {
         for _ in 0..6 {
             tally.count(search(&mut m, dice.byte()));
         }
-        for code in Network::of(&m.record.data, &m.links.data).open {
+        for code in network(&m).open {
             if dice.once_in(6) {
                 tally.count(search(&mut m, code as u8));
             }
@@ -171,7 +134,7 @@ fn searches_and_reckonings_of_true_maps() {
             m.pairs.data[word] = dice.word();
         }
         assert_eq!(reckon(&mut m), 0);
-        assert_true(&m, m.record.data[5], b'K');
+        assert_reckoned(&m);
     }
     tally.assert_all(&[0, 4], 100);
 }
@@ -183,13 +146,12 @@ fn openings_on_false_but_sound_figures() {
         let mut dice = Dice::new(2_000_000 + seed);
         let shape = dice.pick(&SHAPES);
         let size = some_size(&mut dice).min(if seed % 10 == 0 { 256 } else { 40 });
-        let network = network(&mut dice, shape, size);
-        let figures = any_figures(&mut dice, &network);
+        let grown = Growth::new(&mut dice, shape).network(&mut dice, size);
         let mut m = any_memory(&mut dice);
-        store(&mut m, &network, &figures);
+        store_map(&mut m, &Map { figures: any_figures(&mut dice, &grown), network: grown });
         // what it leaves is sound again, so the next opening goes on from it
         for _ in 0..3 {
-            let open_set = Network::of(&m.record.data, &m.links.data).open;
+            let open_set = network(&m).open;
             let (code, neighbours) = some_notice(&mut dice, &open_set);
             tally.count(open(&mut m, code, &neighbours));
         }
@@ -218,7 +180,8 @@ fn damaged_maps() {
             assert_eq!(empty(&mut m), 0);
         }
     }
-    opened.assert_all(&[2, 3, 5, b'G', b'K'], 20);
+    opened.assert_all(&[2, 3, b'G', b'K'], 20);
+    opened.assert_all(&[5, 6, 7, 8], 5);
     searched.assert_all(&[0, 2, 3, 4], 20);
     reckoned.assert_all(&[0, 2, 3], 20);
 }

@@ -69,10 +69,6 @@ impl Lent {
         self.input.data[..self.input.lent].to_vec()
     }
 
-    pub fn with_input(&self, bytes: &[u8]) -> Lent {
-        Lent { input: Buffer::new(bytes.to_vec()), ..self.clone() }
-    }
-
     /// The first difference, in words; a whole print would be thousands of numbers.
     pub fn difference(&self, other: &Lent) -> Option<String> {
         fn first<T: PartialEq + std::fmt::Debug>(name: &str, a: &Buffer<T>, b: &Buffer<T>) -> Option<String> {

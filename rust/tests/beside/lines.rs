@@ -1,72 +1,10 @@
 //! Notice lines and report lines.
-use crate::dice::Dice;
-use crate::lent::{Buffer, Lent};
+use crate::both::{read, report, write};
+use crate::inputs::lines::{longest_line, some_frame, some_line};
+use crate::inputs::Dice;
 use crate::maps::any_memory;
-use crate::plain::Fields;
-use crate::{beside, plain, raw, Tally};
-
-fn read(m: &mut Lent, input: &[u8]) -> u8 {
-    m.input = Buffer::new(input.to_vec());
-    beside("read_notice", m, plain::read_notice, raw::read_notice)
-}
-
-fn write(m: &mut Lent, frame: &[u8]) -> u8 {
-    m.input = Buffer::new(frame.to_vec());
-    beside("write_notice", m, plain::write_notice, raw::write_notice)
-}
-
-fn report(m: &mut Lent, fields: Fields) -> u8 {
-    beside("report", m, |m| plain::report(m, fields), |m| raw::report(m, fields))
-}
-
-/// A frame that is right.
-fn some_frame(dice: &mut Dice) -> Vec<u8> {
-    let count = match dice.below(6) {
-        0 => 0,
-        1 => 255,
-        2 => dice.below(256),
-        _ => dice.below(9),
-    };
-    let mut frame = vec![1, dice.byte(), count as u8];
-    frame.extend(dice.bytes(count));
-    frame
-}
-
-fn line_of(frame: &[u8]) -> Vec<u8> {
-    let mut text: String = frame.iter().map(|b| format!("{b:02X}")).collect();
-    text.push('\n');
-    text.into_bytes()
-}
-
-/// A line, garbled in one of many ways or not at all.
-pub fn some_line(dice: &mut Dice) -> Vec<u8> {
-    let mut frame = some_frame(dice);
-    match dice.below(24) {
-        0 => frame[0] = dice.byte(),
-        1 => frame[2] = frame[2].wrapping_add(1),
-        2 => frame[2] = frame[2].wrapping_sub(1),
-        3 => frame.truncate(dice.below(4)),
-        4 => frame.push(dice.byte()),
-        _ => {}
-    }
-    let mut line = line_of(&frame);
-    let at = dice.below(line.len());
-    match dice.below(24) {
-        0 => line[at] = dice.byte(),
-        1 => line[at] = dice.pick(b"/:@G`agfZ z\r\n\0\xFF"),
-        2 => line[at] = line[at].to_ascii_lowercase(),
-        3 => line.insert(at, dice.pick(b"0123456789ABCDEF ")),
-        4 => {
-            line.remove(at);
-        }
-        5 => line.truncate(at),
-        6 => line.insert(line.len() - 1, b'\r'),
-        7 => line = b"\n".to_vec(),
-        8 => line.insert(0, b'\n'),
-        _ => {}
-    }
-    line
-}
+use crate::plain::lines::Fields;
+use crate::tally::Tally;
 
 #[test]
 fn notices_are_read() {
@@ -112,26 +50,124 @@ fn the_longest_lines() {
         }
     }
     // the longest line: 255 neighbours; one byte more in front of its ending
-    let frame = [vec![1, 0, 255], (1..=255).collect()].concat();
-    let line = line_of(&frame);
+    let line = longest_line();
     assert_eq!((line.len(), read(&mut m, &line), m.length, m.used), (517, 0, 258, 517));
-    assert_eq!(m.frame.data[..258], frame[..]);
+    assert_eq!(m.frame.data[3..258], (0..=254).collect::<Vec<u8>>());
     assert_eq!(read(&mut m, &[&line[..516], b"0\n"].concat()), 9);
-    assert_eq!(read(&mut m, &line[..516]), 9);
-    assert_eq!(read(&mut m, b""), 9);
 }
 
+/// Only the whole line reads, and nothing that stands behind it plays a part.
+#[test]
+fn every_part_of_the_longest_line() {
+    let mut m = any_memory(&mut Dice::new(8_100_000));
+    let line = longest_line();
+    for length in 0..517 {
+        assert_eq!(read(&mut m, &line[..length]), 9, "{length} bytes");
+    }
+    assert_eq!(read(&mut m, &line), 0);
+    assert_eq!((read(&mut m, &[&line[..], &line].concat()), m.used), (0, 517));
+}
+
+#[test]
+fn faults_by_name() {
+    let mut m = any_memory(&mut Dice::new(8_200_000));
+    let zeros = [b'0'; 700];
+    let faults: [(&str, &[u8]); 18] = [
+        ("lower case", b"01ab00\n"),
+        ("another letter", b"01G500\n"),
+        ("a space between", b"01 0500\n"),
+        ("a space behind", b"010500 \n"),
+        ("a space before", b" 010500\n"),
+        ("an odd digit", b"0105000\n"),
+        ("the count above the neighbours", b"01050200\n"),
+        ("the count below the neighbours", b"0105010001\n"),
+        ("kind 0", b"000500\n"),
+        ("kind 2", b"020500\n"),
+        ("no ending", b"010500"),
+        ("an empty line", b"\n"),
+        ("an empty input", b""),
+        ("0D before the ending", b"010500\r\n"),
+        ("too few bytes", b"0105\n"),
+        ("a NUL byte", b"0105\x0000\n"),
+        ("a byte above 127", b"0105\xB00\n"),
+        ("no ending in the first 517 bytes", &zeros),
+    ];
+    for (name, line) in faults {
+        assert_eq!(read(&mut m, line), 9, "{name}");
+    }
+}
+
+#[test]
+fn lines_with_others_behind_them() {
+    let mut m = any_memory(&mut Dice::new(8_300_000));
+    let lines: [(&[u8], usize, usize); 4] =
+        [(b"010500\n", 3, 7), (b"010500\n010503000204\n", 3, 7), (b"01FF02FFFE\n\n\nxyz", 5, 11), (b"010503000204\n", 6, 13)];
+    for (input, length, used) in lines {
+        assert_eq!((read(&mut m, input), m.length, m.used), (0, length, used));
+    }
+}
+
+/// The line of document 01 with every byte at every place: only other digits, and a neighbour count that is right, read.
 #[test]
 fn every_character_in_every_place() {
     let mut dice = Dice::new(8_500_000);
     let mut m = any_memory(&mut dice);
-    for place in 0..9 {
+    let mut tally = Tally::new();
+    for place in 0..13 {
         for byte in 0..=255 {
-            let mut line = b"010502A0F3\n".to_vec();
+            let mut line = b"010503000204\n".to_vec();
             line[place] = byte;
-            read(&mut m, &line);
+            tally.count(read(&mut m, &line));
         }
     }
+    // sixteen digits for the two of the code and the six of the neighbours, one for each other place
+    assert_eq!((tally.times(0), tally.times(9)), (8 * 16 + 5, 13 * 256 - (8 * 16 + 5)));
+}
+
+/// Bytes that differ from place to place and from seed to seed.
+fn filled(length: usize, seed: usize) -> Vec<u8> {
+    (0..length).map(|i| (7 * i + 13 * seed) as u8).collect()
+}
+
+/// Writes a frame, and reads what was written.
+fn write_and_read(frame: &[u8], tally: &mut Tally) {
+    let mut m = any_memory(&mut Dice::new(9_500_000));
+    let answer = write(&mut m, frame);
+    tally.count(answer);
+    if answer == 0 {
+        let line = m.line.data[..m.length].to_vec();
+        assert_eq!((read(&mut m, &line), m.length, m.used), (0, frame.len(), line.len()));
+        assert_eq!(m.frame.data[..m.length], frame[..]);
+    }
+}
+
+#[test]
+fn frames_of_every_count() {
+    let mut tally = Tally::new();
+    for count in 0..256 {
+        let frame = [&[1, (7 * count) as u8, count as u8][..], &filled(count, count)].concat();
+        write_and_read(&frame, &mut tally);
+    }
+    tally.assert_only(&[0]);
+}
+
+/// Frames of 0 to 299 bytes: of the kinds 0, 1 and 2, with the count 5, and with one that fits modulo 256.
+#[test]
+fn frames_of_every_length() {
+    let mut tally = Tally::new();
+    for length in 0..300 {
+        for (kind, count) in [(length % 3, 5), (1, 5), (1, length + 253)] {
+            let mut frame = filled(length, length);
+            for (place, byte) in [(0, kind), (2, count)] {
+                if let Some(there) = frame.get_mut(place) {
+                    *there = byte as u8;
+                }
+            }
+            write_and_read(&frame, &mut tally);
+        }
+    }
+    // the 256 lengths from 3 on that fit their count, and 8 bytes with the count 5 twice (8 is of kind 2 in turn)
+    assert_eq!((tally.times(0), tally.times(9)), (257, 900 - 257));
 }
 
 #[test]
@@ -192,10 +228,30 @@ fn reports_are_written() {
         m.set_lent(10, size);
         assert_eq!(report(&mut m, fields), 1);
     }
+}
+
+/// Every two of the numbers at which the count of digits changes, with every kind of answer.
+#[test]
+fn reports_of_every_count_of_digits() {
+    let values = [0, 1, 9, 10, 99, 100, 255, 999, 1_000, 9_999, 10_000, 65_535, 99_999, 100_000, 1_000_000_000, u32::MAX];
+    let mut m = any_memory(&mut Dice::new(10_500_000));
+    for first in values {
+        for second in values {
+            for answer in [b'G', b'K', b'S', second as u8] {
+                let (depots, chain, searches) = (second as u16, first as u16, (second / 3) as u16);
+                assert_eq!(report(&mut m, Fields { number: first, answer, depots, chain, pairs: second, searches }), 0);
+            }
+        }
+    }
+}
+
+#[test]
+fn the_longest_report_and_every_answer() {
     let mut m = any_memory(&mut Dice::new(1));
     let longest = Fields { number: u32::MAX, answer: 255, depots: 65_535, chain: 65_535, pairs: u32::MAX, searches: 65_535 };
     assert_eq!((report(&mut m, longest), m.length), (0, 45));
+    assert_eq!(m.out.data[..45], *b"4294967295 R255 65535 65535 4294967295 65535\n");
     for answer in 0..=255 {
-        report(&mut m, Fields { answer, ..longest });
+        assert_eq!(report(&mut m, Fields { answer, ..longest }), 0);
     }
 }

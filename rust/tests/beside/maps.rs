@@ -1,139 +1,9 @@
-//! Maps to try: networks of many shapes, memory to lend with them, and ways to damage it.
-use crate::dice::Dice;
+//! Maps to try: memory to lend, true and false figures, and ways to damage it.
+use crate::expected::store_map;
+use crate::inputs::growths::some_size;
+use crate::inputs::{Dice, Growth, SHAPES};
 use crate::lent::{Buffer, Lent};
-use crate::plain::{table_of_bits, Figures, Network};
-use std::collections::BTreeSet;
-
-/// How the neighbours of the next depot are chosen.
-#[derive(Clone, Copy, Debug)]
-pub enum Shape {
-    Path,
-    Ring,
-    Tree,
-    Star,
-    Sparse,
-    Dense,
-    Whole,
-    Regional,
-    Alternate,
-    Shortcuts,
-}
-
-pub const SHAPES: [Shape; 10] = [
-    Shape::Path,
-    Shape::Ring,
-    Shape::Tree,
-    Shape::Star,
-    Shape::Sparse,
-    Shape::Dense,
-    Shape::Whole,
-    Shape::Regional,
-    Shape::Alternate,
-    Shape::Shortcuts,
-];
-
-/// Codes in the order in which they open, with their neighbours.
-pub struct Growth {
-    pub shape: Shape,
-    pub order: Vec<usize>,
-    places: Vec<(i64, i64)>,
-}
-
-impl Growth {
-    pub fn new(dice: &mut Dice, shape: Shape) -> Growth {
-        let mut order: Vec<usize> = (0..256).collect();
-        if !dice.once_in(4) {
-            dice.shuffle(&mut order);
-        }
-        let places = (0..256).map(|_| (dice.below(10_000) as i64, dice.below(10_000) as i64)).collect();
-        Growth { shape, order, places }
-    }
-
-    /// The neighbours of the depot that opens as number i, rising; `size` will open in all.
-    pub fn neighbours(&self, dice: &mut Dice, i: usize, size: usize) -> Vec<u8> {
-        if i == 0 {
-            return Vec::new();
-        }
-        let earlier = &self.order[..i];
-        let mut some = BTreeSet::new();
-        match self.shape {
-            Shape::Path => {
-                some.insert(earlier[i - 1]);
-            }
-            Shape::Ring => {
-                some.insert(earlier[i - 1]);
-                if i + 1 == size {
-                    some.insert(earlier[0]);
-                }
-            }
-            Shape::Tree => {
-                some.insert(dice.pick(earlier));
-            }
-            Shape::Star => {
-                some.insert(earlier[0]);
-            }
-            Shape::Sparse => {
-                for _ in 0..1 + dice.below(3) {
-                    some.insert(dice.pick(earlier));
-                }
-            }
-            Shape::Dense => {
-                some.extend(earlier.iter().copied().filter(|_| dice.once_in(2)));
-                some.insert(dice.pick(earlier));
-            }
-            Shape::Whole => some.extend(earlier),
-            Shape::Regional => {
-                let far = |v: &usize| {
-                    let (a, b) = (self.places[*v], self.places[self.order[i]]);
-                    (a.0 - b.0).pow(2) + (a.1 - b.1).pow(2)
-                };
-                let mut near = earlier.to_vec();
-                near.sort_by_key(far);
-                let count = 1 + usize::from(dice.once_in(3)) + usize::from(dice.once_in(7));
-                some.extend(near.into_iter().take(count));
-            }
-            Shape::Alternate => {
-                if i % 2 == 1 {
-                    some.extend(earlier);
-                } else {
-                    some.insert(earlier[if i >= 2 { i - 2 } else { 0 }]);
-                }
-            }
-            Shape::Shortcuts => {
-                some.insert(earlier[i - 1]);
-                if dice.once_in(6) {
-                    some.insert(dice.pick(earlier));
-                }
-            }
-        }
-        some.into_iter().map(|v| v as u8).collect()
-    }
-}
-
-/// A number of depots: mostly small, sometimes at a word's end or all.
-pub fn some_size(dice: &mut Dice) -> usize {
-    match dice.below(20) {
-        0 => dice.pick(&[0, 1, 2, 3]),
-        1 => dice.pick(&[63, 64, 65, 127, 128, 129, 191, 192, 193, 255, 256]),
-        2 | 3 => dice.below(257),
-        4..=8 => dice.below(48),
-        _ => dice.below(16),
-    }
-}
-
-/// A network of `size` depots.
-pub fn network(dice: &mut Dice, shape: Shape, size: usize) -> Network {
-    let growth = Growth::new(dice, shape);
-    let mut network = Network::empty();
-    for i in 0..size {
-        let code = growth.order[i];
-        for v in growth.neighbours(dice, i, size) {
-            network.link(code, v.into());
-        }
-        network.open.insert(code);
-    }
-    network
-}
+use crate::plain::{Figures, Map, Network};
 
 fn words(dice: &mut Dice, n: usize) -> Vec<u64> {
     (0..n).map(|_| dice.word()).collect()
@@ -173,26 +43,13 @@ pub fn any_memory(dice: &mut Dice) -> Lent {
     lent
 }
 
-/// Puts a network and figures into memory.
-pub fn store(lent: &mut Lent, network: &Network, figures: &Figures) {
-    lent.record.data[..4].fill(0);
-    for &code in &network.open {
-        lent.record.data[code / 64] |= 1 << (code % 64);
-    }
-    lent.record.data[4] = network.open.len() as u64;
-    lent.record.data[5] = figures.chain as u64;
-    lent.record.data[6] = figures.pairs.len() as u64;
-    lent.links.data[..1024].copy_from_slice(&table_of_bits(&network.bits()));
-    lent.pairs.data[..1024].copy_from_slice(&table_of_bits(&figures.pairs));
-}
-
 /// A sound map with true figures.
 pub fn true_map(dice: &mut Dice) -> (Lent, Network) {
     let shape = dice.pick(&SHAPES);
     let size = some_size(dice);
-    let network = network(dice, shape, size);
+    let network = Growth::new(dice, shape).network(dice, size);
     let mut lent = any_memory(dice);
-    store(&mut lent, &network, &network.figures());
+    store_map(&mut lent, &Map { figures: network.figures(), network: network.clone() });
     (lent, network)
 }
 
@@ -223,7 +80,7 @@ pub fn any_figures(dice: &mut Dice, network: &Network) -> Figures {
     figures
 }
 
-fn flip(table: &mut [u64], u: usize, v: usize) {
+pub fn flip(table: &mut [u64], u: usize, v: usize) {
     table[4 * u + v / 64] ^= 1 << (v % 64);
 }
 
@@ -262,9 +119,9 @@ pub fn damage(dice: &mut Dice, lent: &mut Lent, network: &Network, way: usize) {
         }
         // a link taken away, both ways round: apart or not
         8 | 9 => {
-            let beside = network.neighbours(some_open);
+            let beside = &network.rows[some_open];
             if !beside.is_empty() {
-                let v = dice.pick(&beside);
+                let v = dice.pick(beside);
                 flip(links, some_open, v);
                 flip(links, v, some_open);
             }

@@ -1,6 +1,6 @@
 //! The C functions, each over the memory that a test lends.
 use crate::lent::Lent;
-use crate::plain::Fields;
+use crate::plain::lines::Fields;
 // The crate brings the archive.
 use zorpedi as _;
 

@@ -1,63 +1,14 @@
 //! The stream: pieces of many sizes, little room for reports, damaged maps, the last lines.
-use crate::dice::Dice;
+use crate::both::{empty, feed, finish};
+use crate::inputs::lines::{notice_line, some_input, some_line};
+use crate::inputs::{Dice, Growth, SHAPES};
 use crate::lent::{Buffer, Lent, SIZES};
-use crate::lines::some_line;
-use crate::maps::{any_memory, damage, true_map, Growth, DAMAGES, SHAPES};
-use crate::{beside, plain, raw, Tally};
-
-fn feed(m: &mut Lent, piece: &[u8]) -> u8 {
-    m.input = Buffer::new(piece.to_vec());
-    beside("feed", m, plain::feed, raw::feed)
-}
-
-fn finish(m: &mut Lent) -> u8 {
-    beside("finish", m, plain::finish, raw::finish)
-}
-
-fn notice_line(code: usize, neighbours: &[u8]) -> Vec<u8> {
-    let mut text = format!("01{code:02X}{:02X}", neighbours.len());
-    for v in neighbours {
-        text += &format!("{v:02X}");
-    }
-    text.push('\n');
-    text.into_bytes()
-}
-
-/// An input: a growth, with lines between that are refused or do not read, and perhaps no ending.
-fn some_input(dice: &mut Dice, size: usize) -> Vec<u8> {
-    let shape = dice.pick(&SHAPES);
-    let growth = Growth::new(dice, shape);
-    let mut input = Vec::new();
-    for i in 0..size {
-        input.extend(notice_line(growth.order[i], &growth.neighbours(dice, i, size)));
-        while dice.once_in(3) {
-            match dice.below(8) {
-                0 => input.push(0x0A),
-                1 => input.extend(notice_line(dice.below(256), &[])),
-                2 => {
-                    let (code, v) = (dice.below(256), dice.byte());
-                    input.extend(notice_line(code, &[v]));
-                }
-                3 => {
-                    // an overlong line, of digits or of anything
-                    let n = 500 + dice.below(600);
-                    let digits = dice.once_in(2);
-                    input.extend((0..n).map(|_| if digits { b'0' } else { dice.byte() | 16 }));
-                    input.push(0x0A);
-                }
-                _ => input.extend(some_line(dice)),
-            }
-        }
-    }
-    if dice.once_in(2) {
-        input.truncate(input.len() - dice.below(input.len().min(30) + 1));
-    }
-    input
-}
+use crate::maps::{any_memory, damage, true_map, DAMAGES};
+use crate::tally::Tally;
 
 fn begun(dice: &mut Dice) -> Lent {
     let mut m = any_memory(dice);
-    assert_eq!(beside("empty", &mut m, plain::empty, raw::empty), 0);
+    assert_eq!(empty(&mut m), 0);
     (m.lines, m.held) = (0, 0);
     m
 }

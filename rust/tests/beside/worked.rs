@@ -1,20 +1,17 @@
 //! The worked cases of document 01, by their numbers; the plain implementation is held to them as well.
-use crate::dice::Dice;
+use crate::both::{empty, feed, finish, open, read, reckon, report, search, write};
+use crate::inputs::Dice;
 use crate::lent::{Buffer, Lent};
 use crate::maps::any_memory;
-use crate::plain::bits_of_table;
-use crate::{beside, plain, raw};
+use crate::plain::lines::Fields;
+use crate::plain::words::bits_of_table;
+use crate::truth::assert_reckoned;
 
 fn emptied() -> Lent {
     let mut m = any_memory(&mut Dice::new(1));
-    assert_eq!(beside("empty", &mut m, plain::empty, raw::empty), 0);
+    assert_eq!(empty(&mut m), 0);
     (m.lines, m.held) = (0, 0);
     m
-}
-
-fn open(m: &mut Lent, code: u8, neighbours: &[u8]) -> u8 {
-    m.input = Buffer::new(neighbours.to_vec());
-    beside("open", m, |m| plain::open(m, code), |m| raw::open(m, code))
 }
 
 /// depots, chain, pair count
@@ -32,23 +29,51 @@ fn the_seven_lines() {
     let output = "1 K 1 0 0 1\n2 G 2 1 1 1\n3 G 3 2 1 1\n4 G 4 3 1 1\n5 G 5 4 1 1\n6 S 6 3 2 6\n7 R5 6 3 2 0\n";
     let mut m = emptied();
     m.out = Buffer::new(vec![b'.'; output.len() + 48]);
-    m.input = Buffer::new(input.as_bytes().to_vec());
-    assert_eq!(beside("feed", &mut m, plain::feed, raw::feed), 0);
+    assert_eq!(feed(&mut m, input.as_bytes()), 0);
     assert_eq!((m.used, m.written, m.lines, m.held), (input.len(), output.len(), 7, 0));
     assert_eq!(String::from_utf8_lossy(&m.out.data[..m.written]), output);
     assert_eq!(pairs(&m), [(0, 3), (1, 4)]);
-    assert_eq!(beside("finish", &mut m, plain::finish, raw::finish), 0);
+    assert_eq!(finish(&mut m), 0);
     assert_eq!((m.written, m.lines), (0, 7));
 }
 
+/// Each of the seven lines reads, is written as the same line again, and has the report that its figures give.
 #[test]
-fn the_path_of_seven() {
+fn the_seven_lines_one_by_one() {
+    let lines: [(&[u8], u8, [u16; 4], &str); 7] = [
+        (b"010000\n", b'K', [1, 0, 0, 1], "1 K 1 0 0 1\n"),
+        (b"01010100\n", b'G', [2, 1, 1, 1], "2 G 2 1 1 1\n"),
+        (b"01020101\n", b'G', [3, 2, 1, 1], "3 G 3 2 1 1\n"),
+        (b"01030102\n", b'G', [4, 3, 1, 1], "4 G 4 3 1 1\n"),
+        (b"01040103\n", b'G', [5, 4, 1, 1], "5 G 5 4 1 1\n"),
+        (b"010503000204\n", b'S', [6, 3, 2, 6], "6 S 6 3 2 6\n"),
+        (b"010503000204\n", 5, [6, 3, 2, 0], "7 R5 6 3 2 0\n"),
+    ];
+    let mut m = emptied();
+    for (number, (line, answer, [depots, chain, pairs, searches], text)) in (1..).zip(lines) {
+        assert_eq!((read(&mut m, line), m.used), (0, line.len()));
+        let frame = m.frame.data[..m.length].to_vec();
+        assert_eq!(write(&mut m, &frame), 0);
+        assert_eq!(&m.line.data[..m.length], line);
+        assert_eq!(open(&mut m, frame[1], &frame[3..]), answer);
+        assert_eq!(report(&mut m, Fields { number, answer, depots, chain, pairs: pairs.into(), searches }), 0);
+        assert_eq!(m.out.data[..m.length], *text.as_bytes());
+    }
+}
+
+fn path_of_seven() -> Lent {
     let mut m = emptied();
     assert_eq!(open(&mut m, 0, &[]), b'K');
     for code in 1..7 {
         assert_eq!(open(&mut m, code, &[code - 1]), b'G');
     }
-    assert_eq!(beside("reckon", &mut m, plain::reckon, raw::reckon), 0);
+    m
+}
+
+#[test]
+fn the_path_of_seven() {
+    let mut m = path_of_seven();
+    assert_eq!(reckon(&mut m), 0);
     assert_eq!((figures(&m), pairs(&m), m.searches), ((7, 6, 1), vec![(0, 6)], 6));
     assert_eq!(m.skips.data[..8], [256, 256, 256, 256, 3, 256, 256, 257]);
     assert_eq!(m.bounds.data[..8], [6, 5, 4, 3, 4, 5, 6, 65_535]);
@@ -57,22 +82,37 @@ fn the_path_of_seven() {
     assert_eq!((m.even.data[0], m.odd.data[0]), (1, 2));
 }
 
+/// A reckoning does not look at the figures before it: true, false, out of range, on the path and on the empty and the single map.
+#[test]
+fn figures_before_a_reckoning() {
+    let mut single = emptied();
+    open(&mut single, 0, &[]);
+    for (mut m, right, searches) in [(emptied(), (0, 0, 0), 0), (single, (1, 0, 0), 1), (path_of_seven(), (7, 6, 1), 6)] {
+        for (chain, count) in [(right.1, right.2), (3, 2), (5, 2), (65_535, u32::MAX.into()), (u64::MAX, u64::MAX)] {
+            (m.record.data[5], m.record.data[6]) = (chain, count);
+            m.pairs.data[..1024].fill(count);
+            assert_eq!((reckon(&mut m), figures(&m), m.searches), (0, right, searches));
+            assert_reckoned(&m);
+        }
+    }
+}
+
 #[test]
 fn the_empty_and_the_single_map() {
     let mut m = emptied();
     let hops = m.hops.clone();
-    assert_eq!(beside("reckon", &mut m, plain::reckon, raw::reckon), 0);
+    assert_eq!(reckon(&mut m), 0);
     assert_eq!((figures(&m), m.searches), ((0, 0, 0), 0));
     assert_eq!(m.hops, hops);
     assert!(m.skips.data[..256].iter().all(|&mark| mark == 257) && m.bounds.data[..256].iter().all(|&bound| bound == 65_535));
     for code in 0..=255 {
-        assert_eq!(beside("search", &mut m, |m| plain::search(m, code), |m| raw::search(m, code)), 4);
+        assert_eq!(search(&mut m, code), 4);
     }
     assert_eq!(open(&mut m, 77, &[]), b'K');
     assert_eq!((figures(&m), m.searches), ((1, 0, 0), 1));
-    assert_eq!(beside("search", &mut m, |m| plain::search(m, 77), |m| raw::search(m, 77)), 0);
+    assert_eq!(search(&mut m, 77), 0);
     assert_eq!((m.eccentricity, m.even.data[1], m.odd.data[1]), (0, 1 << 13, 0));
-    assert_eq!(beside("reckon", &mut m, plain::reckon, raw::reckon), 0);
+    assert_eq!(reckon(&mut m), 0);
     assert_eq!((figures(&m), m.searches), ((1, 0, 0), 1));
 }
 
@@ -84,7 +124,7 @@ fn the_greatest_values() {
         open(&mut path, code, &beside);
     }
     assert_eq!((figures(&path), pairs(&path)), ((256, 255, 1), vec![(0, 255)]));
-    assert_eq!(beside("reckon", &mut path, plain::reckon, raw::reckon), 0);
+    assert_eq!(reckon(&mut path), 0);
     assert_eq!((figures(&path), pairs(&path)), ((256, 255, 1), vec![(0, 255)]));
 
     let mut whole = emptied();

@@ -1,0 +1,274 @@
+//! Histories of openings: a network of a shape grows depot by depot, and before each opening come calls that are bent so that they are refused.
+use crate::both::{empty, open};
+use crate::expected::{network, store_figures};
+use crate::inputs::{Dice, Growth, Shape};
+use crate::lent::{Lent, SIZES};
+use crate::maps::any_memory;
+use crate::plain::Figures;
+use crate::tally::Tally;
+use crate::truth::assert_opened;
+use std::collections::BTreeSet;
+
+/// A way to bend a call: one fault, or two at once.
+#[derive(Clone, Copy, Debug)]
+enum Bend {
+    Taken,
+    Lonely,
+    Unsorted,
+    Unknown,
+    Itself,
+    TakenUnsorted,
+    UnsortedUnknown,
+    AllCodes,
+    /// This buffer lacks its last element.
+    Short(usize),
+    ShortTaken,
+    TakenLonely,
+}
+
+const BENDS: [Bend; 18] = [
+    Bend::Taken,
+    Bend::Lonely,
+    Bend::Unsorted,
+    Bend::Unknown,
+    Bend::Itself,
+    Bend::TakenUnsorted,
+    Bend::UnsortedUnknown,
+    Bend::AllCodes,
+    Bend::Short(0),
+    Bend::Short(1),
+    Bend::Short(2),
+    Bend::Short(3),
+    Bend::Short(4),
+    Bend::Short(5),
+    Bend::Short(6),
+    Bend::Short(7),
+    Bend::ShortTaken,
+    Bend::TakenLonely,
+];
+
+struct Notice {
+    code: u8,
+    neighbours: Vec<u8>,
+    short: Option<usize>,
+}
+
+impl Bend {
+    /// What refuses a call that is bent so, some depot being open.
+    fn refusal(self) -> u8 {
+        match self {
+            Bend::Short(_) | Bend::ShortTaken => 1,
+            Bend::Taken | Bend::TakenUnsorted | Bend::TakenLonely => 5,
+            Bend::Lonely => 6,
+            Bend::Unsorted | Bend::UnsortedUnknown => 7,
+            Bend::Unknown | Bend::Itself | Bend::AllCodes => 8,
+        }
+    }
+
+    /// The notice of a code beside some neighbours, bent; `taken` is open, `closed` is not.
+    fn of(self, code: u8, neighbours: &[u8], taken: u8, closed: u8) -> Notice {
+        let joined = |v: u8| BTreeSet::from_iter(neighbours.iter().copied().chain([v])).into_iter().collect::<Vec<u8>>();
+        let repeated = |list: &[u8]| [list, &list[..list.len().min(1)]].concat();
+        let plain = Notice { code, neighbours: neighbours.to_vec(), short: None };
+        match self {
+            Bend::Taken => Notice { code: taken, ..plain },
+            Bend::Lonely => Notice { neighbours: Vec::new(), ..plain },
+            Bend::Unsorted => Notice { neighbours: repeated(neighbours), ..plain },
+            Bend::Unknown => Notice { neighbours: joined(closed), ..plain },
+            Bend::Itself => Notice { neighbours: joined(code), ..plain },
+            Bend::TakenUnsorted => Notice { code: taken, neighbours: repeated(neighbours), ..plain },
+            Bend::UnsortedUnknown => Notice { neighbours: repeated(&joined(closed)), ..plain },
+            Bend::AllCodes => Notice { neighbours: (0..=255).collect(), ..plain },
+            Bend::Short(which) => Notice { short: Some(which), ..plain },
+            Bend::ShortTaken => Notice { code: taken, short: Some(3), ..plain },
+            Bend::TakenLonely => Notice { code: taken, neighbours: Vec::new(), ..plain },
+        }
+    }
+}
+
+/// Figures that are made false before some of the calls: every so many, with this chain, and so many of a hundred pairs.
+#[derive(Clone, Copy)]
+struct Doubt {
+    every: usize,
+    chain: usize,
+    percent: usize,
+}
+
+struct History {
+    m: Lent,
+    dice: Dice,
+    calls: usize,
+    bent: usize,
+    doubt: Option<Doubt>,
+    tally: Tally,
+}
+
+impl History {
+    fn begun(seed: u64, doubt: Option<Doubt>) -> History {
+        let mut dice = Dice::new(seed);
+        let mut m = any_memory(&mut dice);
+        assert_eq!(empty(&mut m), 0);
+        History { m, dice, calls: 0, bent: 0, doubt, tally: Tally::new() }
+    }
+
+    /// Makes the figures false if it is time to.
+    fn doubt(&mut self) {
+        let Some(doubt) = self.doubt.filter(|doubt| self.calls % doubt.every == 0) else {
+            return;
+        };
+        let open = network(&self.m).open;
+        let mut figures = Figures { chain: doubt.chain, ..Figures::default() };
+        for &u in &open {
+            figures.pairs.extend(open.range(u + 1..).filter(|_| self.dice.below(100) < doubt.percent).map(|&v| (u, v)));
+        }
+        store_figures(&mut self.m, &figures);
+    }
+
+    /// One call, and what has to hold after it.
+    fn call(&mut self, notice: &Notice) -> u8 {
+        self.doubt();
+        self.calls += 1;
+        let before = self.m.record.data[5];
+        let answer = match notice.short {
+            None => open(&mut self.m, notice.code, &notice.neighbours),
+            Some(which) => {
+                let mut short = self.m.clone();
+                short.set_lent(which, SIZES[which] - 1);
+                open(&mut short, notice.code, &notice.neighbours)
+            }
+        };
+        self.tally.count(answer);
+        if answer > 9 && self.doubt.is_none() {
+            assert_opened(&self.m, before, notice.code, answer);
+        }
+        answer
+    }
+
+    /// Grows a network of `size` depots, with this many bent calls before each opening. A depot opens beside those that are open by then.
+    fn grow(mut self, growth: &Growth, size: usize, bends: usize) -> History {
+        for i in 0..size {
+            let code = growth.order[i] as u8;
+            let open = network(&self.m).open;
+            let mut neighbours = growth.neighbours(&mut self.dice, i, size);
+            neighbours.retain(|&v| open.contains(&v.into()));
+            let closed = growth.order.get(i + 1).map_or(code, |&next| next as u8);
+            for _ in 0..bends {
+                let bend = BENDS[self.bent % BENDS.len()];
+                self.bent += 1;
+                let answer = self.call(&bend.of(code, &neighbours, growth.order[0] as u8, closed));
+                // the first opening takes any of these, and no neighbours cannot be unsorted
+                let is_void = open.is_empty() || matches!(bend, Bend::Unsorted) && neighbours.is_empty();
+                assert!(is_void || answer == bend.refusal(), "{bend:?}: {answer}");
+            }
+            self.call(&Notice { code, neighbours, short: None });
+        }
+        self
+    }
+}
+
+/// Four histories of 40 depots, with three bent calls before each opening.
+fn forty(shape: Shape) -> Tally {
+    let mut tally = Tally::new();
+    for way in 0..4 {
+        let mut history = History::begun(19_000_000 + way as u64, None);
+        let growth = Growth::spread(&mut history.dice, shape, way, 29 * way + 5);
+        let history = history.grow(&growth, 40, 3);
+        assert_eq!(history.calls, 160);
+        tally.add(&history.tally);
+    }
+    tally.assert_all(&[1, 5, 6, 7, 8], 20);
+    tally
+}
+
+#[test]
+fn forty_depots_in_a_path() {
+    forty(Shape::Path).assert_only(&[1, 5, 6, 7, 8, b'G', b'K']);
+}
+
+#[test]
+fn forty_depots_in_a_ring_or_on_a_trail() {
+    forty(Shape::Ring).assert_all(b"GKS", 4);
+    forty(Shape::Trail(12)).assert_all(b"GKS", 4);
+}
+
+#[test]
+fn forty_depots_in_a_star_a_grid_or_a_tree() {
+    for shape in [Shape::Star, Shape::Grid, Shape::Heap, Shape::Random(0)] {
+        forty(shape).assert_all(b"GK", 4);
+    }
+}
+
+#[test]
+fn forty_depots_all_linked_or_at_random() {
+    forty(Shape::Whole).assert_all(b"GK", 4);
+    forty(Shape::Random(4)).assert_all(b"GKS", 4);
+    forty(Shape::Random(30)).assert_all(b"GKS", 1);
+}
+
+/// Many of these depots are lonely, and stay closed.
+#[test]
+fn forty_depots_that_are_often_lonely() {
+    let tally = forty(Shape::Loose(6));
+    assert!(tally.times(6) >= 40, "lonely {} times", tally.times(6));
+}
+
+/// 256 depots, with this many bent calls before each opening.
+fn all_depots(shape: Shape, bends: usize) -> History {
+    let mut history = History::begun(20_000_000, None);
+    let growth = Growth::spread(&mut history.dice, shape, 2, 77);
+    history.grow(&growth, 256, bends)
+}
+
+fn mixed(shape: Shape, letters: &[u8]) {
+    let history = all_depots(shape, 1);
+    history.tally.assert_all(&[1, 5, 6, 7, 8], 8);
+    history.tally.assert_all(letters, 1);
+    assert_eq!((history.calls, history.m.record.data[4]), (512, 256));
+}
+
+#[test]
+fn all_depots_in_a_ring_or_on_a_trail() {
+    mixed(Shape::Ring, b"GKS");
+    mixed(Shape::Trail(1), b"GKS");
+}
+
+#[test]
+fn all_depots_in_a_grid_or_a_tree() {
+    mixed(Shape::Grid, b"GK");
+    mixed(Shape::Heap, b"GK");
+}
+
+#[test]
+fn all_depots_at_random() {
+    mixed(Shape::Random(1), b"GKS");
+    mixed(Shape::Random(20), b"GKS");
+}
+
+#[test]
+fn all_depots_in_a_path() {
+    let record = all_depots(Shape::Path, 0).m.record.data;
+    assert_eq!(record[4..7], [256, 255, 1]);
+}
+
+#[test]
+fn all_depots_linked() {
+    let record = all_depots(Shape::Whole, 0).m.record.data;
+    assert_eq!(record[4..7], [256, 1, 32_640]);
+}
+
+/// Histories of 30 depots whose figures are made false before every third call.
+#[test]
+fn figures_made_false_between() {
+    for shape in [Shape::Path, Shape::Ring, Shape::Trail(15), Shape::Random(5)] {
+        let mut tally = Tally::new();
+        for k in 0..8 {
+            let doubt = Doubt { every: 3, chain: k, percent: 7 * k };
+            let mut history = History::begun(21_000_000 + k as u64, Some(doubt));
+            let growth = Growth::spread(&mut history.dice, shape, k, 31 * k);
+            let history = history.grow(&growth, 30, 1);
+            assert_eq!(history.calls, 60);
+            tally.add(&history.tally);
+        }
+        tally.assert_all(&[1, 5, 6, 7, 8, b'G', b'K', b'S'], 4);
+    }
+}

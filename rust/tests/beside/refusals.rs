@@ -1,0 +1,175 @@
+//! Faults one by one, on a grid of 100 depots of the codes 0 to 99: each call is held to the refusal that has to come, and to changing nothing.
+use crate::both::{empty, feed, finish, open, reckon, search};
+use crate::expected::store_map;
+use crate::inputs::{Dice, Growth, Shape};
+use crate::lent::Lent;
+use crate::maps::{any_memory, flip};
+use crate::plain::{Figures, Map};
+use crate::tally::Tally;
+
+fn grid() -> Lent {
+    let mut dice = Dice::new(16_000_000);
+    let network = Growth::spread(&mut dice, Shape::Grid, 0, 0).network(&mut dice, 100);
+    let mut m = any_memory(&mut dice);
+    store_map(&mut m, &Map { figures: network.figures(), network });
+    (m.held, m.lines) = (0, 0);
+    m
+}
+
+/// What search, reckoning, opening and the two calls of a stream answer on this memory: from depot 0, of the notice 200 beside 0, of no input.
+fn answers(m: &Lent) -> [u8; 5] {
+    let mut m = m.clone();
+    let searched = search(&mut m.clone(), 0);
+    let reckoned = reckon(&mut m.clone());
+    let opened = open(&mut m.clone(), 200, &[0]);
+    [searched, reckoned, opened, feed(&mut m.clone(), b""), finish(&mut m)]
+}
+
+#[test]
+fn nothing_is_wrong_with_the_grid() {
+    assert_eq!(answers(&grid()), [0, 0, b'K', 0, 0]);
+}
+
+/// Each of the 65,536 bits of the link table alone: a link one way round, to itself, at a closed code. One call in turn for each.
+#[test]
+fn each_single_link_bit() {
+    let mut m = grid();
+    for bit in 0..65_536 {
+        flip(&mut m.links.data, bit / 256, bit % 256);
+        let answer = match (bit + bit / 256) % 4 {
+            0 => search(&mut m, 0),
+            1 => reckon(&mut m),
+            2 => open(&mut m, 200, &[0]),
+            _ => feed(&mut m, b"01C80100\n"),
+        };
+        assert_eq!(answer, 2, "bit {} of row {}", bit % 256, bit / 256);
+        flip(&mut m.links.data, bit / 256, bit % 256);
+    }
+}
+
+/// Bits all over, each with every call: each code's own, and those 64, 128 and 192 places further.
+#[test]
+fn some_single_link_bits_with_every_call() {
+    let mut m = grid();
+    for i in 0..1024 {
+        let (u, v) = (i % 256, (i + 64 * (i / 256)) % 256);
+        flip(&mut m.links.data, u, v);
+        assert_eq!(answers(&m), [2; 5], "bit {v} of row {u}");
+        flip(&mut m.links.data, u, v);
+    }
+}
+
+/// A link of every code with a closed one, both ways round.
+#[test]
+fn links_to_closed_codes() {
+    let mut m = grid();
+    for u in 0..256 {
+        let v = 100 + (u + 57) % 156;
+        for (one, other) in [(u, v), (v, u)] {
+            flip(&mut m.links.data, one, other);
+        }
+        assert_eq!(answers(&m), [2; 5], "{u} and {v}");
+        for (one, other) in [(u, v), (v, u)] {
+            flip(&mut m.links.data, one, other);
+        }
+    }
+}
+
+#[test]
+fn every_number_open_but_the_right_one() {
+    let mut m = grid();
+    for number in (0..300).chain([65_536 + 100, (1 << 32) + 100, u64::MAX]) {
+        m.record.data[4] = number;
+        let right = if number == 100 { [0, 0, b'K', 0, 0] } else { [2; 5] };
+        assert_eq!(answers(&m), right, "{number} open");
+    }
+}
+
+/// Each code of the open set turned over. With the number open: an open one then has links though closed, a closed one is open without any.
+#[test]
+fn each_code_of_the_open_set() {
+    for v in 0..256 {
+        let mut m = grid();
+        m.record.data[v / 64] ^= 1 << (v % 64);
+        assert_eq!(answers(&m), [2; 5], "code {v}, not counted");
+        m.record.data[4] = if v < 100 { 99 } else { 101 };
+        assert_eq!(answers(&m), [if v < 100 { 2 } else { 3 }; 5], "code {v}");
+    }
+}
+
+/// A single pair, whose count is right, one less and one more: rising, falling, level, and with closed ends.
+#[test]
+fn single_pairs() {
+    let mut tally = Tally::new();
+    for i in 0..512 {
+        let (u, v) = (i % 128, 32 * (i / 128) + i % 32);
+        for count in 0..3 {
+            let mut m = grid();
+            m.pairs.data[..1024].fill(0);
+            flip(&mut m.pairs.data, u, v);
+            (m.record.data[5], m.record.data[6]) = (3, count);
+            let answer = feed(&mut m.clone(), b"");
+            assert_eq!(answer, if u < v && v < 100 && count == 1 { 0 } else { 2 }, "pair {u}, {v}, counted {count}");
+            let opened = open(&mut m.clone(), 200, &[0]);
+            assert_eq!(opened == 2, answer == 2);
+            assert_eq!((search(&mut m.clone(), 0), reckon(&mut m)), (0, 0));
+            tally.count(answer);
+        }
+    }
+    tally.assert_all(&[0, 2], 100);
+}
+
+/// Sound up to 255, on the empty map and on the grid.
+#[test]
+fn every_chain() {
+    for chain in (0..300).chain([65_536, 65_536 + 3, 1 << 32, u64::MAX]) {
+        let mut m = grid();
+        m.record.data[5] = chain;
+        assert_eq!(feed(&mut m.clone(), b""), if chain < 256 { 0 } else { 2 }, "chain {chain}");
+        assert_eq!(open(&mut m.clone(), 200, &[0]) == 2, chain > 255);
+        assert_eq!((search(&mut m.clone(), 0), reckon(&mut m.clone())), (0, 0));
+        assert_eq!(empty(&mut m), 0);
+        m.record.data[5] = chain;
+        let first = [b'K', b'S', 2][usize::from(chain > 0) + usize::from(chain > 255)];
+        assert_eq!(open(&mut m, 7, &[]), first, "the first opening, chain {chain}");
+    }
+}
+
+/// One fault more each time, and the lower number comes.
+#[test]
+fn the_first_refusal_of_several() {
+    let mut m = grid();
+    // the neighbour 201 is closed; it stands before 0; there is none; the code is open
+    assert_eq!(open(&mut m, 200, &[0, 201]), 8);
+    assert_eq!(open(&mut m, 200, &[201, 0]), 7);
+    assert_eq!(open(&mut m, 200, &[]), 6);
+    assert_eq!((open(&mut m, 0, &[]), open(&mut m, 0, &[201, 0]), open(&mut m, 0, &[0])), (5, 5, 5));
+    assert_eq!((search(&mut m, 200), reckon(&mut m.clone())), (4, 0));
+    // depot 150 is open without a link
+    m.record.data[2] |= 1 << (150 - 128);
+    m.record.data[4] = 101;
+    assert_eq!((open(&mut m, 0, &[]), search(&mut m, 200), reckon(&mut m)), (3, 3, 3));
+    // the pair count is wrong: only who looks at figures sees it
+    let mut figures = m.clone();
+    figures.record.data[6] += 1;
+    assert_eq!((open(&mut figures, 0, &[]), search(&mut figures, 200), reckon(&mut figures)), (2, 3, 3));
+    assert_eq!((feed(&mut figures, b""), finish(&mut figures)), (2, 2));
+    // so is the number open
+    m.record.data[4] = 100;
+    assert_eq!((open(&mut m, 0, &[]), search(&mut m, 200), reckon(&mut m)), (2, 2, 2));
+    m.set_lent(7, 3);
+    assert_eq!((open(&mut m, 0, &[]), search(&mut m, 200), reckon(&mut m)), (1, 1, 1));
+}
+
+/// A record and a pair table of another map: sound links, and figures that name closed codes.
+#[test]
+fn figures_of_another_map() {
+    let mut dice = Dice::new(16_500_000);
+    let other = Growth::spread(&mut dice, Shape::Path, 0, 90).network(&mut dice, 100).figures();
+    let mut m = grid();
+    let network = crate::expected::network(&m);
+    store_map(&mut m, &Map { network: network.clone(), figures: other });
+    assert_eq!(answers(&m), [0, 0, 2, 2, 2]);
+    store_map(&mut m, &Map { network, figures: Figures::default() });
+    assert_eq!(answers(&m), [0, 0, b'G', 0, 0]);
+}

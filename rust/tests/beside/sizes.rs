@@ -1,0 +1,95 @@
+//! Buffers one element below their named size, at it and one above it, in every combination, for every call.
+use crate::both::{empty, feed, finish, open, read, reckon, report, search, write};
+use crate::inputs::Dice;
+use crate::lent::{Lent, SIZES};
+use crate::maps::{any_memory, true_map};
+use crate::plain::lines::Fields;
+use crate::tally::Tally;
+
+const MAP: [usize; 8] = [0, 1, 2, 3, 4, 5, 6, 7];
+
+/// A map of a few depots, in memory with room behind every buffer.
+fn small_map(seed: u64) -> (Lent, u8) {
+    (seed..)
+        .map(|seed| true_map(&mut Dice::new(17_000_000 + seed)))
+        .find(|(_, network)| (2..12).contains(&network.open.len()) && network.open.len() < 256)
+        .map(|(m, network)| (m, *network.open.first().expect("a few are open") as u8))
+        .expect("some map is small")
+}
+
+/// Makes a call with every combination of these sizes, of which 1 is the named one: it is refused with 1 exactly if some buffer is short.
+fn every_combination(m: &Lent, buffers: &[usize], sizes: usize, call: impl Fn(&mut Lent) -> u8) {
+    let mut tally = Tally::new();
+    for combination in 0..sizes.pow(buffers.len() as u32) {
+        let mut lent = m.clone();
+        let mut is_short = false;
+        for (place, &which) in buffers.iter().enumerate() {
+            let more = combination / sizes.pow(place as u32) % sizes;
+            lent.set_lent(which, SIZES[which] - 1 + more);
+            is_short |= more == 0;
+        }
+        let answer = call(&mut lent);
+        assert_eq!(answer == 1, is_short, "combination {combination}");
+        tally.count(u8::from(answer == 1));
+    }
+    tally.assert_only(&[0, 1]);
+}
+
+#[test]
+fn of_an_emptying() {
+    every_combination(&small_map(0).0, &[0, 1, 2], 3, empty);
+    // a short table is refused though the other is longer
+    let mut m = small_map(0).0;
+    m.set_lent(1, 0);
+    m.set_lent(2, 1029);
+    assert_eq!(empty(&mut m), 1);
+}
+
+#[test]
+fn of_a_search() {
+    let (m, code) = small_map(100);
+    every_combination(&m, &[0, 1, 3, 6, 7], 3, |m| search(m, code));
+    // nothing else is asked for
+    let mut m = m;
+    for which in [2, 4, 5, 8, 9, 10] {
+        m.set_lent(which, 0);
+    }
+    assert_eq!(search(&mut m, code), 0);
+}
+
+#[test]
+fn of_a_reckoning() {
+    every_combination(&small_map(200).0, &MAP, 3, reckon);
+}
+
+#[test]
+fn of_an_opening() {
+    let (m, code) = small_map(300);
+    let closed = (0..=255).find(|&v| m.record.data[usize::from(v / 64)] >> (v % 64) & 1 == 0).expect("some code is closed");
+    every_combination(&m, &MAP, 3, |m| open(m, closed, &[code]));
+}
+
+#[test]
+fn of_a_stream() {
+    let (mut m, _) = small_map(400);
+    (m.held, m.lines) = (3, 5);
+    let buffers = [0, 1, 2, 3, 4, 5, 6, 7, 9, 10];
+    every_combination(&m, &buffers, 2, |m| feed(m, b"\n"));
+    every_combination(&m, &buffers, 2, finish);
+    for which in buffers {
+        every_combination(&m, &[which], 3, |m| feed(m, b"\n"));
+        every_combination(&m, &[which], 3, finish);
+    }
+}
+
+/// A buffer is refused even where the frame or line would fit, and where what is to be read is garbled as well.
+#[test]
+fn of_the_line_calls() {
+    let m = any_memory(&mut Dice::new(17_500_000));
+    let kept = Fields { number: 1, answer: b'K', depots: 1, chain: 0, pairs: 0, searches: 1 };
+    for (input, frame) in [(&b"010500\n"[..], &[1, 5, 0][..]), (b"", b"")] {
+        every_combination(&m, &[8], 3, |m| read(m, input));
+        every_combination(&m, &[9], 3, |m| write(m, frame));
+    }
+    every_combination(&m, &[10], 3, |m| report(m, kept));
+}

@@ -1,0 +1,12 @@
+//! Document 01 once more, in the plainest way: sets of codes, a queue search from every depot, no word of the proved code. It is what every test
+//! compares with, so it is written from the document alone, and knows nothing of how memory is lent.
+// Each test uses a part of it.
+#![allow(dead_code, unused_imports)]
+pub mod lines;
+pub mod network;
+pub mod opening;
+pub mod stream;
+pub mod words;
+
+pub use network::{Figures, Network};
+pub use opening::Map;

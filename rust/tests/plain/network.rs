@@ -1,0 +1,122 @@
+//! The network: distances, eccentricities, longest chain and farthest pairs; when links and figures are sound, and when a map is apart.
+use super::words::{codes_of_row, rows_of_table};
+use std::collections::{BTreeSet, VecDeque};
+
+/// Pairs of codes, the lower one first.
+pub type Pairs = BTreeSet<(usize, usize)>;
+
+/// A search: the distance of each code, none where no walk leads.
+pub type Distances = Vec<Option<usize>>;
+
+#[derive(Clone)]
+pub struct Network {
+    pub open: BTreeSet<usize>,
+    /// The codes in each row of the link table, rising; it need not be the same both ways round.
+    pub rows: Vec<Vec<usize>>,
+}
+
+impl Network {
+    pub fn empty() -> Network {
+        Network { open: BTreeSet::new(), rows: vec![Vec::new(); 256] }
+    }
+
+    /// The network of an open set and a link table, in words.
+    pub fn of(open: &[u64], links: &[u64]) -> Network {
+        Network { open: codes_of_row(open), rows: rows_of_table(links) }
+    }
+
+    pub fn are_linked(&self, u: usize, v: usize) -> bool {
+        self.rows[u].binary_search(&v).is_ok()
+    }
+
+    pub fn link(&mut self, u: usize, v: usize) {
+        for (one, other) in [(u, v), (v, u)] {
+            if let Err(place) = self.rows[one].binary_search(&other) {
+                self.rows[one].insert(place, other);
+            }
+        }
+    }
+
+    /// Each link, both ways round.
+    pub fn bits(&self) -> impl Iterator<Item = (usize, usize)> + '_ {
+        self.rows.iter().enumerate().flat_map(|(u, row)| row.iter().map(move |&v| (u, v)))
+    }
+
+    /// The number open is that of the open set, closed codes have empty rows, no row has a closed code or its own, and each link goes both ways.
+    pub fn is_sound(&self, number: u64) -> bool {
+        let is_right = |(u, v)| self.open.contains(&u) && self.open.contains(&v) && u != v && self.are_linked(v, u);
+        number == self.open.len() as u64 && self.bits().all(is_right)
+    }
+
+    pub fn distances(&self, from: usize) -> Distances {
+        let mut found = vec![None; 256];
+        let mut queue = VecDeque::from([(from, 0)]);
+        found[from] = Some(0);
+        while let Some((u, d)) = queue.pop_front() {
+            for &v in &self.rows[u] {
+                if found[v].is_none() {
+                    found[v] = Some(d + 1);
+                    queue.push_back((v, d + 1));
+                }
+            }
+        }
+        found
+    }
+
+    /// Some open depot cannot be reached from the lowest open code.
+    pub fn is_apart(&self) -> bool {
+        match self.open.first() {
+            None => false,
+            Some(&lowest) => {
+                let distances = self.distances(lowest);
+                self.open.iter().any(|&v| distances[v].is_none())
+            }
+        }
+    }
+
+    /// Longest chain and farthest pairs of a network that hangs together, by their definition: a search from every depot.
+    pub fn figures(&self) -> Figures {
+        let mut figures = Figures::default();
+        for &u in &self.open {
+            for (v, d) in reached(&self.distances(u)) {
+                if d > figures.chain {
+                    figures = Figures { chain: d, pairs: BTreeSet::new() };
+                }
+                if d == figures.chain && u < v {
+                    figures.pairs.insert((u, v));
+                }
+            }
+        }
+        figures
+    }
+}
+
+#[derive(Clone, Debug, Default, PartialEq)]
+pub struct Figures {
+    pub chain: usize,
+    pub pairs: Pairs,
+}
+
+/// Every pair joins two open codes, the lower one first, the count is theirs, and the chain is at most 255.
+pub fn are_sound_figures(open: &BTreeSet<usize>, pairs: &Pairs, chain: u64, count: u64) -> bool {
+    pairs.iter().all(|&(u, v)| u < v && open.contains(&u) && open.contains(&v)) && count == pairs.len() as u64 && chain <= 255
+}
+
+/// The codes that a search reached, rising, with their distances.
+pub fn reached(distances: &Distances) -> impl Iterator<Item = (usize, usize)> + '_ {
+    distances.iter().enumerate().filter_map(|(v, d)| Some((v, (*d)?)))
+}
+
+pub fn eccentricity(distances: &Distances) -> usize {
+    reached(distances).map(|(_, d)| d).max().unwrap_or(0)
+}
+
+/// The depots at a distance.
+pub fn layer(distances: &Distances, distance: usize) -> BTreeSet<usize> {
+    reached(distances).filter(|&(_, d)| d == distance).map(|(v, _)| v).collect()
+}
+
+/// r with each other depot at its greatest distance.
+pub fn farthest_from(r: usize, distances: &Distances) -> Pairs {
+    layer(distances, eccentricity(distances)).into_iter().filter(|&v| v != r).map(|v| (r.min(v), r.max(v))).collect()
+}

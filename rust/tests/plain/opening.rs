@@ -1,0 +1,172 @@
+//! The opening of a depot, and the reference rounds that it shares with the whole reckoning.
+use super::network::{eccentricity, farthest_from, Distances, Figures, Network, Pairs};
+use std::collections::{BTreeMap, BTreeSet};
+
+/// What the rounds did with a depot. A bound stands with the reference that gave it.
+#[derive(Clone, Debug, PartialEq)]
+pub enum Status {
+    Remaining(Option<(usize, usize)>),
+    Skipped(usize, usize),
+    Searched(usize),
+}
+
+/// What a call with rounds or a single search found.
+#[derive(Clone)]
+pub struct Work {
+    pub figures: Figures,
+    pub status: BTreeMap<usize, Status>,
+    /// The references in their order, and what the last search found.
+    pub references: Vec<usize>,
+    pub last: Option<Distances>,
+}
+
+impl Work {
+    fn begun(network: &Network, figures: Figures) -> Work {
+        let status = network.open.iter().map(|&v| (v, Status::Remaining(None))).collect();
+        Work { figures, status, references: Vec::new(), last: None }
+    }
+
+    fn note_search(&mut self, r: usize, distances: Distances) {
+        self.status.insert(r, Status::Searched(eccentricity(&distances)));
+        self.references.push(r);
+        self.last = Some(distances);
+    }
+
+    /// One search, no rounds.
+    fn searched(network: &Network, a: usize, figures: Figures, distances: Distances) -> Work {
+        let mut work = Work::begun(network, figures);
+        work.note_search(a, distances);
+        work
+    }
+
+    /// The round of reference r. A bound changes only for a smaller one, so that its reference is the earliest.
+    fn round(&mut self, r: usize, distances: Distances) {
+        let e = eccentricity(&distances);
+        if e > self.figures.chain {
+            self.figures = Figures { chain: e, pairs: farthest_from(r, &distances) };
+        } else if e == self.figures.chain && e != 0 {
+            self.figures.pairs.extend(farthest_from(r, &distances));
+        }
+        self.note_search(r, distances.clone());
+        for (&v, status) in self.status.iter_mut() {
+            if let Status::Remaining(bound) = status {
+                let new = e + distance(&distances, v);
+                if bound.is_none_or(|(old, _)| new < old) {
+                    *bound = Some((new, r));
+                }
+            }
+        }
+        for status in self.status.values_mut() {
+            if let Status::Remaining(Some((bound, by))) = *status {
+                if bound < self.figures.chain {
+                    *status = Status::Skipped(bound, by);
+                }
+            }
+        }
+    }
+
+    /// The remaining depot of highest degree, lowest code on a tie.
+    fn next(&self, network: &Network) -> Option<usize> {
+        let mut best = None;
+        for (&v, status) in &self.status {
+            let degree = network.rows[v].len();
+            if matches!(status, Status::Remaining(_)) && best.is_none_or(|(_, most)| degree > most) {
+                best = Some((v, degree));
+            }
+        }
+        Some(best?.0)
+    }
+
+    fn rounds(&mut self, network: &Network) {
+        while let Some(r) = self.next(network) {
+            self.round(r, network.distances(r));
+        }
+    }
+}
+
+/// The distance of an open depot, on a map that hangs together.
+fn distance(distances: &Distances, v: usize) -> usize {
+    distances[v].expect("the network hangs together")
+}
+
+/// The whole reckoning of a network that hangs together.
+pub fn reckoning(network: &Network) -> Work {
+    let mut work = Work::begun(network, Figures::default());
+    work.rounds(network);
+    work
+}
+
+/// An accepted opening.
+pub struct Opened {
+    pub letter: u8,
+    pub work: Work,
+}
+
+/// The opening of a, whose links are in place, on stored figures that may be false.
+fn opening(network: &Network, stored: &Figures, a: usize) -> Opened {
+    let distances = network.distances(a);
+    let (e, chain) = (eccentricity(&distances), stored.chain);
+    if e > chain {
+        let figures = Figures { chain: e, pairs: farthest_from(a, &distances) };
+        return Opened { letter: b'G', work: Work::searched(network, a, figures, distances) };
+    }
+    let through = |pair: &(usize, usize)| distance(&distances, pair.0) + distance(&distances, pair.1);
+    let mut pairs: Pairs = stored.pairs.iter().copied().filter(|pair| through(pair) >= chain).collect();
+    if e == chain {
+        pairs.extend(farthest_from(a, &distances));
+    }
+    if e == chain || !pairs.is_empty() {
+        return Opened { letter: b'K', work: Work::searched(network, a, Figures { chain, pairs }, distances) };
+    }
+    let candidate = stored.pairs.iter().map(|pair| chain.min(through(pair))).max().unwrap_or(0);
+    let mut work = Work::begun(network, Figures { chain: candidate, pairs: Pairs::new() });
+    work.round(a, distances);
+    work.rounds(network);
+    Opened { letter: b'S', work }
+}
+
+/// The refusals 5 to 8 of a notice, 0 for none.
+fn refusal(open: &BTreeSet<usize>, code: u8, neighbours: &[u8]) -> u8 {
+    if open.contains(&code.into()) {
+        return 5;
+    }
+    if neighbours.is_empty() && !open.is_empty() {
+        return 6;
+    }
+    if neighbours.windows(2).any(|two| two[0] >= two[1]) {
+        return 7;
+    }
+    if neighbours.iter().any(|&v| !open.contains(&v.into())) {
+        return 8;
+    }
+    0
+}
+
+/// A map that is sound and hangs together.
+#[derive(Clone)]
+pub struct Map {
+    pub network: Network,
+    pub figures: Figures,
+}
+
+impl Map {
+    pub fn empty() -> Map {
+        Map { network: Network::empty(), figures: Figures::default() }
+    }
+
+    /// Opens a depot, or says which of 5 to 8 refuses it.
+    pub fn open(&mut self, code: u8, neighbours: &[u8]) -> Result<Opened, u8> {
+        match refusal(&self.network.open, code, neighbours) {
+            0 => {}
+            refusal => return Err(refusal),
+        }
+        let a = usize::from(code);
+        self.network.open.insert(a);
+        for &v in neighbours {
+            self.network.link(a, v.into());
+        }
+        let opened = opening(&self.network, &self.figures, a);
+        self.figures = opened.work.figures.clone();
+        Ok(opened)
+    }
+}
