@@ -20,9 +20,6 @@ add-result c =
       after-slice-known .slice-known .given 0,
     )
 
-enum-told : tie.Need-enum-told
-enum-told c = search needs
-
 same-length : tie.Need-same-length
 same-length c = search needs
 
@@ -64,7 +61,7 @@ put-report-spec =
     (λ c. search needs)  -- write-report-requires
     (λ c. search needs)  -- enum-known-answer
     add-result
-    enum-told
+    (λ c. search needs)  -- enum-told
     same-length
     returns
     same-length-2

@@ -15,9 +15,6 @@ slice-write-line c = omega arith
 slice-write-line-2 : tie.Need-slice-write-line-2
 slice-write-line-2 c = simp length-set (omega arith)
 
-enum-told : tie.Need-enum-told
-enum-told c = search needs
-
 put-number-requires : tie.Need-put-number-requires
 put-number-requires c κs =
     let after-outcome : tie.After-outcome = search in
@@ -51,7 +48,7 @@ put-outcome-spec =
     (λ c. search needs)  -- letter-requires
     (λ c. search needs)  -- add-line
     slice-write-line-2
-    enum-told
+    (λ c. search needs)  -- enum-told
     (λ c. search needs)  -- add-result
     (λ c. search needs)  -- enum-known-outcome
     (λ c. search needs)  -- add-put-number

@@ -12,9 +12,6 @@ slice-aggregate-part c =
     let start : tie.Start = search in
     part-length (start .args .report) (start .args .line .now) (after-answer .answer .given .1) (after-write-report .write-report .ensures)
 
-enum-told : tie.Need-enum-told
-enum-told c = search needs
-
 returns : tie.Need-returns
 returns c =
     let after-answer : tie.After-answer = search in
@@ -34,7 +31,7 @@ report-line-spec =
     (λ c. search needs)  -- write-report-requires
     (λ c. search needs)  -- enum-known-answer
     slice-aggregate-part
-    enum-told
+    (λ c. search needs)  -- enum-told
     (λ c. search needs)  -- slice-aggregate-part-2
     returns
     returns-2)

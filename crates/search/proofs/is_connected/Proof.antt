@@ -26,9 +26,6 @@ is-next c =
     let after-next-member : tie.After-next-member = search back in
     subst (NextIs _ _ _) (after-lowest .lowest .given .1) (after-next-member .next-member .ensures)
 
-enum-told : tie.Need-enum-told
-enum-told c = search needs
-
 returns : tie.Need-returns
 returns c =
     let after-next-member : tie.After-next-member = search back in
@@ -68,7 +65,7 @@ is-connected-spec =
     (tie.spec
     (λ c. search needs)  -- next-member-requires
     (λ c. search needs)  -- enum-known-lowest
-    enum-told
+    (λ c. search needs)  -- enum-told
     returns
     search-table-requires
     (λ c. search needs)  -- all-reached-requires

@@ -7,9 +7,6 @@ use Rattle.zorpedi.proofs.maps.zorpedi_empty.Tie as tie
 returns : tie.Need-returns
 returns c = empty-short _ _ _ (c .if1 .taken)
 
-enum-told : tie.Need-enum-told
-enum-told c = search needs
-
 returns-2 : tie.Need-returns-2
 returns-2 c =
     let after-put-record : tie.After-put-record = search in
@@ -36,7 +33,7 @@ zorpedi-empty-spec =
     returns
     (λ c. search needs)  -- record-of-requires
     (λ c. search needs)  -- empty-map-requires
-    enum-told
+    (λ c. search needs)  -- enum-told
     (λ c. search needs)  -- put-record-requires
     (λ c. search needs)  -- enum-known-answer
     (λ c. search needs)  -- same-length

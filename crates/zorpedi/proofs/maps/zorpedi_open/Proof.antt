@@ -7,9 +7,6 @@ use Rattle.zorpedi.proofs.maps.zorpedi_open.Tie as tie
 returns : tie.Need-returns
 returns c = open-short _ _ _ _ _ (c .if1 .taken)
 
-enum-told : tie.Need-enum-told
-enum-told c = search needs
-
 -- the way back, from each call to the one before it
 abbrev before-put-record : tie.After-put-record → tie.After-open-step
 before-put-record c = search
@@ -45,7 +42,7 @@ zorpedi-open-spec =
     returns
     (λ c. search needs)  -- record-of-requires
     (λ c. search needs)  -- open-step-requires
-    enum-told
+    (λ c. search needs)  -- enum-told
     (λ c. search needs)  -- put-record-requires
     (λ c. search needs)  -- letter-requires
     (λ c. search needs)  -- enum-known-outcome
