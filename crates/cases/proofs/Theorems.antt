@@ -114,7 +114,7 @@ opened-lines os bytes cs e lent =
     ∙ ap₂ Graph.followAll start-figured e
 
 stream-holds : (cs : List Call) → noticesOf cs ≡ Graph.sevenLines → AllLong cs → answersOf (openCall base) (emptyMemory base) cs ≡ sevenAnswers
-stream-holds cs e lent = opened-lines Graph.sevenLines seven-bytes cs e lent ∙ ap (λ (t : Graph.Cases). t .stream) Graph.cases
+stream-holds cs e lent = opened-lines Graph.sevenLines seven-bytes cs e lent ∙ ap (λ (t : Graph.NetworkCases). t .stream) Graph.cases
 
 -- ---- the stream's bytes, by computation
 
