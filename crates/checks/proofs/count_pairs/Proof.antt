@@ -15,12 +15,10 @@ abbrev μ-loop : tie.MeasureT-loop
 μ-loop pairs words sum₀ u₀ sum u = 64 * words - u
 
 loop-holds : tie.Need-loop-holds Inv-loop μ-loop
-loop-holds c = counted-start _ _
+loop-holds c = search counted-start
 
 degree-requires : tie.Need-degree-requires Inv-loop μ-loop
-degree-requires c κs =
-    let start : tie.Start Inv-loop μ-loop = search in
-    (row-fits _ _ _ (c .loop-test .taken) (start .pre .1), search needs, search needs)
+degree-requires c κs = search (row-fits, needs)
 
 add-sum : tie.Need-add-sum Inv-loop μ-loop
 add-sum c =
@@ -31,16 +29,10 @@ add-sum c =
     omega (arith, next .few)
 
 loop-again : tie.Need-loop-again Inv-loop μ-loop
-loop-again c =
-    let in-loop : tie.In-loop Inv-loop μ-loop = search in
-    let at-loop : tie.At-loop Inv-loop μ-loop = search in
-    let start : tie.Start Inv-loop μ-loop = search in
-    counted-next (at-loop .loop .inv) (start .pre .0) (in-loop .loop-test .taken) (c .degree .ensures)
+loop-again c = search counted-next
 
 returns : tie.Need-returns Inv-loop μ-loop
-returns c =
-    let at-loop : tie.At-loop Inv-loop μ-loop = search in
-    counted-whole (at-loop .loop .inv) (c .loop-test .left)
+returns c = search counted-whole
 
 pub count-pairs-spec : {M : Type 1} → statement M
 count-pairs-spec =

@@ -69,20 +69,16 @@ abbrev Else3 : Type 0
 Else3 = tie.Else3 Inv-loop2 μ-loop2 Inv-loop μ-loop Inv-rows μ-rows
 
 returns : tie.Need-returns Inv-loop2 μ-loop2 Inv-loop μ-loop Inv-rows μ-rows
-returns c =
-    let after-count-pairs : After-count-pairs = search in
-    figures-miscounted _ _ _ _ _ _ (after-count-pairs .count-pairs .ensures) (c .if1 .taken)
+returns c = search figures-miscounted
 
 returns-2 : tie.Need-returns-2 Inv-loop2 μ-loop2 Inv-loop μ-loop Inv-rows μ-rows
-returns-2 c = figures-too-long _ _ _ _ _ _ (c .if2 .taken)
+returns-2 c = search figures-too-long
 
 rows-holds : tie.Need-rows-holds Inv-loop2 μ-loop2 Inv-loop μ-loop Inv-rows μ-rows
-rows-holds c = rows-start
+rows-holds c = search rows-start
 
 loop-holds : tie.Need-loop-holds Inv-loop2 μ-loop2 Inv-loop μ-loop Inv-rows μ-rows
-loop-holds c =
-    let at-rows : At-rows = search in
-    words-start (at-rows .rows .inv .fine)
+loop-holds c = search words-start
 
 mul-x : tie.Need-mul-x Inv-loop2 μ-loop2 Inv-loop μ-loop Inv-rows μ-rows
 mul-x c =
@@ -107,69 +103,22 @@ shared-slice-read-x c =
     omega (arith, place-lt _ _ _ (in-rows .rows-test .taken) (in-loop .loop-test .taken))
 
 loop2-holds : tie.Need-loop2-holds Inv-loop2 μ-loop2 Inv-loop μ-loop Inv-rows μ-rows
-loop2-holds c =
-    let at-loop : At-loop = search in
-    bits-start (at-loop .loop .inv .fine)
-
-add-high : tie.Need-add-high Inv-loop2 μ-loop2 Inv-loop μ-loop Inv-rows μ-rows
-add-high c = omega (arith, c .least .ensures .below)
-
-pair-is-sound-requires :
-    tie.Need-pair-is-sound-requires Inv-loop2 μ-loop2 Inv-loop μ-loop Inv-rows μ-rows
-pair-is-sound-requires c κs =
-    let in-rows : In-rows = search in
-    let start : Start = search in
-    (start .pre .row, in-rows .rows-test .taken, omega (arith, c .least .ensures .below))
-
-loop2-less : tie.Need-loop2-less Inv-loop2 μ-loop2 Inv-loop μ-loop Inv-rows μ-rows
-loop2-less c = c .drop-least .ensures .less
+loop2-holds c = search bits-start
 
 loop2-again : tie.Need-loop2-again Inv-loop2 μ-loop2 Inv-loop μ-loop Inv-rows μ-rows
-loop2-again c =
-    let else3 : Else3 = search in
-    let after-pair-is-sound : After-pair-is-sound = search in
-    let after-least : After-least = search in
-    let at-loop2 : At-loop2 = search in
-    bits-next (at-loop2 .loop2 .inv) (after-least .least .ensures) (c .drop-least .ensures)
-    (after-pair-is-sound .pair-is-sound .ensures) (else3 .if3 .left)
+loop2-again c = search bits-next
 
 loop-again : tie.Need-loop-again Inv-loop2 μ-loop2 Inv-loop μ-loop Inv-rows μ-rows
-loop-again c =
-    let at-loop2 : At-loop2 = search in
-    let in-loop : In-loop = search in
-    let at-loop : At-loop = search in
-    let in-rows : In-rows = search in
-    words-next (at-loop .loop .inv) (at-loop2 .loop2 .inv) (c .loop2-test .left) (in-rows .rows-test .taken) (in-loop .loop-test .taken)
+loop-again c = search words-next
 
 rows-again : tie.Need-rows-again Inv-loop2 μ-loop2 Inv-loop μ-loop Inv-rows μ-rows
-rows-again c =
-    let at-loop : At-loop = search in
-    let in-rows : In-rows = search in
-    let at-rows : At-rows = search in
-    rows-next (at-rows .rows .inv) (at-loop .loop .inv) (c .loop-test .left) (in-rows .rows-test .taken)
+rows-again c = search rows-next
 
 returns-3 : tie.Need-returns-3 Inv-loop2 μ-loop2 Inv-loop μ-loop Inv-rows μ-rows
-returns-3 c =
-    let at-rows : At-rows = search in
-    let else2 : Else2 = search in
-    let else1 : Else1 = search in
-    let after-count-pairs : After-count-pairs = search in
-    figures-scanned _ _ _ _ _ _ (after-count-pairs .count-pairs .ensures) (else1 .if1 .left) (else2 .if2 .left)
-    (scan-whole (at-rows .rows .inv) (c .rows-test .left))
+returns-3 c = search (scan-whole, figures-scanned)
 
 returns-4 : tie.Need-returns-4 Inv-loop2 μ-loop2 Inv-loop μ-loop Inv-rows μ-rows
-returns-4 c =
-    let after-pair-is-sound : After-pair-is-sound = search in
-    let after-least : After-least = search in
-    let at-loop2 : At-loop2 = search in
-    let in-loop : In-loop = search in
-    let in-rows : In-rows = search in
-    let else2 : Else2 = search in
-    let else1 : Else1 = search in
-    let after-count-pairs : After-count-pairs = search in
-    figures-scanned _ _ _ _ _ _ (after-count-pairs .count-pairs .ensures) (else1 .if1 .left) (else2 .if2 .left)
-    (scan-fault _ _ (at-loop2 .loop2 .inv) (after-least .least .ensures) (after-pair-is-sound .pair-is-sound .ensures) (c .if3 .taken)
-    (in-rows .rows-test .taken) (in-loop .loop-test .taken))
+returns-4 c = search (scan-fault, figures-scanned)
 
 pub figures-are-sound-spec : {M : Type 1} → statement M
 figures-are-sound-spec =
@@ -195,10 +144,10 @@ figures-are-sound-spec =
     loop2-holds
     (λ c. search needs)  -- mul-high
     (λ c. search needs)  -- least-requires
-    add-high
-    pair-is-sound-requires
+    (λ c. search needs)  -- add-high
+    (λ c. search needs)  -- pair-is-sound-requires
     (λ c. search needs)  -- drop-least-requires
-    loop2-less
+    (λ c. search needs)  -- loop2-less
     loop2-again
     (λ c. search needs)  -- add-w
     (λ c. search needs)  -- loop-less

@@ -1,7 +1,6 @@
 -- `checks::link_is_sound` meets its contract: each early answer has a part of the test that fails, and the last part is the answer.
 -- Assumes nothing.
 use mathlib.Core.Path.{_∙_}
-use native.Mathlib.Omega.{arith}
 use borrow.Author.Needs.{needs}
 use borrow.Author.Tests.{eq-eqb, ne-eqb}
 use Rattle.rows.proofs.Places.{row-fits}
@@ -38,13 +37,7 @@ returns-3 c =
     rw (u, v, eq-eqb _ _ (c .if3 .taken))
 
 row-test-requires : tie.Need-row-test-requires
-row-test-requires c κs =
-    let start : tie.Start = search in
-    record {
-      row = omega (arith, row-fits _ _ _ (start .pre .1) (start .pre .0 .rows), row-fits _ _ _ (start .pre .2) (start .pre .0 .rows));
-      below = search needs;
-      column = search needs;
-    }
+row-test-requires c κs = search row-fits
 
 returns-4 : tie.Need-returns-4
 unfolding soundLink networkOf

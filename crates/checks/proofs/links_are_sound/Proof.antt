@@ -65,17 +65,13 @@ abbrev Else2 : Type 0
 Else2 = tie.Else2 Inv-loop2 μ-loop2 Inv-loop μ-loop Inv-rows μ-rows
 
 returns : tie.Need-returns Inv-loop2 μ-loop2 Inv-loop μ-loop Inv-rows μ-rows
-returns c =
-    let after-degree : After-degree = search in
-    links-miscounted _ _ _ (after-degree .degree .ensures) (c .if1 .taken)
+returns c = search links-miscounted
 
 rows-holds : tie.Need-rows-holds Inv-loop2 μ-loop2 Inv-loop μ-loop Inv-rows μ-rows
-rows-holds c = rows-start
+rows-holds c = search rows-start
 
 loop-holds : tie.Need-loop-holds Inv-loop2 μ-loop2 Inv-loop μ-loop Inv-rows μ-rows
-loop-holds c =
-    let at-rows : At-rows = search in
-    words-start (at-rows .rows .inv .fine)
+loop-holds c = search words-start
 
 mul-x : tie.Need-mul-x Inv-loop2 μ-loop2 Inv-loop μ-loop Inv-rows μ-rows
 mul-x c =
@@ -100,66 +96,22 @@ shared-slice-read-x c =
     omega (arith, place-lt _ _ _ (in-rows .rows-test .taken) (in-loop .loop-test .taken))
 
 loop2-holds : tie.Need-loop2-holds Inv-loop2 μ-loop2 Inv-loop μ-loop Inv-rows μ-rows
-loop2-holds c =
-    let at-loop : At-loop = search in
-    bits-start (at-loop .loop .inv .fine)
-
-add-v : tie.Need-add-v Inv-loop2 μ-loop2 Inv-loop μ-loop Inv-rows μ-rows
-add-v c = omega (arith, c .least .ensures .below)
-
-link-is-sound-requires :
-    tie.Need-link-is-sound-requires Inv-loop2 μ-loop2 Inv-loop μ-loop Inv-rows μ-rows
-link-is-sound-requires c κs =
-    let in-rows : In-rows = search in
-    let start : Start = search in
-    (start .pre, in-rows .rows-test .taken, omega (arith, c .least .ensures .below))
-
-loop2-less : tie.Need-loop2-less Inv-loop2 μ-loop2 Inv-loop μ-loop Inv-rows μ-rows
-loop2-less c = c .drop-least .ensures .less
+loop2-holds c = search bits-start
 
 loop2-again : tie.Need-loop2-again Inv-loop2 μ-loop2 Inv-loop μ-loop Inv-rows μ-rows
-loop2-again c =
-    let else2 : Else2 = search in
-    let after-link-is-sound : After-link-is-sound = search in
-    let after-least : After-least = search in
-    let at-loop2 : At-loop2 = search in
-    bits-next (at-loop2 .loop2 .inv) (after-least .least .ensures) (c .drop-least .ensures)
-    (after-link-is-sound .link-is-sound .ensures) (else2 .if2 .left)
+loop2-again c = search bits-next
 
 loop-again : tie.Need-loop-again Inv-loop2 μ-loop2 Inv-loop μ-loop Inv-rows μ-rows
-loop-again c =
-    let at-loop2 : At-loop2 = search in
-    let in-loop : In-loop = search in
-    let at-loop : At-loop = search in
-    let in-rows : In-rows = search in
-    words-next (at-loop .loop .inv) (at-loop2 .loop2 .inv) (c .loop2-test .left) (in-rows .rows-test .taken) (in-loop .loop-test .taken)
+loop-again c = search words-next
 
 rows-again : tie.Need-rows-again Inv-loop2 μ-loop2 Inv-loop μ-loop Inv-rows μ-rows
-rows-again c =
-    let at-loop : At-loop = search in
-    let in-rows : In-rows = search in
-    let at-rows : At-rows = search in
-    rows-next (at-rows .rows .inv) (at-loop .loop .inv) (c .loop-test .left) (in-rows .rows-test .taken)
+rows-again c = search rows-next
 
 returns-2 : tie.Need-returns-2 Inv-loop2 μ-loop2 Inv-loop μ-loop Inv-rows μ-rows
-returns-2 c =
-    let at-rows : At-rows = search in
-    let else1 : Else1 = search in
-    let after-degree : After-degree = search in
-    links-scanned _ _ _ (after-degree .degree .ensures) (else1 .if1 .left) (scan-whole (at-rows .rows .inv) (c .rows-test .left))
+returns-2 c = search (scan-whole, links-scanned)
 
 returns-3 : tie.Need-returns-3 Inv-loop2 μ-loop2 Inv-loop μ-loop Inv-rows μ-rows
-returns-3 c =
-    let after-link-is-sound : After-link-is-sound = search in
-    let after-least : After-least = search in
-    let at-loop2 : At-loop2 = search in
-    let in-loop : In-loop = search in
-    let in-rows : In-rows = search in
-    let else1 : Else1 = search in
-    let after-degree : After-degree = search in
-    links-scanned _ _ _ (after-degree .degree .ensures) (else1 .if1 .left)
-    (scan-fault _ _ (at-loop2 .loop2 .inv) (after-least .least .ensures) (after-link-is-sound .link-is-sound .ensures) (c .if2 .taken)
-    (in-rows .rows-test .taken) (in-loop .loop-test .taken))
+returns-3 c = search (scan-fault, links-scanned)
 
 pub links-are-sound-spec : {M : Type 1} → statement M
 links-are-sound-spec =
@@ -183,10 +135,10 @@ links-are-sound-spec =
     loop2-holds
     (λ c. search needs)  -- mul-v
     (λ c. search needs)  -- least-requires
-    add-v
-    link-is-sound-requires
+    (λ c. search needs)  -- add-v
+    (λ c. search needs)  -- link-is-sound-requires
     (λ c. search needs)  -- drop-least-requires
-    loop2-less
+    (λ c. search needs)  -- loop2-less
     loop2-again
     (λ c. search needs)  -- add-w
     (λ c. search needs)  -- loop-less
