@@ -32,53 +32,11 @@ abbrev μ-rows : tie.MeasureT-rows
 μ-rows pairs codes words chain count paired₀ low₀ paired low = 64 * words - low
 
 -- the places, at this invariant and measure
-abbrev Start : Type 0
-Start = tie.Start Inv-loop2 μ-loop2 Inv-loop μ-loop Inv-rows μ-rows
-
-abbrev After-count-pairs : Type 0
-After-count-pairs = tie.After-count-pairs Inv-loop2 μ-loop2 Inv-loop μ-loop Inv-rows μ-rows
-
-abbrev Else1 : Type 0
-Else1 = tie.Else1 Inv-loop2 μ-loop2 Inv-loop μ-loop Inv-rows μ-rows
-
-abbrev Else2 : Type 0
-Else2 = tie.Else2 Inv-loop2 μ-loop2 Inv-loop μ-loop Inv-rows μ-rows
-
-abbrev At-rows : Type 0
-At-rows = tie.At-rows Inv-loop2 μ-loop2 Inv-loop μ-loop Inv-rows μ-rows
-
 abbrev In-rows : Type 0
 In-rows = tie.In-rows Inv-loop2 μ-loop2 Inv-loop μ-loop Inv-rows μ-rows
 
-abbrev At-loop : Type 0
-At-loop = tie.At-loop Inv-loop2 μ-loop2 Inv-loop μ-loop Inv-rows μ-rows
-
 abbrev In-loop : Type 0
 In-loop = tie.In-loop Inv-loop2 μ-loop2 Inv-loop μ-loop Inv-rows μ-rows
-
-abbrev At-loop2 : Type 0
-At-loop2 = tie.At-loop2 Inv-loop2 μ-loop2 Inv-loop μ-loop Inv-rows μ-rows
-
-abbrev After-least : Type 0
-After-least = tie.After-least Inv-loop2 μ-loop2 Inv-loop μ-loop Inv-rows μ-rows
-
-abbrev After-pair-is-sound : Type 0
-After-pair-is-sound = tie.After-pair-is-sound Inv-loop2 μ-loop2 Inv-loop μ-loop Inv-rows μ-rows
-
-abbrev Else3 : Type 0
-Else3 = tie.Else3 Inv-loop2 μ-loop2 Inv-loop μ-loop Inv-rows μ-rows
-
-returns : tie.Need-returns Inv-loop2 μ-loop2 Inv-loop μ-loop Inv-rows μ-rows
-returns c = search figures-miscounted
-
-returns-2 : tie.Need-returns-2 Inv-loop2 μ-loop2 Inv-loop μ-loop Inv-rows μ-rows
-returns-2 c = search figures-too-long
-
-rows-holds : tie.Need-rows-holds Inv-loop2 μ-loop2 Inv-loop μ-loop Inv-rows μ-rows
-rows-holds c = search rows-start
-
-loop-holds : tie.Need-loop-holds Inv-loop2 μ-loop2 Inv-loop μ-loop Inv-rows μ-rows
-loop-holds c = search words-start
 
 mul-x : tie.Need-mul-x Inv-loop2 μ-loop2 Inv-loop μ-loop Inv-rows μ-rows
 mul-x c =
@@ -102,24 +60,6 @@ shared-slice-read-x c =
     let in-rows : In-rows = search in
     omega (arith, place-lt _ _ _ (in-rows .rows-test .taken) (in-loop .loop-test .taken))
 
-loop2-holds : tie.Need-loop2-holds Inv-loop2 μ-loop2 Inv-loop μ-loop Inv-rows μ-rows
-loop2-holds c = search bits-start
-
-loop2-again : tie.Need-loop2-again Inv-loop2 μ-loop2 Inv-loop μ-loop Inv-rows μ-rows
-loop2-again c = search bits-next
-
-loop-again : tie.Need-loop-again Inv-loop2 μ-loop2 Inv-loop μ-loop Inv-rows μ-rows
-loop-again c = search words-next
-
-rows-again : tie.Need-rows-again Inv-loop2 μ-loop2 Inv-loop μ-loop Inv-rows μ-rows
-rows-again c = search rows-next
-
-returns-3 : tie.Need-returns-3 Inv-loop2 μ-loop2 Inv-loop μ-loop Inv-rows μ-rows
-returns-3 c = search (scan-whole, figures-scanned)
-
-returns-4 : tie.Need-returns-4 Inv-loop2 μ-loop2 Inv-loop μ-loop Inv-rows μ-rows
-returns-4 c = search (scan-fault, figures-scanned)
-
 pub figures-are-sound-spec : {M : Type 1} → statement M
 figures-are-sound-spec =
     tie.close
@@ -131,29 +71,29 @@ figures-are-sound-spec =
     Inv-rows
     μ-rows
     (λ c. search needs)  -- count-pairs-requires
-    returns
+    (λ c. search figures-miscounted)  -- returns
     (λ c. search needs)  -- mul-if2
-    returns-2
-    rows-holds
+    (λ c. search figures-too-long)  -- returns-2
+    (λ c. search rows-start)  -- rows-holds
     (λ c. search needs)  -- mul-rows
-    loop-holds
+    (λ c. search words-start)  -- loop-holds
     mul-x
     add-x
     mul-x-2
     shared-slice-read-x
-    loop2-holds
+    (λ c. search bits-start)  -- loop2-holds
     (λ c. search needs)  -- mul-high
     (λ c. search needs)  -- least-requires
     (λ c. search needs)  -- add-high
     (λ c. search needs)  -- pair-is-sound-requires
     (λ c. search needs)  -- drop-least-requires
     (λ c. search needs)  -- loop2-less
-    loop2-again
+    (λ c. search bits-next)  -- loop2-again
     (λ c. search needs)  -- add-w
     (λ c. search needs)  -- loop-less
-    loop-again
+    (λ c. search words-next)  -- loop-again
     (λ c. search needs)  -- add-low
     (λ c. search needs)  -- rows-less
-    rows-again
-    returns-3
-    returns-4)
+    (λ c. search rows-next)  -- rows-again
+    (λ c. search (scan-whole, figures-scanned))  -- returns-3
+    (λ c. search (scan-fault, figures-scanned)))  -- returns-4

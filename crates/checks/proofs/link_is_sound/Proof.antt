@@ -36,9 +36,6 @@ returns-3 c =
     let v = test-passed (after-is-open2 .is-open2 .ensures) (else2 .if2 .left) in
     rw (u, v, eq-eqb _ _ (c .if3 .taken))
 
-row-test-requires : tie.Need-row-test-requires
-row-test-requires c κs = search row-fits
-
 returns-4 : tie.Need-returns-4
 unfolding soundLink networkOf
 returns-4 c =
@@ -60,5 +57,5 @@ link-is-sound-spec =
     (λ c. search needs)  -- is-open-requires-2
     returns-2
     returns-3
-    row-test-requires
+    (λ c κs. search row-fits)  -- row-test-requires
     returns-4)
