@@ -4,9 +4,9 @@
     tools/thin.py CRATE [FN..] [--generated DIR]
 
 An answer that applies a law, `law _ _ (place .call .ensures) ..`, is tried as `search law`, then with its places named, then as it was; a part of
-a tuple that cites no law as `search needs`; then without the names that it does not cite; and an answer that is one `search` goes into the
-closing list. Some two to four minutes a crate. Run it in the repository's root, after `tools/places.py name CRATE`; then `rt fmt`, and `rt check CRATE` for the verdict. Compare the time before and after: a
-`search` can cost more than the term that it finds.
+a tuple that cites no law as `search needs`; then without the names that it does not cite; and an answer that is one `search` goes into the closing
+list. Some two to four minutes a crate. Run it in the repository's root, after `tools/places.py name CRATE`; then `rt fmt`, and `rt check CRATE`
+for the verdict. Compare the time before and after: a `search` can cost more than the term that it finds.
 """
 import argparse
 import collections
