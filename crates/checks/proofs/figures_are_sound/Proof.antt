@@ -2,9 +2,7 @@
 -- scan ends with the whole table passed, or at a bit that refutes the test. Measures: rows, words and what is left of the word. Assumes nothing.
 use mathlib.Core.List.{[]}
 use Prim.Native.Nat.{_*_, _-_}
-use native.Mathlib.Omega.{arith}
 use borrow.Author.Needs.{needs}
-use Rattle.rows.proofs.Places.{place-lt}
 use Rattle.map.specs.Memory.{networkOf}
 use Rattle.checks.specs.Sound.{soundPair}
 use Rattle.checks.proofs.Scans.{BitsDone, WordsDone, RowsDone, bits-start, bits-next, words-start, words-next, rows-start, rows-next}
@@ -31,35 +29,6 @@ Inv-rows pairs codes words chain count paired₀ low₀ paired low = RowsDone wo
 abbrev μ-rows : tie.MeasureT-rows
 μ-rows pairs codes words chain count paired₀ low₀ paired low = 64 * words - low
 
--- the places, at this invariant and measure
-abbrev In-rows : Type 0
-In-rows = tie.In-rows Inv-loop2 μ-loop2 Inv-loop μ-loop Inv-rows μ-rows
-
-abbrev In-loop : Type 0
-In-loop = tie.In-loop Inv-loop2 μ-loop2 Inv-loop μ-loop Inv-rows μ-rows
-
-mul-x : tie.Need-mul-x Inv-loop2 μ-loop2 Inv-loop μ-loop Inv-rows μ-rows
-mul-x c =
-    let in-rows : In-rows = search in
-    omega (arith, place-lt _ _ _ (in-rows .rows-test .taken) (c .loop-test .taken))
-
-add-x : tie.Need-add-x Inv-loop2 μ-loop2 Inv-loop μ-loop Inv-rows μ-rows
-add-x c =
-    let in-rows : In-rows = search in
-    omega (arith, place-lt _ _ _ (in-rows .rows-test .taken) (c .loop-test .taken))
-
-mul-x-2 : tie.Need-mul-x-2 Inv-loop2 μ-loop2 Inv-loop μ-loop Inv-rows μ-rows
-mul-x-2 c =
-    let in-rows : In-rows = search in
-    omega (arith, place-lt _ _ _ (in-rows .rows-test .taken) (c .loop-test .taken))
-
-shared-slice-read-x :
-    tie.Need-shared-slice-read-x Inv-loop2 μ-loop2 Inv-loop μ-loop Inv-rows μ-rows
-shared-slice-read-x c =
-    let in-loop : In-loop = search in
-    let in-rows : In-rows = search in
-    omega (arith, place-lt _ _ _ (in-rows .rows-test .taken) (in-loop .loop-test .taken))
-
 pub figures-are-sound-spec : {M : Type 1} → statement M
 figures-are-sound-spec =
     tie.close
@@ -77,10 +46,10 @@ figures-are-sound-spec =
     (λ c. search rows-start)  -- rows-holds
     (λ c. search needs)  -- mul-rows
     (λ c. search words-start)  -- loop-holds
-    mul-x
-    add-x
-    mul-x-2
-    shared-slice-read-x
+    (λ c. search needs)  -- mul-x
+    (λ c. search needs)  -- add-x
+    (λ c. search needs)  -- mul-x-2
+    (λ c. search needs)  -- shared-slice-read-x
     (λ c. search bits-start)  -- loop2-holds
     (λ c. search needs)  -- mul-high
     (λ c. search needs)  -- least-requires
