@@ -5,7 +5,7 @@ import re
 import subprocess
 import sys
 
-from layout import wrapped
+from layout import walk, wrapped
 
 SIGNED = re.compile(r'^(?:(?:abbrev|pub|unfoldable) )*(\S+) :\s+(.*?)(?=\n\S|\Z)', re.S)
 POSITION = re.compile(r'-- src/\S+:\d+:\d+$')
@@ -114,42 +114,84 @@ def add_import(pars, module, name):
     pars[0] = '\n'.join(head)
 
 
-def write_closing(pars, function):
-    """the last paragraph anew: `tie.spec` at each answer, `search needs` where the file has none"""
-    have = answers(pars)
+ROUTINE = '(λ c. search needs)'
+
+
+def one_search(par):
+    """an answer that is one `search` as it stands in the closing list, `(λ c. search law)`; or nothing"""
+    name, type_ = signed(par)
+    if not name or not type_.startswith('tie.Need-') or '\nunfolding ' in par or '--' in par:
+        return None
+    match = re.search(rf'^{re.escape(name)} ([^:\n=]*) =\s+search ([\w-]+|\([\w\s,-]+\))\s*\Z', par, re.M)
+    if not match:
+        return None
+    rules = ' '.join(match.group(2).split())
+    return ROUTINE if rules == 'needs' else f'(λ {match.group(1)}. search {rules})'
+
+
+def is_alone(par, pars):
+    """Does no other answer cite it?"""
+    name = signed(par)[0]
+    return not any(cites(other, name) for other in pars if other is not par and 'tie.close' not in other)
+
+
+def is_routine(par):
+    """an answer that says only `search needs`"""
+    return one_search(par) == ROUTINE
+
+
+def drop_routine(pars):
+    """without the answers that say only `search needs`, unless another answer cites them"""
+    for par in [par for par in pars if is_routine(par) and is_alone(par, pars)]:
+        pars.remove(par)
+
+
+def write_closing(pars, function, declared=()):
+    """the last paragraph anew: `tie.spec` at each answer; one that is a `search` and that no other cites stands there itself, unless it is to stay
+    declared; and `search needs` where there is none"""
     last = max(i for i, par in enumerate(pars) if 'tie.close' in par)
-    name = signed(pars[last])[0]
-    lines = []
+    name, closing = signed(pars[last])[0], pars[last]
+    searches = {}
+    for line in closing.split('\n'):
+        match = re.match(r' +(\(λ .*\))  -- (\S+)$', line)
+        if match:
+            searches['Need-' + match.group(2)] = match.group(1)[:next(place for place, _, depth in walk(match.group(1)) if depth == 0) + 1]
+    for par in [par for par in pars if one_search(par) and is_alone(par, pars) and signed(par)[0] not in declared]:
+        searches[re.match(r'tie\.(\S+)', signed(par)[1]).group(1)] = one_search(par)
+        pars.remove(par)
+    have, lines = answers(pars), []
     for asked in function.asked:
         if asked in have:
             lines.append((have[asked], ''))
         elif asked.startswith('Need-'):
-            lines.append(('(λ c. search needs)', '  -- ' + asked.removeprefix('Need-')))
+            lines.append((searches.get(asked, ROUTINE), '  -- ' + asked.removeprefix('Need-')))
         else:
             sys.exit(f'{name} wants {asked}')
     if not lines:
         return
     lines[-1] = (lines[-1][0] + ')', lines[-1][1])
-    comments = [line for line in pars[last].split('\n') if line.startswith('--')]
+    comments = [line for line in closing.split('\n') if line.startswith('--')]
     head = [f'pub {name} : {{M : Type 1}} → statement M', f'{name} =', '    tie.close', '    (tie.spec']
+    last = max(i for i, par in enumerate(pars) if 'tie.close' in par)
     pars[last] = '\n'.join(comments + head + [f'    {answer}{comment}' for answer, comment in lines])
-    if any(comment for _, comment in lines):
+    if any(cites(answer, 'needs') for answer, _ in lines):
         add_import(pars, 'borrow.Author.Needs', 'needs')
 
 
-def is_routine(par):
-    """an answer that says only `search needs`"""
-    name, type_ = signed(par)
-    return (bool(name) and type_.startswith('tie.Need-') and '\nunfolding ' not in par
-            and re.search(rf'^{re.escape(name)} [^:\n=]*=\s+search needs\s*\Z', par, re.M) is not None)
-
-
-def drop_routine(pars):
-    """without the answers that say only `search needs`, unless another answer cites them"""
-    for par in [par for par in pars if is_routine(par)]:
-        name = signed(par)[0]
-        if not any(cites(other, name) for other in pars if other is not par and 'tie.close' not in other):
+def drop_places(pars):
+    """without the names of places, and the ways back, that nothing cites"""
+    names = re.compile(r'(-- .*\n)?abbrev (\S+) : (?:Type 0\n\2 = tie\.|\S+ → \S+\n\2 c = search$)')
+    comment = ''
+    for par in list(pars):
+        match = names.match(par)
+        if match and not any(cites(other, match.group(2)) for other in pars if other is not par):
+            comment = match.group(1) or comment
             pars.remove(par)
+        elif match and comment:
+            pars[pars.index(par)] = par if match.group(1) else comment + par
+            comment = ''
+        else:
+            comment = ''
 
 
 def drop_positions(pars):

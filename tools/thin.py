@@ -4,9 +4,9 @@
     tools/thin.py CRATE [FN..] [--generated DIR]
 
 An answer that applies a law, `law _ _ (place .call .ensures) ..`, is tried as `search law`, then with its places named, then as it was; a part of
-a tuple that cites no law as `search needs`; at last without the names that it does not cite. Some two to four minutes a crate. Run it in the
-repository's root, after `tools/places.py name CRATE`; then `rt fmt`, and `rt check CRATE` for the verdict. Compare the time before and after: a
-`search` can cost more than the term that it finds.
+a tuple that cites no law as `search needs`; then without the names that it does not cite; and an answer that is one `search` goes into the closing
+list. Some two to four minutes a crate. Run it in the repository's root, after `tools/places.py name CRATE`; then `rt fmt`, and `rt check CRATE`
+for the verdict. Compare the time before and after: a `search` can cost more than the term that it finds.
 """
 import argparse
 import collections
@@ -113,7 +113,7 @@ class File:
         for module, names in re.findall(r'^use (Rattle·\S+proofs\.\S+)\.\{(.*)\}$', self.pars[0], re.M):
             if not module.endswith('.Statement'):
                 laws += [name.split(' as ')[-1].strip() for name in names.split(',')]
-        self.answers = {}
+        self.answers, self.declared = {}, set()
         for i, par in enumerate(self.pars):
             if signed(par)[1].startswith('tie.Need-') and not proofs.is_routine(par) and not re.search(r'= search \S+$', par):
                 self.answers[i] = Answer(par, laws)
@@ -137,13 +137,24 @@ class File:
         return count
 
     def finish(self):
-        proofs.drop_routine(self.pars)
-        if not any('search back' in par for par in self.pars):
-            self.pars = [par for par in self.pars if not re.match(r'(-- the way back.*\n)?abbrev before-|ruleset back', par)]
-        proofs.write_closing(self.pars, self.function)
-        proofs.drop_imports(self.pars)
-        proofs.wrap(self.pars)
-        proofs.write(self.path, self.pars)
+        """the closing list and what nothing cites; the paragraphs stay as they are, so that it can be done again"""
+        pars = [par for par in self.pars if any('search back' in other for other in self.pars) or not par.startswith('ruleset back')]
+        proofs.write_closing(pars, self.function, self.declared)
+        proofs.drop_places(pars)
+        proofs.drop_imports(pars)
+        proofs.wrap(pars)
+        proofs.write(self.path, pars)
+
+    def declare(self, refused):
+        """an answer that is refused in the closing list stays declared; is there one?"""
+        lines = proofs.read(self.path).split('\n')
+        for (path, _), line in refused.items():
+            need = re.search(r'  -- (\S+)$', lines[line - 1]) if path == self.path else None
+            name = proofs.answers(self.pars).get('Need-' + need.group(1)) if need else None
+            if name and name not in self.declared:
+                self.declared.add(name)
+                return True
+        return False
 
 
 def check(crate):
@@ -180,9 +191,12 @@ def main():
         for answer in file.answers.values():
             answer.is_pruned = True
     settle(given.crate, files, 'without idle names')
-    for file in files:
-        file.finish()
-    refused, status = check(given.crate)
+    while True:
+        for file in found:
+            file.finish()
+        refused, status = check(given.crate)
+        if not any([file.declare(refused) for file in found]):
+            break
     print(f'refused: {refused}' if refused or status else 'proved')
 
 

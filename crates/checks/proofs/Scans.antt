@@ -15,6 +15,7 @@ use Rattle.words.specs.Bits.{bit}
 use Rattle.words.specs.Least.{IsLeast, WithoutLeast}
 use Rattle.words.proofs.Bits.{bit-of-zero, bit-wordOf}
 use Rattle.rows.specs.Rows.{tableBit}
+use Rattle.rows.proofs.Places.{row-fits}
 use Rattle.rows.proofs.Written.{table-word}
 use Rattle.checks.specs.Sound.{allSet}
 use Rattle.lists.proofs.Tests.{test-failed, test-passed}
@@ -28,10 +29,11 @@ pub record BitsDone (test : ℕ → ℕ → Bool) (u w x₀ : ℕ) (f : Bool) (x
   pub inside : (b : ℕ) → b < 64 → bit x b ≡ true → bit x₀ b ≡ true
   pub passed : (b : ℕ) → b < 64 → bit x₀ b ≡ true → (bit x b ≡ true) ⊎ (test u (64 * w + b) ≡ true)
 
--- the set bits of the first w words of row u pass
+-- the set bits of the first w words of row u pass, and the row lies in the table
 pub record WordsDone (W : ℕ) (t : List ℕ) (test : ℕ → ℕ → Bool) (u : ℕ) (f : Bool) (w : ℕ) : Type 0 where
   pub fine : f ≡ true
   pub within : w ≤ W
+  pub fits : W * u + W ≤ W * (64 * W)
   pub passed : (v : ℕ) → v < 64 * w → tableBit W t u v ≡ true → test u v ≡ true
 
 -- the set bits of the first u rows pass
@@ -64,13 +66,23 @@ bits-next {test} {u} {w} {x₀} {x} {y} {b} i l d a ok = record {
 
 -- ---- the words of a row
 
-pub words-start : {W : ℕ} {t : List ℕ} {test : ℕ → ℕ → Bool} {u : ℕ} {f : Bool} → f ≡ true → WordsDone W t test u f 0
-words-start h = record { fine = h; within = omega arith; passed = λ v l e. absurd (lt-irrefl v (omega arith)) }
+pub words-start : {W : ℕ} {t : List ℕ} {test : ℕ → ℕ → Bool} {u : ℕ} {f : Bool} → f ≡ true → u < 64 * W → WordsDone W t test u f 0
+words-start {W} {u = u} h l = record {
+  fine = h;
+  within = omega arith;
+  fits = row-fits W u (W * (64 * W)) l (omega arith);
+  passed = λ v l e. absurd (lt-irrefl v (omega arith));
+}
 
 -- no bit of the next word is left
 pub words-next : {W : ℕ} {t : List ℕ} {test : ℕ → ℕ → Bool} {u w x : ℕ} {f g : Bool} → WordsDone W t test u f w → BitsDone test u w (getD t (W * u + w) 0) g x → x ≡ 0
     → u < 64 * W → w < W → WordsDone W t test u g (w + 1)
-words-next {W} {t} {test} {u} {w} {x} i j z d h = record { fine = j .fine; within = omega arith; passed = λ v l e. go v e (lt-or-ge v (64 * w)) l }
+words-next {W} {t} {test} {u} {w} {x} i j z d h = record {
+  fine = j .fine;
+  within = omega arith;
+  fits = i .fits;
+  passed = λ v l e. go v e (lt-or-ge v (64 * w)) l;
+}
   where
     here : (b : ℕ) → b < 64 → tableBit W t u (64 * w + b) ≡ true → test u (64 * w + b) ≡ true
     here b m e = on (j .passed b m (sym (table-word W t u w b d h m) ∙ e))

@@ -14,14 +14,6 @@ Inv-loop pairs words sum₀ u₀ sum u = RowsCounted words pairs sum u
 abbrev μ-loop : tie.MeasureT-loop
 μ-loop pairs words sum₀ u₀ sum u = 64 * words - u
 
-loop-holds : tie.Need-loop-holds Inv-loop μ-loop
-loop-holds c = counted-start _ _
-
-degree-requires : tie.Need-degree-requires Inv-loop μ-loop
-degree-requires c κs =
-    let start : tie.Start Inv-loop μ-loop = search in
-    (row-fits _ _ _ (c .loop-test .taken) (start .pre .1), search needs, search needs)
-
 add-sum : tie.Need-add-sum Inv-loop μ-loop
 add-sum c =
     let in-loop : tie.In-loop Inv-loop μ-loop = search in
@@ -30,29 +22,17 @@ add-sum c =
     let next = counted-next (at-loop .loop .inv) (start .pre .0) (in-loop .loop-test .taken) (c .degree .ensures) in
     omega (arith, next .few)
 
-loop-again : tie.Need-loop-again Inv-loop μ-loop
-loop-again c =
-    let in-loop : tie.In-loop Inv-loop μ-loop = search in
-    let at-loop : tie.At-loop Inv-loop μ-loop = search in
-    let start : tie.Start Inv-loop μ-loop = search in
-    counted-next (at-loop .loop .inv) (start .pre .0) (in-loop .loop-test .taken) (c .degree .ensures)
-
-returns : tie.Need-returns Inv-loop μ-loop
-returns c =
-    let at-loop : tie.At-loop Inv-loop μ-loop = search in
-    counted-whole (at-loop .loop .inv) (c .loop-test .left)
-
 pub count-pairs-spec : {M : Type 1} → statement M
 count-pairs-spec =
     tie.close
     (tie.spec
     Inv-loop
     μ-loop
-    loop-holds
+    (λ c. search counted-start)  -- loop-holds
     (λ c. search needs)  -- mul-loop
-    degree-requires
+    (λ c κs. search (row-fits, needs))  -- degree-requires
     add-sum
     (λ c. search needs)  -- add-u
     (λ c. search needs)  -- loop-less
-    loop-again
-    returns)
+    (λ c. search counted-next)  -- loop-again
+    (λ c. search counted-whole))  -- returns

@@ -2,9 +2,7 @@
 -- scan ends with the whole table passed, or at a bit that refutes the test. Measures: rows, words and what is left of the word. Assumes nothing.
 use mathlib.Core.List.{[]}
 use Prim.Native.Nat.{_*_, _-_}
-use native.Mathlib.Omega.{arith}
 use borrow.Author.Needs.{needs}
-use Rattle.rows.proofs.Places.{place-lt}
 use Rattle.map.specs.Memory.{networkOf}
 use Rattle.checks.specs.Sound.{soundPair}
 use Rattle.checks.proofs.Scans.{BitsDone, WordsDone, RowsDone, bits-start, bits-next, words-start, words-next, rows-start, rows-next}
@@ -31,146 +29,6 @@ Inv-rows pairs codes words chain count paired₀ low₀ paired low = RowsDone wo
 abbrev μ-rows : tie.MeasureT-rows
 μ-rows pairs codes words chain count paired₀ low₀ paired low = 64 * words - low
 
--- the places, at this invariant and measure
-abbrev Start : Type 0
-Start = tie.Start Inv-loop2 μ-loop2 Inv-loop μ-loop Inv-rows μ-rows
-
-abbrev After-count-pairs : Type 0
-After-count-pairs = tie.After-count-pairs Inv-loop2 μ-loop2 Inv-loop μ-loop Inv-rows μ-rows
-
-abbrev Else1 : Type 0
-Else1 = tie.Else1 Inv-loop2 μ-loop2 Inv-loop μ-loop Inv-rows μ-rows
-
-abbrev Else2 : Type 0
-Else2 = tie.Else2 Inv-loop2 μ-loop2 Inv-loop μ-loop Inv-rows μ-rows
-
-abbrev At-rows : Type 0
-At-rows = tie.At-rows Inv-loop2 μ-loop2 Inv-loop μ-loop Inv-rows μ-rows
-
-abbrev In-rows : Type 0
-In-rows = tie.In-rows Inv-loop2 μ-loop2 Inv-loop μ-loop Inv-rows μ-rows
-
-abbrev At-loop : Type 0
-At-loop = tie.At-loop Inv-loop2 μ-loop2 Inv-loop μ-loop Inv-rows μ-rows
-
-abbrev In-loop : Type 0
-In-loop = tie.In-loop Inv-loop2 μ-loop2 Inv-loop μ-loop Inv-rows μ-rows
-
-abbrev At-loop2 : Type 0
-At-loop2 = tie.At-loop2 Inv-loop2 μ-loop2 Inv-loop μ-loop Inv-rows μ-rows
-
-abbrev After-least : Type 0
-After-least = tie.After-least Inv-loop2 μ-loop2 Inv-loop μ-loop Inv-rows μ-rows
-
-abbrev After-pair-is-sound : Type 0
-After-pair-is-sound = tie.After-pair-is-sound Inv-loop2 μ-loop2 Inv-loop μ-loop Inv-rows μ-rows
-
-abbrev Else3 : Type 0
-Else3 = tie.Else3 Inv-loop2 μ-loop2 Inv-loop μ-loop Inv-rows μ-rows
-
-returns : tie.Need-returns Inv-loop2 μ-loop2 Inv-loop μ-loop Inv-rows μ-rows
-returns c =
-    let after-count-pairs : After-count-pairs = search in
-    figures-miscounted _ _ _ _ _ _ (after-count-pairs .count-pairs .ensures) (c .if1 .taken)
-
-returns-2 : tie.Need-returns-2 Inv-loop2 μ-loop2 Inv-loop μ-loop Inv-rows μ-rows
-returns-2 c = figures-too-long _ _ _ _ _ _ (c .if2 .taken)
-
-rows-holds : tie.Need-rows-holds Inv-loop2 μ-loop2 Inv-loop μ-loop Inv-rows μ-rows
-rows-holds c = rows-start
-
-loop-holds : tie.Need-loop-holds Inv-loop2 μ-loop2 Inv-loop μ-loop Inv-rows μ-rows
-loop-holds c =
-    let at-rows : At-rows = search in
-    words-start (at-rows .rows .inv .fine)
-
-mul-x : tie.Need-mul-x Inv-loop2 μ-loop2 Inv-loop μ-loop Inv-rows μ-rows
-mul-x c =
-    let in-rows : In-rows = search in
-    omega (arith, place-lt _ _ _ (in-rows .rows-test .taken) (c .loop-test .taken))
-
-add-x : tie.Need-add-x Inv-loop2 μ-loop2 Inv-loop μ-loop Inv-rows μ-rows
-add-x c =
-    let in-rows : In-rows = search in
-    omega (arith, place-lt _ _ _ (in-rows .rows-test .taken) (c .loop-test .taken))
-
-mul-x-2 : tie.Need-mul-x-2 Inv-loop2 μ-loop2 Inv-loop μ-loop Inv-rows μ-rows
-mul-x-2 c =
-    let in-rows : In-rows = search in
-    omega (arith, place-lt _ _ _ (in-rows .rows-test .taken) (c .loop-test .taken))
-
-shared-slice-read-x :
-    tie.Need-shared-slice-read-x Inv-loop2 μ-loop2 Inv-loop μ-loop Inv-rows μ-rows
-shared-slice-read-x c =
-    let in-loop : In-loop = search in
-    let in-rows : In-rows = search in
-    omega (arith, place-lt _ _ _ (in-rows .rows-test .taken) (in-loop .loop-test .taken))
-
-loop2-holds : tie.Need-loop2-holds Inv-loop2 μ-loop2 Inv-loop μ-loop Inv-rows μ-rows
-loop2-holds c =
-    let at-loop : At-loop = search in
-    bits-start (at-loop .loop .inv .fine)
-
-add-high : tie.Need-add-high Inv-loop2 μ-loop2 Inv-loop μ-loop Inv-rows μ-rows
-add-high c = omega (arith, c .least .ensures .below)
-
-pair-is-sound-requires :
-    tie.Need-pair-is-sound-requires Inv-loop2 μ-loop2 Inv-loop μ-loop Inv-rows μ-rows
-pair-is-sound-requires c κs =
-    let in-rows : In-rows = search in
-    let start : Start = search in
-    (start .pre .row, in-rows .rows-test .taken, omega (arith, c .least .ensures .below))
-
-loop2-less : tie.Need-loop2-less Inv-loop2 μ-loop2 Inv-loop μ-loop Inv-rows μ-rows
-loop2-less c = c .drop-least .ensures .less
-
-loop2-again : tie.Need-loop2-again Inv-loop2 μ-loop2 Inv-loop μ-loop Inv-rows μ-rows
-loop2-again c =
-    let else3 : Else3 = search in
-    let after-pair-is-sound : After-pair-is-sound = search in
-    let after-least : After-least = search in
-    let at-loop2 : At-loop2 = search in
-    bits-next (at-loop2 .loop2 .inv) (after-least .least .ensures) (c .drop-least .ensures)
-    (after-pair-is-sound .pair-is-sound .ensures) (else3 .if3 .left)
-
-loop-again : tie.Need-loop-again Inv-loop2 μ-loop2 Inv-loop μ-loop Inv-rows μ-rows
-loop-again c =
-    let at-loop2 : At-loop2 = search in
-    let in-loop : In-loop = search in
-    let at-loop : At-loop = search in
-    let in-rows : In-rows = search in
-    words-next (at-loop .loop .inv) (at-loop2 .loop2 .inv) (c .loop2-test .left) (in-rows .rows-test .taken) (in-loop .loop-test .taken)
-
-rows-again : tie.Need-rows-again Inv-loop2 μ-loop2 Inv-loop μ-loop Inv-rows μ-rows
-rows-again c =
-    let at-loop : At-loop = search in
-    let in-rows : In-rows = search in
-    let at-rows : At-rows = search in
-    rows-next (at-rows .rows .inv) (at-loop .loop .inv) (c .loop-test .left) (in-rows .rows-test .taken)
-
-returns-3 : tie.Need-returns-3 Inv-loop2 μ-loop2 Inv-loop μ-loop Inv-rows μ-rows
-returns-3 c =
-    let at-rows : At-rows = search in
-    let else2 : Else2 = search in
-    let else1 : Else1 = search in
-    let after-count-pairs : After-count-pairs = search in
-    figures-scanned _ _ _ _ _ _ (after-count-pairs .count-pairs .ensures) (else1 .if1 .left) (else2 .if2 .left)
-    (scan-whole (at-rows .rows .inv) (c .rows-test .left))
-
-returns-4 : tie.Need-returns-4 Inv-loop2 μ-loop2 Inv-loop μ-loop Inv-rows μ-rows
-returns-4 c =
-    let after-pair-is-sound : After-pair-is-sound = search in
-    let after-least : After-least = search in
-    let at-loop2 : At-loop2 = search in
-    let in-loop : In-loop = search in
-    let in-rows : In-rows = search in
-    let else2 : Else2 = search in
-    let else1 : Else1 = search in
-    let after-count-pairs : After-count-pairs = search in
-    figures-scanned _ _ _ _ _ _ (after-count-pairs .count-pairs .ensures) (else1 .if1 .left) (else2 .if2 .left)
-    (scan-fault _ _ (at-loop2 .loop2 .inv) (after-least .least .ensures) (after-pair-is-sound .pair-is-sound .ensures) (c .if3 .taken)
-    (in-rows .rows-test .taken) (in-loop .loop-test .taken))
-
 pub figures-are-sound-spec : {M : Type 1} → statement M
 figures-are-sound-spec =
     tie.close
@@ -182,29 +40,29 @@ figures-are-sound-spec =
     Inv-rows
     μ-rows
     (λ c. search needs)  -- count-pairs-requires
-    returns
+    (λ c. search figures-miscounted)  -- returns
     (λ c. search needs)  -- mul-if2
-    returns-2
-    rows-holds
+    (λ c. search figures-too-long)  -- returns-2
+    (λ c. search rows-start)  -- rows-holds
     (λ c. search needs)  -- mul-rows
-    loop-holds
-    mul-x
-    add-x
-    mul-x-2
-    shared-slice-read-x
-    loop2-holds
+    (λ c. search words-start)  -- loop-holds
+    (λ c. search needs)  -- mul-x
+    (λ c. search needs)  -- add-x
+    (λ c. search needs)  -- mul-x-2
+    (λ c. search needs)  -- shared-slice-read-x
+    (λ c. search bits-start)  -- loop2-holds
     (λ c. search needs)  -- mul-high
     (λ c. search needs)  -- least-requires
-    add-high
-    pair-is-sound-requires
+    (λ c. search needs)  -- add-high
+    (λ c. search needs)  -- pair-is-sound-requires
     (λ c. search needs)  -- drop-least-requires
-    loop2-less
-    loop2-again
+    (λ c. search needs)  -- loop2-less
+    (λ c. search bits-next)  -- loop2-again
     (λ c. search needs)  -- add-w
     (λ c. search needs)  -- loop-less
-    loop-again
+    (λ c. search words-next)  -- loop-again
     (λ c. search needs)  -- add-low
     (λ c. search needs)  -- rows-less
-    rows-again
-    returns-3
-    returns-4)
+    (λ c. search rows-next)  -- rows-again
+    (λ c. search (scan-whole, figures-scanned))  -- returns-3
+    (λ c. search (scan-fault, figures-scanned)))  -- returns-4

@@ -1,7 +1,6 @@
 -- `checks::link_is_sound` meets its contract: each early answer has a part of the test that fails, and the last part is the answer.
 -- Assumes nothing.
 use mathlib.Core.Path.{_∙_}
-use native.Mathlib.Omega.{arith}
 use borrow.Author.Needs.{needs}
 use borrow.Author.Tests.{eq-eqb, ne-eqb}
 use Rattle.rows.proofs.Places.{row-fits}
@@ -37,15 +36,6 @@ returns-3 c =
     let v = test-passed (after-is-open2 .is-open2 .ensures) (else2 .if2 .left) in
     rw (u, v, eq-eqb _ _ (c .if3 .taken))
 
-row-test-requires : tie.Need-row-test-requires
-row-test-requires c κs =
-    let start : tie.Start = search in
-    record {
-      row = omega (arith, row-fits _ _ _ (start .pre .1) (start .pre .0 .rows), row-fits _ _ _ (start .pre .2) (start .pre .0 .rows));
-      below = search needs;
-      column = search needs;
-    }
-
 returns-4 : tie.Need-returns-4
 unfolding soundLink networkOf
 returns-4 c =
@@ -67,5 +57,5 @@ link-is-sound-spec =
     (λ c. search needs)  -- is-open-requires-2
     returns-2
     returns-3
-    row-test-requires
+    (λ c κs. search row-fits)  -- row-test-requires
     returns-4)

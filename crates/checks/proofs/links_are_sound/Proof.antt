@@ -1,9 +1,7 @@
 -- `checks::links_are_sound` meets its contract: the number is compared first; then rows, words and set bits that are done have passed, so the scan
 -- ends with the whole table passed, or at a bit that refutes the test. Measures: rows, words and what is left of the word. Assumes nothing.
 use Prim.Native.Nat.{_*_, _-_}
-use native.Mathlib.Omega.{arith}
 use borrow.Author.Needs.{needs}
-use Rattle.rows.proofs.Places.{place-lt}
 use Rattle.map.specs.Memory.{networkOf}
 use Rattle.checks.specs.Sound.{soundLink}
 use Rattle.checks.proofs.Scans.{BitsDone, WordsDone, RowsDone, bits-start, bits-next, words-start, words-next, rows-start, rows-next}
@@ -30,137 +28,6 @@ Inv-rows links codes words number fine₀ u₀ fine u = RowsDone words links (so
 abbrev μ-rows : tie.MeasureT-rows
 μ-rows links codes words number fine₀ u₀ fine u = 64 * words - u
 
--- the places, at this invariant and measure
-abbrev Start : Type 0
-Start = tie.Start Inv-loop2 μ-loop2 Inv-loop μ-loop Inv-rows μ-rows
-
-abbrev After-degree : Type 0
-After-degree = tie.After-degree Inv-loop2 μ-loop2 Inv-loop μ-loop Inv-rows μ-rows
-
-abbrev Else1 : Type 0
-Else1 = tie.Else1 Inv-loop2 μ-loop2 Inv-loop μ-loop Inv-rows μ-rows
-
-abbrev At-rows : Type 0
-At-rows = tie.At-rows Inv-loop2 μ-loop2 Inv-loop μ-loop Inv-rows μ-rows
-
-abbrev In-rows : Type 0
-In-rows = tie.In-rows Inv-loop2 μ-loop2 Inv-loop μ-loop Inv-rows μ-rows
-
-abbrev At-loop : Type 0
-At-loop = tie.At-loop Inv-loop2 μ-loop2 Inv-loop μ-loop Inv-rows μ-rows
-
-abbrev In-loop : Type 0
-In-loop = tie.In-loop Inv-loop2 μ-loop2 Inv-loop μ-loop Inv-rows μ-rows
-
-abbrev At-loop2 : Type 0
-At-loop2 = tie.At-loop2 Inv-loop2 μ-loop2 Inv-loop μ-loop Inv-rows μ-rows
-
-abbrev After-least : Type 0
-After-least = tie.After-least Inv-loop2 μ-loop2 Inv-loop μ-loop Inv-rows μ-rows
-
-abbrev After-link-is-sound : Type 0
-After-link-is-sound = tie.After-link-is-sound Inv-loop2 μ-loop2 Inv-loop μ-loop Inv-rows μ-rows
-
-abbrev Else2 : Type 0
-Else2 = tie.Else2 Inv-loop2 μ-loop2 Inv-loop μ-loop Inv-rows μ-rows
-
-returns : tie.Need-returns Inv-loop2 μ-loop2 Inv-loop μ-loop Inv-rows μ-rows
-returns c =
-    let after-degree : After-degree = search in
-    links-miscounted _ _ _ (after-degree .degree .ensures) (c .if1 .taken)
-
-rows-holds : tie.Need-rows-holds Inv-loop2 μ-loop2 Inv-loop μ-loop Inv-rows μ-rows
-rows-holds c = rows-start
-
-loop-holds : tie.Need-loop-holds Inv-loop2 μ-loop2 Inv-loop μ-loop Inv-rows μ-rows
-loop-holds c =
-    let at-rows : At-rows = search in
-    words-start (at-rows .rows .inv .fine)
-
-mul-x : tie.Need-mul-x Inv-loop2 μ-loop2 Inv-loop μ-loop Inv-rows μ-rows
-mul-x c =
-    let in-rows : In-rows = search in
-    omega (arith, place-lt _ _ _ (in-rows .rows-test .taken) (c .loop-test .taken))
-
-add-x : tie.Need-add-x Inv-loop2 μ-loop2 Inv-loop μ-loop Inv-rows μ-rows
-add-x c =
-    let in-rows : In-rows = search in
-    omega (arith, place-lt _ _ _ (in-rows .rows-test .taken) (c .loop-test .taken))
-
-mul-x-2 : tie.Need-mul-x-2 Inv-loop2 μ-loop2 Inv-loop μ-loop Inv-rows μ-rows
-mul-x-2 c =
-    let in-rows : In-rows = search in
-    omega (arith, place-lt _ _ _ (in-rows .rows-test .taken) (c .loop-test .taken))
-
-shared-slice-read-x :
-    tie.Need-shared-slice-read-x Inv-loop2 μ-loop2 Inv-loop μ-loop Inv-rows μ-rows
-shared-slice-read-x c =
-    let in-loop : In-loop = search in
-    let in-rows : In-rows = search in
-    omega (arith, place-lt _ _ _ (in-rows .rows-test .taken) (in-loop .loop-test .taken))
-
-loop2-holds : tie.Need-loop2-holds Inv-loop2 μ-loop2 Inv-loop μ-loop Inv-rows μ-rows
-loop2-holds c =
-    let at-loop : At-loop = search in
-    bits-start (at-loop .loop .inv .fine)
-
-add-v : tie.Need-add-v Inv-loop2 μ-loop2 Inv-loop μ-loop Inv-rows μ-rows
-add-v c = omega (arith, c .least .ensures .below)
-
-link-is-sound-requires :
-    tie.Need-link-is-sound-requires Inv-loop2 μ-loop2 Inv-loop μ-loop Inv-rows μ-rows
-link-is-sound-requires c κs =
-    let in-rows : In-rows = search in
-    let start : Start = search in
-    (start .pre, in-rows .rows-test .taken, omega (arith, c .least .ensures .below))
-
-loop2-less : tie.Need-loop2-less Inv-loop2 μ-loop2 Inv-loop μ-loop Inv-rows μ-rows
-loop2-less c = c .drop-least .ensures .less
-
-loop2-again : tie.Need-loop2-again Inv-loop2 μ-loop2 Inv-loop μ-loop Inv-rows μ-rows
-loop2-again c =
-    let else2 : Else2 = search in
-    let after-link-is-sound : After-link-is-sound = search in
-    let after-least : After-least = search in
-    let at-loop2 : At-loop2 = search in
-    bits-next (at-loop2 .loop2 .inv) (after-least .least .ensures) (c .drop-least .ensures)
-    (after-link-is-sound .link-is-sound .ensures) (else2 .if2 .left)
-
-loop-again : tie.Need-loop-again Inv-loop2 μ-loop2 Inv-loop μ-loop Inv-rows μ-rows
-loop-again c =
-    let at-loop2 : At-loop2 = search in
-    let in-loop : In-loop = search in
-    let at-loop : At-loop = search in
-    let in-rows : In-rows = search in
-    words-next (at-loop .loop .inv) (at-loop2 .loop2 .inv) (c .loop2-test .left) (in-rows .rows-test .taken) (in-loop .loop-test .taken)
-
-rows-again : tie.Need-rows-again Inv-loop2 μ-loop2 Inv-loop μ-loop Inv-rows μ-rows
-rows-again c =
-    let at-loop : At-loop = search in
-    let in-rows : In-rows = search in
-    let at-rows : At-rows = search in
-    rows-next (at-rows .rows .inv) (at-loop .loop .inv) (c .loop-test .left) (in-rows .rows-test .taken)
-
-returns-2 : tie.Need-returns-2 Inv-loop2 μ-loop2 Inv-loop μ-loop Inv-rows μ-rows
-returns-2 c =
-    let at-rows : At-rows = search in
-    let else1 : Else1 = search in
-    let after-degree : After-degree = search in
-    links-scanned _ _ _ (after-degree .degree .ensures) (else1 .if1 .left) (scan-whole (at-rows .rows .inv) (c .rows-test .left))
-
-returns-3 : tie.Need-returns-3 Inv-loop2 μ-loop2 Inv-loop μ-loop Inv-rows μ-rows
-returns-3 c =
-    let after-link-is-sound : After-link-is-sound = search in
-    let after-least : After-least = search in
-    let at-loop2 : At-loop2 = search in
-    let in-loop : In-loop = search in
-    let in-rows : In-rows = search in
-    let else1 : Else1 = search in
-    let after-degree : After-degree = search in
-    links-scanned _ _ _ (after-degree .degree .ensures) (else1 .if1 .left)
-    (scan-fault _ _ (at-loop2 .loop2 .inv) (after-least .least .ensures) (after-link-is-sound .link-is-sound .ensures) (c .if2 .taken)
-    (in-rows .rows-test .taken) (in-loop .loop-test .taken))
-
 pub links-are-sound-spec : {M : Type 1} → statement M
 links-are-sound-spec =
     tie.close
@@ -172,27 +39,27 @@ links-are-sound-spec =
     Inv-rows
     μ-rows
     (λ c. search needs)  -- degree-requires
-    returns
-    rows-holds
+    (λ c. search links-miscounted)  -- returns
+    (λ c. search rows-start)  -- rows-holds
     (λ c. search needs)  -- mul-rows
-    loop-holds
-    mul-x
-    add-x
-    mul-x-2
-    shared-slice-read-x
-    loop2-holds
+    (λ c. search words-start)  -- loop-holds
+    (λ c. search needs)  -- mul-x
+    (λ c. search needs)  -- add-x
+    (λ c. search needs)  -- mul-x-2
+    (λ c. search needs)  -- shared-slice-read-x
+    (λ c. search bits-start)  -- loop2-holds
     (λ c. search needs)  -- mul-v
     (λ c. search needs)  -- least-requires
-    add-v
-    link-is-sound-requires
+    (λ c. search needs)  -- add-v
+    (λ c. search needs)  -- link-is-sound-requires
     (λ c. search needs)  -- drop-least-requires
-    loop2-less
-    loop2-again
+    (λ c. search needs)  -- loop2-less
+    (λ c. search bits-next)  -- loop2-again
     (λ c. search needs)  -- add-w
     (λ c. search needs)  -- loop-less
-    loop-again
+    (λ c. search words-next)  -- loop-again
     (λ c. search needs)  -- add-u
     (λ c. search needs)  -- rows-less
-    rows-again
-    returns-2
-    returns-3)
+    (λ c. search rows-next)  -- rows-again
+    (λ c. search (scan-whole, links-scanned))  -- returns-2
+    (λ c. search (scan-fault, links-scanned)))  -- returns-3

@@ -13,9 +13,6 @@ Inv-loop next₀ seen words all₀ j₀ next all j = Keeping words seen next₀ 
 abbrev μ-loop : tie.MeasureT-loop
 μ-loop next₀ seen words all₀ j₀ next all j = words - j
 
-loop-holds : tie.Need-loop-holds Inv-loop μ-loop
-loop-holds c = keep-start _ _ _
-
 loop-again : tie.Need-loop-again Inv-loop μ-loop
 loop-again c =
     let after-slice-known : tie.After-slice-known Inv-loop μ-loop = search in
@@ -24,18 +21,13 @@ loop-again c =
     keep-next _ _ _ _ _ _ (l .inv) (omega arith) (omega arith) (after-slice-known .slice-known .given (l .j) .fits)
     (c .shared-slice-known .given (l .j) .fits)
 
-returns : tie.Need-returns Inv-loop μ-loop
-returns c =
-    let at-loop : tie.At-loop Inv-loop μ-loop = search in
-    keep-end _ _ _ _ _ _ (at-loop .loop .inv) (c .loop-test .left)
-
 pub keep-unseen-spec : {M : Type 1} → statement M
 keep-unseen-spec =
     tie.close
     (tie.spec
     Inv-loop
     μ-loop
-    loop-holds
+    (λ c. search keep-start)  -- loop-holds
     (λ c. search needs)  -- mul-x
     (λ c. search needs)  -- slice-read-x
     (λ c. search needs)  -- mul-x-2
@@ -46,4 +38,4 @@ keep-unseen-spec =
     (λ c. search needs)  -- loop-less
     loop-again
     (λ c. search needs)  -- same-length
-    returns)
+    (λ c. search keep-end))  -- returns

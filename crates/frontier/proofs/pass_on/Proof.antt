@@ -13,9 +13,6 @@ Inv-loop other₀ seen₀ next words j₀ other seen j = Passing words next othe
 abbrev μ-loop : tie.MeasureT-loop
 μ-loop other₀ seen₀ next words j₀ other seen j = words - j
 
-loop-holds : tie.Need-loop-holds Inv-loop μ-loop
-loop-holds c = pass-start _ _ _ _
-
 loop-again : tie.Need-loop-again Inv-loop μ-loop
 loop-again c =
     let after-shared-slice-known : tie.After-shared-slice-known Inv-loop μ-loop = search in
@@ -24,18 +21,13 @@ loop-again c =
     pass-next _ _ _ _ _ _ _ (l .inv) (omega arith) (omega arith) (omega arith)
     (after-shared-slice-known .shared-slice-known .given (l .j) .fits) (c .slice-known .given (l .j) .fits)
 
-returns : tie.Need-returns Inv-loop μ-loop
-returns c =
-    let at-loop : tie.At-loop Inv-loop μ-loop = search in
-    pass-end _ _ _ _ _ _ _ (at-loop .loop .inv) (c .loop-test .left)
-
 pub pass-on-spec : {M : Type 1} → statement M
 pass-on-spec =
     tie.close
     (tie.spec
     Inv-loop
     μ-loop
-    loop-holds
+    (λ c. search pass-start)  -- loop-holds
     (λ c. search needs)  -- mul-x
     (λ c. search needs)  -- shared-slice-read-x
     (λ c. search needs)  -- mul-other
@@ -49,4 +41,4 @@ pass-on-spec =
     loop-again
     (λ c. search needs)  -- same-length
     (λ c. search needs)  -- same-length-2
-    returns)
+    (λ c. search pass-end))  -- returns

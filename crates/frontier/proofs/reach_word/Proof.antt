@@ -14,49 +14,33 @@ Inv-loop hops₀ links words w word j k a₀ b₀ c₀ d₀ x₀ hops a b c d x 
 abbrev μ-loop : tie.MeasureT-loop
 μ-loop hops₀ links words w word j k a₀ b₀ c₀ d₀ x₀ hops a b c d x = x
 
-loop-holds : tie.Need-loop-holds Inv-loop μ-loop
-loop-holds c =
-    let start : tie.Start Inv-loop μ-loop = search in
-    bits-start _ _ _ _ _ _ _ _ (start .pre .1) (omega arith)
-
-add-v : tie.Need-add-v Inv-loop μ-loop
-add-v c = omega (arith, c .least .ensures .below)
-
-mul-hops : tie.Need-mul-hops Inv-loop μ-loop
-mul-hops c = omega (arith, c .least .ensures .below)
-
-slice-write-hops : tie.Need-slice-write-hops Inv-loop μ-loop
-slice-write-hops c = omega (arith, c .least .ensures .below)
-
 with-word-requires : tie.Need-with-word-requires Inv-loop μ-loop
 with-word-requires c κs =
-    let start : tie.Start Inv-loop μ-loop = search in
-    let l = c .least .ensures .below in
-    (row-fits _ _ _ (omega arith) (start .pre .0 .table), omega arith)
+    let start : tie.Start Inv-loop μ-loop = search in (
+      row-fits _ _ _ (omega arith) (start .pre .0 .table),
+      search needs,
+    )
 
 with-word-requires-2 : tie.Need-with-word-requires-2 Inv-loop μ-loop
 with-word-requires-2 c κs =
-    let after-least : tie.After-least Inv-loop μ-loop = search in
-    let start : tie.Start Inv-loop μ-loop = search in
-    let l = after-least .least .ensures .below in
-    (row-fits _ _ _ (omega arith) (start .pre .0 .table), omega arith)
+    let start : tie.Start Inv-loop μ-loop = search in (
+      row-fits _ _ _ (omega arith) (start .pre .0 .table),
+      search needs,
+    )
 
 with-word-requires-3 : tie.Need-with-word-requires-3 Inv-loop μ-loop
 with-word-requires-3 c κs =
-    let after-least : tie.After-least Inv-loop μ-loop = search in
-    let start : tie.Start Inv-loop μ-loop = search in
-    let l = after-least .least .ensures .below in
-    (row-fits _ _ _ (omega arith) (start .pre .0 .table), omega arith)
+    let start : tie.Start Inv-loop μ-loop = search in (
+      row-fits _ _ _ (omega arith) (start .pre .0 .table),
+      search needs,
+    )
 
 with-word-requires-4 : tie.Need-with-word-requires-4 Inv-loop μ-loop
 with-word-requires-4 c κs =
-    let after-least : tie.After-least Inv-loop μ-loop = search in
-    let start : tie.Start Inv-loop μ-loop = search in
-    let l = after-least .least .ensures .below in
-    (row-fits _ _ _ (omega arith) (start .pre .0 .table), omega arith)
-
-loop-less : tie.Need-loop-less Inv-loop μ-loop
-loop-less c = c .drop-least .ensures .less
+    let start : tie.Start Inv-loop μ-loop = search in (
+      row-fits _ _ _ (omega arith) (start .pre .0 .table),
+      search needs,
+    )
 
 loop-again : tie.Need-loop-again Inv-loop μ-loop
 loop-again c =
@@ -72,23 +56,18 @@ loop-again c =
     (after-with-word2 .with-word2 .ensures)
     (after-with-word3 .with-word3 .ensures) (after-with-word4 .with-word4 .ensures)
 
-returns : tie.Need-returns Inv-loop μ-loop
-returns c =
-    let at-loop : tie.At-loop Inv-loop μ-loop = search in
-    bits-end _ _ _ _ _ _ _ (at-loop .loop .inv) (c .loop-test .left)
-
 pub reach-word-spec : {M : Type 1} → statement M
 reach-word-spec =
     tie.close
     (tie.spec
     Inv-loop
     μ-loop
-    loop-holds
+    (λ c. search bits-start)  -- loop-holds
     (λ c. search needs)  -- mul-v
     (λ c. search needs)  -- least-requires
-    add-v
-    mul-hops
-    slice-write-hops
+    (λ c. search needs)  -- add-v
+    (λ c. search needs)  -- mul-hops
+    (λ c. search needs)  -- slice-write-hops
     with-word-requires
     (λ c. search needs)  -- add-with-word
     with-word-requires-2
@@ -97,7 +76,7 @@ reach-word-spec =
     (λ c. search needs)  -- add-with-word-3
     with-word-requires-4
     (λ c. search needs)  -- drop-least-requires
-    loop-less
+    (λ c. search needs)  -- loop-less
     loop-again
     (λ c. search needs)  -- same-length
-    returns)
+    (λ c. search bits-end))  -- returns

@@ -2,7 +2,6 @@
 -- words left. Assumes nothing.
 use mathlib.Core.Path.{_∙_}
 use Prim.Native.Nat.{_-_}
-use native.Mathlib.Omega.{arith}
 use borrow.Author.Needs.{needs}
 use Rattle.frontier.proofs.Visits.{FoursVisited, fours-start, fours-next, fours-end}
 use Rattle.frontier.proofs.visit.Statement.{statement}
@@ -38,16 +37,11 @@ before-at-loop c = search
 
 ruleset back = (before-put-word4, before-put-word3, before-put-word2, before-put-word, before-reach-layer, before-in-loop, before-at-loop)
 
-loop-holds : tie.Need-loop-holds Inv-loop μ-loop
-loop-holds c =
-    let start : tie.Start Inv-loop μ-loop = search back in
-    fours-start _ _ _ _ _ _ (start .pre .0 .positive)
-
 add-j : tie.Need-add-j Inv-loop μ-loop
 add-j c =
     let in-loop : tie.In-loop Inv-loop μ-loop = search back in
     let start : tie.Start Inv-loop μ-loop = search back in
-    omega (arith, start .pre .0 .most, in-loop .loop-test .taken)
+    search needs
 
 loop-again : tie.Need-loop-again Inv-loop μ-loop
 loop-again c =
@@ -64,19 +58,13 @@ loop-again c =
     (after-put-word4 .put-word4 .kept .0 ∙ after-put-word3 .put-word3 .kept .0 ∙ after-put-word2 .put-word2 .kept .0
     ∙ after-put-word .put-word .kept .0) (after-reach-layer .reach-layer .kept .0)
 
-returns : tie.Need-returns Inv-loop μ-loop
-returns c =
-    let at-loop : tie.At-loop Inv-loop μ-loop = search back in
-    let start : tie.Start Inv-loop μ-loop = search back in
-    fours-end _ _ _ _ _ (at-loop .loop .inv) (start .pre .0 .positive) (c .loop-test .left)
-
 pub visit-spec : {M : Type 1} → statement M
 visit-spec =
     tie.close
     (tie.spec
     Inv-loop
     μ-loop
-    loop-holds
+    (λ c. search fours-start)  -- loop-holds
     (λ c. search needs)  -- reach-layer-requires
     (λ c. search needs)  -- put-word-requires
     (λ c. search needs)  -- add-put-word
@@ -90,4 +78,4 @@ visit-spec =
     loop-again
     (λ c. search needs)  -- same-length
     (λ c. search needs)  -- same-length-2
-    returns)
+    (λ c. search fours-end))  -- returns

@@ -33,7 +33,8 @@ shared-slice-read-x c =
 add-lower-part : tie.Need-add-lower-part Inv-loop μ-loop
 add-lower-part c =
     let start : tie.Start Inv-loop μ-loop = search in
-    let pre = start .pre in omega (arith, pre .2, pre .0 .most)
+    let pre = start .pre in
+    omega (arith, pre .2, pre .0 .most)
 
 lower-part-requires : tie.Need-lower-part-requires Inv-loop μ-loop
 lower-part-requires c κs =
@@ -47,14 +48,6 @@ lower-part-requires-2 c κs =
     let start : tie.Start Inv-loop μ-loop = search in
     omega (arith, in-loop .loop-test .taken, start .pre .0 .most)
 
-put-upper-requires : tie.Need-put-upper-requires Inv-loop μ-loop
-put-upper-requires c κs =
-    let in-loop : tie.In-loop Inv-loop μ-loop = search in
-    let at-loop : tie.At-loop Inv-loop μ-loop = search in
-    let start : tie.Start Inv-loop μ-loop = search in
-    let pre = start .pre in
-    (holds-counted (at-loop .loop .inv .holds) (pre .0 .positive) (pre .0 .most) (pre .0 .table), pre .2, in-loop .loop-test .taken)
-
 put-lower-requires : tie.Need-put-lower-requires Inv-loop μ-loop
 put-lower-requires c κs =
     let after-put-upper : tie.After-put-upper Inv-loop μ-loop = search in
@@ -62,8 +55,11 @@ put-lower-requires c κs =
     let at-loop : tie.At-loop Inv-loop μ-loop = search in
     let start : tie.Start Inv-loop μ-loop = search in
     let pre = start .pre in
-    let upper = add-upper (at-loop .loop .inv) (in-loop .loop-test .taken) _ (after-put-upper .put-upper .ensures) in
-    (holds-counted upper (pre .0 .positive) (pre .0 .most) (pre .0 .table), pre .2, in-loop .loop-test .taken)
+    let upper = add-upper (at-loop .loop .inv) (in-loop .loop-test .taken) _ (after-put-upper .put-upper .ensures) in (
+      holds-counted upper (pre .0 .positive) (pre .0 .most) (pre .0 .table),
+      pre .2,
+      in-loop .loop-test .taken,
+    )
 
 add-j : tie.Need-add-j Inv-loop μ-loop
 add-j c =
@@ -90,12 +86,6 @@ loop-again c =
     (upper-bits _ _ _ (after-shared-slice-known2 .shared-slice-known2 .given _ .fits) (after-lower-part .lower-part .ensures))
     (lower-bits _ _ _ (after-lower-part2 .lower-part2 .ensures))
 
-same-length : tie.Need-same-length Inv-loop μ-loop
-same-length c =
-    let at-loop : tie.At-loop Inv-loop μ-loop = search in
-    let start : tie.Start Inv-loop μ-loop = search in
-    holds-length (at-loop .loop .inv .holds) (start .pre .0 .table)
-
 returns : tie.Need-returns Inv-loop μ-loop
 returns c =
     let at-loop : tie.At-loop Inv-loop μ-loop = search in
@@ -113,10 +103,10 @@ add-pairs-spec =
     add-lower-part
     lower-part-requires
     lower-part-requires-2
-    put-upper-requires
+    (λ c κs. search holds-counted)  -- put-upper-requires
     put-lower-requires
     add-j
     loop-less
     loop-again
-    same-length
+    (λ c. search holds-length)  -- same-length
     returns)

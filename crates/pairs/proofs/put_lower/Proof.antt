@@ -18,43 +18,6 @@ loop-holds c =
     let start : tie.Start Inv-loop μ-loop = search in
     lower-start _ _ _ _ _ (holds-whole (start .pre .0) (λ i l. c .slice-known .given i .fits))
 
-mul-low : tie.Need-mul-low Inv-loop μ-loop
-mul-low c =
-    let start : tie.Start Inv-loop μ-loop = search in
-    let pre = start .pre in omega (arith, pre .0 .most, pre .2)
-
-add-low : tie.Need-add-low Inv-loop μ-loop
-add-low c =
-    let start : tie.Start Inv-loop μ-loop = search in
-    let pre = start .pre in omega (arith, pre .0 .most, pre .2, c .least .ensures .below)
-
-put-pair-requires : tie.Need-put-pair-requires Inv-loop μ-loop
-put-pair-requires c κs =
-    let after-least : tie.After-least Inv-loop μ-loop = search in
-    let at-loop : tie.At-loop Inv-loop μ-loop = search in
-    let start : tie.Start Inv-loop μ-loop = search in
-    let pre = start .pre in (
-      holds-counted (at-loop .loop .inv .holds) (pre .0 .positive) (pre .0 .most) (pre .0 .table),
-      omega (arith, pre .2, after-least .least .ensures .below),
-      pre .1,
-    )
-
-loop-less : tie.Need-loop-less Inv-loop μ-loop
-loop-less c = c .drop-least .ensures .less
-
-loop-again : tie.Need-loop-again Inv-loop μ-loop
-loop-again c =
-    let after-put-pair : tie.After-put-pair Inv-loop μ-loop = search in
-    let after-least : tie.After-least Inv-loop μ-loop = search in
-    let at-loop : tie.At-loop Inv-loop μ-loop = search in
-    lower-more _ _ _ _ _ (at-loop .loop .inv) (after-least .least .ensures) (c .drop-least .ensures) (after-put-pair .put-pair .ensures)
-
-same-length : tie.Need-same-length Inv-loop μ-loop
-same-length c =
-    let at-loop : tie.At-loop Inv-loop μ-loop = search in
-    let start : tie.Start Inv-loop μ-loop = search in
-    holds-length (at-loop .loop .inv .holds) (start .pre .0 .table)
-
 returns : tie.Need-returns Inv-loop μ-loop
 returns c =
     let at-loop : tie.At-loop Inv-loop μ-loop = search in
@@ -67,12 +30,12 @@ put-lower-spec =
     Inv-loop
     μ-loop
     loop-holds
-    mul-low
+    (λ c. search needs)  -- mul-low
     (λ c. search needs)  -- least-requires
-    add-low
-    put-pair-requires
+    (λ c. search needs)  -- add-low
+    (λ c κs. search (holds-counted, needs))  -- put-pair-requires
     (λ c. search needs)  -- drop-least-requires
-    loop-less
-    loop-again
-    same-length
+    (λ c. search needs)  -- loop-less
+    (λ c. search lower-more)  -- loop-again
+    (λ c. search holds-length)  -- same-length
     returns)

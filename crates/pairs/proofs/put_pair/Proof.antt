@@ -20,23 +20,11 @@ entered c =
     let start : tie.Start = search in
     holds-whole (start .pre .0) (λ i l. c .slice-known .given i .fits)
 
-row-test-requires : tie.Need-row-test-requires
-row-test-requires c κs =
-    let start : tie.Start = search in
-    let pre = start .pre in
-    record { row = row-fits _ _ _ (pre .1) (pre .0 .table); below = search needs; column = search needs }
-
 returns : tie.Need-returns
 returns c =
     let after-row-test : tie.After-row-test = search in
     let after-slice-known : tie.After-slice-known = search in
     put-old _ _ (entered after-slice-known) (sym (after-row-test .row-test .ensures) ∙ c .if1 .taken) .is
-
-row-set-requires : tie.Need-row-set-requires
-row-set-requires c κs =
-    let start : tie.Start = search in
-    let pre = start .pre in
-    record { row = row-fits _ _ _ (pre .1) (pre .0 .table); below = search needs; column = search needs }
 
 add-result : tie.Need-add-result
 add-result c =
@@ -58,10 +46,10 @@ pub put-pair-spec : {M : Type 1} → statement M
 put-pair-spec =
     tie.close
     (tie.spec
-    row-test-requires
+    (λ c κs. search row-fits)  -- row-test-requires
     (λ c. search needs)  -- same-length
     returns
-    row-set-requires
+    (λ c κs. search row-fits)  -- row-set-requires
     add-result
     (λ c. search needs)  -- same-length-2
     returns-2)

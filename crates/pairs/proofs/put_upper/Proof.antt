@@ -11,32 +11,38 @@ use Rattle.pairs.proofs.put_upper.Tie as tie
 mul-i : tie.Need-mul-i
 mul-i c =
     let start : tie.Start = search in
-    let pre = start .pre in omega (arith, row-fits _ _ _ (pre .1) (pre .0 .table), pre .2)
+    let pre = start .pre in
+    omega (arith, row-fits _ _ _ (pre .1) (pre .0 .table), pre .2)
 
 add-i : tie.Need-add-i
 add-i c =
     let start : tie.Start = search in
-    let pre = start .pre in omega (arith, row-fits _ _ _ (pre .1) (pre .0 .table), pre .2)
+    let pre = start .pre in
+    omega (arith, row-fits _ _ _ (pre .1) (pre .0 .table), pre .2)
 
 mul-old : tie.Need-mul-old
 mul-old c =
     let start : tie.Start = search in
-    let pre = start .pre in omega (arith, row-fits _ _ _ (pre .1) (pre .0 .table), pre .2)
+    let pre = start .pre in
+    omega (arith, row-fits _ _ _ (pre .1) (pre .0 .table), pre .2)
 
 slice-read-old : tie.Need-slice-read-old
 slice-read-old c =
     let start : tie.Start = search in
-    let pre = start .pre in omega (arith, row-fits _ _ _ (pre .1) (pre .0 .table), pre .2)
+    let pre = start .pre in
+    omega (arith, row-fits _ _ _ (pre .1) (pre .0 .table), pre .2)
 
 mul-pairs : tie.Need-mul-pairs
 mul-pairs c =
     let start : tie.Start = search in
-    let pre = start .pre in omega (arith, row-fits _ _ _ (pre .1) (pre .0 .table), pre .2)
+    let pre = start .pre in
+    omega (arith, row-fits _ _ _ (pre .1) (pre .0 .table), pre .2)
 
 slice-write-pairs : tie.Need-slice-write-pairs
 slice-write-pairs c =
     let start : tie.Start = search in
-    let pre = start .pre in omega (arith, row-fits _ _ _ (pre .1) (pre .0 .table), pre .2)
+    let pre = start .pre in
+    omega (arith, row-fits _ _ _ (pre .1) (pre .0 .table), pre .2)
 
 add-result : tie.Need-add-result
 add-result c =

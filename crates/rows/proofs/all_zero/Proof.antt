@@ -12,15 +12,6 @@ Inv-loop t base n union₀ j₀ union j = Union t base n union j
 abbrev μ-loop : tie.MeasureT-loop
 μ-loop t base n union₀ j₀ union j = n - j
 
-loop-holds : tie.Need-loop-holds Inv-loop μ-loop
-loop-holds c = union-start _ _ _
-
-loop-again : tie.Need-loop-again Inv-loop μ-loop
-loop-again c =
-    let in-loop : tie.In-loop Inv-loop μ-loop = search in
-    let at-loop : tie.At-loop Inv-loop μ-loop = search in
-    union-more _ _ _ (at-loop .loop .inv) (in-loop .loop-test .taken)
-
 returns : tie.Need-returns Inv-loop μ-loop
 returns c =
     let at-loop : tie.At-loop Inv-loop μ-loop = search in
@@ -32,11 +23,11 @@ all-zero-spec =
     (tie.spec
     Inv-loop
     μ-loop
-    loop-holds
+    (λ c. search union-start)  -- loop-holds
     (λ c. search needs)  -- add-union
     (λ c. search needs)  -- mul-union
     (λ c. search needs)  -- shared-slice-read-union
     (λ c. search needs)  -- add-j
     (λ c. search needs)  -- loop-less
-    loop-again
+    (λ c. search union-more)  -- loop-again
     returns)

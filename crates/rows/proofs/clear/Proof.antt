@@ -1,10 +1,10 @@
 -- `rows::clear` meets its contract: after j turns the first j words encode the set that is ensured. The measure is the words left.
 -- Assumes nothing.
-use mathlib.Core.Path.{_≡_, refl}
+use mathlib.Core.Path.{_≡_}
 use mathlib.Core.Bool.{false}
 use Prim.Native.Nat.{_-_, _≤_}
 use native.Mathlib.Omega.{arith}
-use lib.ListN.{length, length-set}
+use lib.ListN.{length}
 use borrow.Author.Needs.{needs}
 use Rattle.lists.specs.Lists.{overwrite}
 use Rattle.rows.specs.Rows.{encodeRow}
@@ -18,14 +18,14 @@ Inv-loop row₀ words j₀ row j = (j ≤ words) × (length row ≡ length row�
 abbrev μ-loop : tie.MeasureT-loop
 μ-loop row₀ words j₀ row j = words - j
 
-loop-holds : tie.Need-loop-holds Inv-loop μ-loop
-loop-holds c = (omega arith, refl, turn-none _ _)
-
 loop-again : tie.Need-loop-again Inv-loop μ-loop
 loop-again c =
     let at-loop : tie.At-loop Inv-loop μ-loop = search in
-    let l = at-loop .loop in
-    (omega arith, simp length-set (l .inv .1), turn-clear _ (l .row) (l .j) (l .inv .2) (omega arith))
+    let l = at-loop .loop in (
+      search needs,
+      search needs,
+      turn-clear _ (l .row) (l .j) (l .inv .2) (omega arith),
+    )
 
 returns : tie.Need-returns Inv-loop μ-loop
 returns c =
@@ -40,7 +40,7 @@ clear-spec =
     (tie.spec
     Inv-loop
     μ-loop
-    loop-holds
+    (λ c. search (turn-none, needs))  -- loop-holds
     (λ c. search needs)  -- mul-row
     (λ c. search needs)  -- slice-write-row
     (λ c. search needs)  -- add-j

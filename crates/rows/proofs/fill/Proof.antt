@@ -1,11 +1,11 @@
 -- `rows::fill` meets its contract. The loop's invariant: the first v places hold x, and the others are as they were. The measure is the places left.
 -- Assumes nothing.
-use mathlib.Core.Path.{_≡_, refl, sym, ap, _∙_}
+use mathlib.Core.Path.{_≡_, ap, _∙_}
 use mathlib.Core.List.{List}
 use Prim.Native.Nat.{ℕ, _-_, _≤_}
 use native.Mathlib.Omega.{arith}
 use native.Mathlib.Nat.{le-antisymm}
-use lib.ListN.{length, set, length-set}
+use lib.ListN.{length, set}
 use borrow.Author.Needs.{needs}
 use Rattle.lists.specs.Lists.{range, mapl, overwrite}
 use Rattle.lists.proofs.Fills.{fill-none, fill-more}
@@ -18,17 +18,14 @@ Inv-loop table₀ n x v₀ table v = (v ≤ n) × (table ≡ overwrite (mapl (λ
 abbrev μ-loop : tie.MeasureT-loop
 μ-loop table₀ n x v₀ table v = n - v
 
-loop-holds : tie.Need-loop-holds Inv-loop μ-loop
-loop-holds c = (omega arith, sym (fill-none _ _), refl)
-
 loop-again : tie.Need-loop-again Inv-loop μ-loop
 loop-again c =
     let at-loop : tie.At-loop Inv-loop μ-loop = search in
     let start : tie.Start Inv-loop μ-loop = search in
     let i = at-loop .loop .inv in (
-      omega arith,
+      search needs,
       ap (λ (l : List ℕ). set l (at-loop .loop .v) (start .args .x)) (i .1) ∙ fill-more _ _ _ (omega arith),
-      simp length-set (i .2),
+      search needs,
     )
 
 returns : tie.Need-returns Inv-loop μ-loop
@@ -45,7 +42,7 @@ fill-spec =
     (tie.spec
     Inv-loop
     μ-loop
-    loop-holds
+    (λ c. search (fill-none, needs))  -- loop-holds
     (λ c. search needs)  -- mul-table
     (λ c. search needs)  -- slice-write-table
     (λ c. search needs)  -- add-v

@@ -28,14 +28,6 @@ returns c =
     let j = at-loop .loop .j in
     ap not (sym (any-word (a .words) (a .row .now) j (omega arith) (after-shared-slice-known .shared-slice-known .given j .fits) (c .if1 .taken)))
 
-loop-again : tie.Need-loop-again Inv-loop μ-loop
-loop-again c =
-    let at-loop : tie.At-loop Inv-loop μ-loop = search in
-    let start : tie.Start Inv-loop μ-loop = search in
-    let a = start .args in
-    let l = at-loop .loop in
-    (omega arith, passed-more (a .words) (a .row .now) 0 (l .j) (omega arith) (c .if1 .left) (l .inv .1))
-
 returns-2 : tie.Need-returns-2 Inv-loop μ-loop
 returns-2 c =
     let at-loop : tie.At-loop Inv-loop μ-loop = search in
@@ -55,5 +47,5 @@ is-empty-spec =
     returns
     (λ c. search needs)  -- add-j
     (λ c. search needs)  -- loop-less
-    loop-again
+    (λ c. search (passed-more, needs))  -- loop-again
     returns-2)

@@ -35,34 +35,10 @@ loop-holds c =
     let after-shared-slice-known2 : tie.After-shared-slice-known2 Inv-loop μ-loop = search in
     let start : tie.Start Inv-loop μ-loop = search in
     let a = start .args in (
-      omega arith,
-      omega arith,
-      shifted-zero (a .words) (a .row .now) (a .from) (omega arith)
-          (after-shared-slice-known2 .shared-slice-known2 .given (a .from / 64) .fits) (c .if2 .left),
+      search needs,
+      search needs,
+      shifted-zero (a .words) (a .row .now) (a .from) (omega arith) (after-shared-slice-known2 .shared-slice-known2 .given (a .from / 64) .fits) (c .if2 .left),
     )
-
-returns-3 : tie.Need-returns-3 Inv-loop μ-loop
-returns-3 c =
-    let at-loop : tie.At-loop Inv-loop μ-loop = search in
-    let start : tie.Start Inv-loop μ-loop = search in
-    let a = start .args in
-    let l = at-loop .loop in
-    passed-next (a .words) (a .row .now) (a .from) (l .j) (c .least2 .result) (omega arith) (l .inv .0) (l .inv .2) (c .least2 .ensures)
-
-loop-again : tie.Need-loop-again Inv-loop μ-loop
-loop-again c =
-    let at-loop : tie.At-loop Inv-loop μ-loop = search in
-    let start : tie.Start Inv-loop μ-loop = search in
-    let a = start .args in
-    let l = at-loop .loop in
-    (omega arith, omega arith, passed-more (a .words) (a .row .now) (a .from) (l .j) (omega arith) (c .if3 .left) (l .inv .2))
-
-returns-4 : tie.Need-returns-4 Inv-loop μ-loop
-returns-4 c =
-    let at-loop : tie.At-loop Inv-loop μ-loop = search in
-    let start : tie.Start Inv-loop μ-loop = search in
-    let a = start .args in
-    passed-all (a .words) (a .row .now) (a .from) (at-loop .loop .j) (omega arith) (at-loop .loop .inv .2)
 
 pub next-member-spec : {M : Type 1} → statement M
 next-member-spec =
@@ -84,8 +60,8 @@ next-member-spec =
     (λ c. search needs)  -- mul-t20
     (λ c. search needs)  -- least-requires-2
     (λ c. search needs)  -- add-t22
-    returns-3
+    (λ c. search passed-next)  -- returns-3
     (λ c. search needs)  -- add-j-2
     (λ c. search needs)  -- loop-less
-    loop-again
-    returns-4)
+    (λ c. search (passed-more, needs))  -- loop-again
+    (λ c. search passed-all))  -- returns-4

@@ -1,16 +1,9 @@
 -- `rows::row_test` meets its contract: the word of v in row u is read, and its bit v % 64.
 -- Assumes nothing.
-use mathlib.Core.Path.{sym, _∙_}
 use borrow.Author.Needs.{needs}
 use Rattle.rows.proofs.Written.{table-in}
 use Rattle.rows.proofs.row_test.Statement.{statement}
 use Rattle.rows.proofs.row_test.Tie as tie
-
-returns : tie.Need-returns
-returns c =
-    let start : tie.Start = search in
-    c .test .ensures ∙ sym
-    (table-in (start .args .words) (start .args .t .now) (start .args .u) (start .args .v) (start .pre .below) (start .pre .column))
 
 pub row-test-spec : {M : Type 1} → statement M
 row-test-spec =
@@ -21,4 +14,4 @@ row-test-spec =
     (λ c. search needs)  -- mul-test-2
     (λ c. search needs)  -- shared-slice-read-test
     (λ c. search needs)  -- test-requires
-    returns)
+    (λ c. search table-in))  -- returns

@@ -13,11 +13,6 @@ Inv-loop pairs words u p₀ p = Grouped words pairs u p
 abbrev μ-loop : tie.MeasureT-loop
 μ-loop pairs words u p₀ p = 64 * words - p
 
-loop-holds : tie.Need-loop-holds Inv-loop μ-loop
-loop-holds c =
-    let start : tie.Start Inv-loop μ-loop = search in
-    group-start _ _ _ (start .pre .3) (start .pre .2)
-
 mul-loop : tie.Need-mul-loop Inv-loop μ-loop
 mul-loop c =
     let start : tie.Start Inv-loop μ-loop = search in
@@ -26,18 +21,13 @@ mul-loop c =
 mul-all-zero : tie.Need-mul-all-zero Inv-loop μ-loop
 mul-all-zero c =
     let start : tie.Start Inv-loop μ-loop = search in
-    let pre = start .pre in omega (arith, row-fits _ _ _ (c .loop-test .taken) (pre .1))
+    let pre = start .pre in
+    omega (arith, row-fits _ _ _ (c .loop-test .taken) (pre .1))
 
 mul-all-zero-2 : tie.Need-mul-all-zero-2 Inv-loop μ-loop
 mul-all-zero-2 c =
     let start : tie.Start Inv-loop μ-loop = search in
     omega (arith, start .pre .0)
-
-all-zero-requires : tie.Need-all-zero-requires Inv-loop μ-loop
-all-zero-requires c κs =
-    let at-loop : tie.At-loop Inv-loop μ-loop = search in
-    let start : tie.Start Inv-loop μ-loop = search in
-    omega (arith, group-fits _ _ _ (at-loop .loop .inv .begins) (c .loop-test .taken) (start .pre .1))
 
 sub-result : tie.Need-sub-result Inv-loop μ-loop
 sub-result c =
@@ -60,13 +50,6 @@ loop-less c =
     let in-loop : tie.In-loop Inv-loop μ-loop = search in
     omega (arith, in-loop .loop-test .taken)
 
-loop-again : tie.Need-loop-again Inv-loop μ-loop
-loop-again c =
-    let after-all-zero : tie.After-all-zero Inv-loop μ-loop = search in
-    let in-loop : tie.In-loop Inv-loop μ-loop = search in
-    let at-loop : tie.At-loop Inv-loop μ-loop = search in
-    group-more _ _ _ (at-loop .loop .inv) (in-loop .loop-test .taken) (after-all-zero .all-zero .ensures) (c .if1 .left)
-
 sub-result-2 : tie.Need-sub-result-2 Inv-loop μ-loop
 sub-result-2 c =
     let at-loop : tie.At-loop Inv-loop μ-loop = search in
@@ -83,15 +66,15 @@ bare-groups-spec =
     (tie.spec
     Inv-loop
     μ-loop
-    loop-holds
+    (λ c. search group-start)  -- loop-holds
     mul-loop
     mul-all-zero
     mul-all-zero-2
-    all-zero-requires
+    (λ c κs. search group-fits)  -- all-zero-requires
     sub-result
     returns
     add-p
     loop-less
-    loop-again
+    (λ c. search group-more)  -- loop-again
     sub-result-2
     returns-2)

@@ -11,23 +11,14 @@ use Rattle.stale_pairs.proofs.bare_rows.Tie as tie
 mul-all-zero : tie.Need-mul-all-zero
 mul-all-zero c =
     let start : tie.Start = search in
-    let pre = start .pre in omega (arith, row-fits _ _ _ (pre .2) (pre .1))
-
-all-zero-requires : tie.Need-all-zero-requires
-all-zero-requires c κs =
-    let start : tie.Start = search in
-    let pre = start .pre in row-fits _ _ _ (pre .2) (pre .1)
+    let pre = start .pre in
+    omega (arith, row-fits _ _ _ (pre .2) (pre .1))
 
 returns-2 : tie.Need-returns-2
 returns-2 c =
     let after-all-zero : tie.After-all-zero = search in
     let start : tie.Start = search in
     bare-row _ _ _ (start .pre .2) (sym (c .if3 .taken) ∙ after-all-zero .all-zero .ensures)
-
-returns-3 : tie.Need-returns-3
-returns-3 c =
-    let start : tie.Start = search in
-    bare-none _ _ _ (start .pre .2)
 
 pub bare-rows-spec : {M : Type 1} → statement M
 bare-rows-spec =
@@ -36,6 +27,6 @@ bare-rows-spec =
     (λ c. search needs)  -- bare-groups-requires
     (λ c. search needs)  -- returns
     mul-all-zero
-    all-zero-requires
+    (λ c κs. search row-fits)  -- all-zero-requires
     returns-2
-    returns-3)
+    (λ c. search bare-none))  -- returns-3

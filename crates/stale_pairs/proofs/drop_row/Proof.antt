@@ -18,7 +18,8 @@ abbrev μ-loop : tie.MeasureT-loop
 mul-base : tie.Need-mul-base Inv-loop μ-loop
 mul-base c =
     let start : tie.Start Inv-loop μ-loop = search in
-    let pre = start .pre in omega (arith, row-fits _ _ _ (pre .1) (pre .0 .table))
+    let pre = start .pre in
+    omega (arith, row-fits _ _ _ (pre .1) (pre .0 .table))
 
 loop-holds : tie.Need-loop-holds Inv-loop μ-loop
 loop-holds c =
@@ -29,44 +30,37 @@ loop-holds c =
 add-i : tie.Need-add-i Inv-loop μ-loop
 add-i c =
     let start : tie.Start Inv-loop μ-loop = search in
-    let pre = start .pre in omega (arith, row-fits _ _ _ (pre .1) (pre .0 .table), c .loop-test .taken)
+    let pre = start .pre in
+    omega (arith, row-fits _ _ _ (pre .1) (pre .0 .table), c .loop-test .taken)
 
 mul-sift : tie.Need-mul-sift Inv-loop μ-loop
 mul-sift c =
     let start : tie.Start Inv-loop μ-loop = search in
-    let pre = start .pre in omega (arith, row-fits _ _ _ (pre .1) (pre .0 .table), c .loop-test .taken)
+    let pre = start .pre in
+    omega (arith, row-fits _ _ _ (pre .1) (pre .0 .table), c .loop-test .taken)
 
 slice-read-sift : tie.Need-slice-read-sift Inv-loop μ-loop
 slice-read-sift c =
     let in-loop : tie.In-loop Inv-loop μ-loop = search in
     let at-loop : tie.At-loop Inv-loop μ-loop = search in
     let start : tie.Start Inv-loop μ-loop = search in
-    let pre = start .pre in omega (arith, row-fits _ _ _ (pre .1) (pre .0 .table), in-loop .loop-test .taken, at-loop .loop .inv .size)
-
-mul-sift-2 : tie.Need-mul-sift-2 Inv-loop μ-loop
-mul-sift-2 c =
-    let in-loop : tie.In-loop Inv-loop μ-loop = search in
-    let start : tie.Start Inv-loop μ-loop = search in
-    omega (arith, in-loop .loop-test .taken, start .pre .0 .most)
-
-sift-requires : tie.Need-sift-requires Inv-loop μ-loop
-sift-requires c κs =
-    let in-loop : tie.In-loop Inv-loop μ-loop = search in
-    let start : tie.Start Inv-loop μ-loop = search in
-    let pre = start .pre in (omega (arith, pre .0 .hopped, pre .1), omega (arith, pre .0 .hopped, in-loop .loop-test .taken))
+    let pre = start .pre in
+    omega (arith, row-fits _ _ _ (pre .1) (pre .0 .table), in-loop .loop-test .taken, at-loop .loop .inv .size)
 
 mul-pairs : tie.Need-mul-pairs Inv-loop μ-loop
 mul-pairs c =
     let in-loop : tie.In-loop Inv-loop μ-loop = search in
     let start : tie.Start Inv-loop μ-loop = search in
-    let pre = start .pre in omega (arith, row-fits _ _ _ (pre .1) (pre .0 .table), in-loop .loop-test .taken)
+    let pre = start .pre in
+    omega (arith, row-fits _ _ _ (pre .1) (pre .0 .table), in-loop .loop-test .taken)
 
 slice-write-pairs : tie.Need-slice-write-pairs Inv-loop μ-loop
 slice-write-pairs c =
     let in-loop : tie.In-loop Inv-loop μ-loop = search in
     let at-loop : tie.At-loop Inv-loop μ-loop = search in
     let start : tie.Start Inv-loop μ-loop = search in
-    let pre = start .pre in omega (arith, row-fits _ _ _ (pre .1) (pre .0 .table), in-loop .loop-test .taken, at-loop .loop .inv .size)
+    let pre = start .pre in
+    omega (arith, row-fits _ _ _ (pre .1) (pre .0 .table), in-loop .loop-test .taken, at-loop .loop .inv .size)
 
 add-count : tie.Need-add-count Inv-loop μ-loop
 add-count c =
@@ -78,32 +72,6 @@ add-count c =
     let more = row-word _ _ _ _ _ (at-loop .loop .inv) (start .pre .1) (in-loop .loop-test .taken) (after-sift .sift .ensures .0)
     (after-sift .sift .ensures .1) (c .count .ensures) refl in
     omega (arith, row-few more, more .within, most)
-
-add-j : tie.Need-add-j Inv-loop μ-loop
-add-j c =
-    let in-loop : tie.In-loop Inv-loop μ-loop = search in
-    let start : tie.Start Inv-loop μ-loop = search in
-    omega (arith, in-loop .loop-test .taken, start .pre .0 .most)
-
-loop-less : tie.Need-loop-less Inv-loop μ-loop
-loop-less c =
-    let in-loop : tie.In-loop Inv-loop μ-loop = search in
-    omega (arith, in-loop .loop-test .taken)
-
-loop-again : tie.Need-loop-again Inv-loop μ-loop
-loop-again c =
-    let after-count : tie.After-count Inv-loop μ-loop = search in
-    let after-sift : tie.After-sift Inv-loop μ-loop = search in
-    let in-loop : tie.In-loop Inv-loop μ-loop = search in
-    let at-loop : tie.At-loop Inv-loop μ-loop = search in
-    let start : tie.Start Inv-loop μ-loop = search in
-    row-word _ _ _ _ _ (at-loop .loop .inv) (start .pre .1) (in-loop .loop-test .taken) (after-sift .sift .ensures .0)
-    (after-sift .sift .ensures .1) (after-count .count .ensures) (c .longer .ensures)
-
-same-length : tie.Need-same-length Inv-loop μ-loop
-same-length c =
-    let at-loop : tie.At-loop Inv-loop μ-loop = search in
-    at-loop .loop .inv .size
 
 returns : tie.Need-returns Inv-loop μ-loop
 returns c =
@@ -121,15 +89,15 @@ drop-row-spec =
     add-i
     mul-sift
     slice-read-sift
-    mul-sift-2
-    sift-requires
+    (λ c. search needs)  -- mul-sift-2
+    (λ c. search needs)  -- sift-requires
     mul-pairs
     slice-write-pairs
     (λ c. search needs)  -- count-requires
     add-count
     (λ c. search needs)  -- longer-requires
-    add-j
-    loop-less
-    loop-again
-    same-length
+    (λ c. search needs)  -- add-j
+    (λ c. search needs)  -- loop-less
+    (λ c. search row-word)  -- loop-again
+    (λ c. search needs)  -- same-length
     returns)

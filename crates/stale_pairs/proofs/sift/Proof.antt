@@ -12,50 +12,6 @@ Inv-loop x hops u first chain word₀ way₀ left₀ word way left = Sifting hop
 abbrev μ-loop : tie.MeasureT-loop
 μ-loop x hops u first chain word₀ way₀ left₀ word way left = left
 
-loop-holds : tie.Need-loop-holds Inv-loop μ-loop
-loop-holds c =
-    let start : tie.Start Inv-loop μ-loop = search in
-    sift-start _ _ _ _ _ (start .fits .x .fits)
-
-add-way-by : tie.Need-add-way-by Inv-loop μ-loop
-add-way-by c =
-    let start : tie.Start Inv-loop μ-loop = search in
-    omega (arith, c .least .ensures .below, start .pre)
-
-way-by-requires : tie.Need-way-by-requires Inv-loop μ-loop
-way-by-requires c κs = (search needs, omega (arith, c .least .ensures .below))
-
-without-bit-requires : tie.Need-without-bit-requires Inv-loop μ-loop
-without-bit-requires c κs =
-    let after-least : tie.After-least Inv-loop μ-loop = search in
-    after-least .least .ensures .below
-
-loop-less : tie.Need-loop-less Inv-loop μ-loop
-loop-less c = c .drop-least .ensures .less
-
-loop-again : tie.Need-loop-again Inv-loop μ-loop
-loop-again c =
-    let after-without-bit : tie.After-without-bit Inv-loop μ-loop = search in
-    let then1 : tie.Then1 Inv-loop μ-loop = search in
-    let after-longer : tie.After-longer Inv-loop μ-loop = search in
-    let after-way-by : tie.After-way-by Inv-loop μ-loop = search in
-    let after-least : tie.After-least Inv-loop μ-loop = search in
-    let at-loop : tie.At-loop Inv-loop μ-loop = search in
-    sift-drop _ _ _ _ _ (at-loop .loop .inv) (after-least .least .ensures) (c .drop-least .ensures)
-    (after-without-bit .without-bit .ensures) (after-way-by .way-by .ensures) (after-longer .longer .ensures) (then1 .if1 .taken)
-
-loop-less-2 : tie.Need-loop-less-2 Inv-loop μ-loop
-loop-less-2 c = c .drop-least2 .ensures .less
-
-loop-again-2 : tie.Need-loop-again-2 Inv-loop μ-loop
-loop-again-2 c =
-    let after-longer : tie.After-longer Inv-loop μ-loop = search in
-    let after-way-by : tie.After-way-by Inv-loop μ-loop = search in
-    let after-least : tie.After-least Inv-loop μ-loop = search in
-    let at-loop : tie.At-loop Inv-loop μ-loop = search in
-    sift-keep _ _ _ _ _ (at-loop .loop .inv) (after-least .least .ensures) (c .drop-least2 .ensures) (after-way-by .way-by .ensures)
-    (after-longer .longer .ensures) (omega arith)
-
 returns : tie.Need-returns Inv-loop μ-loop
 returns c =
     let at-loop : tie.At-loop Inv-loop μ-loop = search in
@@ -67,16 +23,16 @@ sift-spec =
     (tie.spec
     Inv-loop
     μ-loop
-    loop-holds
+    (λ c. search sift-start)  -- loop-holds
     (λ c. search needs)  -- least-requires
-    add-way-by
-    way-by-requires
+    (λ c. search needs)  -- add-way-by
+    (λ c. search needs)  -- way-by-requires
     (λ c. search needs)  -- longer-requires
-    without-bit-requires
+    (λ c. search needs)  -- without-bit-requires
     (λ c. search needs)  -- drop-least-requires
-    loop-less
-    loop-again
+    (λ c. search needs)  -- loop-less
+    (λ c. search sift-drop)  -- loop-again
     (λ c. search needs)  -- drop-least-requires-2
-    loop-less-2
-    loop-again-2
+    (λ c. search needs)  -- loop-less-2
+    (λ c. search sift-keep)  -- loop-again-2
     returns)

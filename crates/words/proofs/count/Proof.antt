@@ -4,11 +4,8 @@ use Rattle.words.proofs.Counts.{ones-count}
 use Rattle.words.proofs.count.Statement.{statement}
 use Rattle.words.proofs.count.Tie as tie
 
-returns : tie.Need-returns
-returns c = ones-count 64 (c .args .w) (c .fits .w .fits)
-
 pub count-spec : {M : Type 1} → statement M
 count-spec =
     tie.close
     (tie.spec
-    returns)
+    (λ c. search ones-count))  -- returns

@@ -5,12 +5,9 @@ use Rattle.words.proofs.Lowest.{drop-is}
 use Rattle.words.proofs.drop_least.Statement.{statement}
 use Rattle.words.proofs.drop_least.Tie as tie
 
-returns : tie.Need-returns
-returns c = drop-is (c .args .w) (c .pre) (c .fits .w .fits)
-
 pub drop-least-spec : {M : Type 1} → statement M
 drop-least-spec =
     tie.close
     (tie.spec
     (λ c. search needs)  -- sub-result
-    returns)
+    (λ c. search drop-is))  -- returns

@@ -9,12 +9,9 @@ use Rattle.words.proofs.least.Tie as tie
 cast-result : tie.Need-cast-result
 cast-result c = omega (arith, trailing-le 64 (c .args .w))
 
-returns : tie.Need-returns
-returns c = least-is (c .args .w) (c .pre) (c .fits .w .fits)
-
 pub least-spec : {M : Type 1} → statement M
 least-spec =
     tie.close
     (tie.spec
     cast-result
-    returns)
+    (λ c. search least-is))  -- returns

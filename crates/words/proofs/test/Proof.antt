@@ -1,8 +1,5 @@
 -- `words::test` meets its contract: the shift brings bit b to place 0, and the mask leaves it alone.
 -- Assumes nothing.
-use mathlib.Core.Path.{ap}
-use Prim.Native.Nat.{ℕ}
-use lib.Dec.{eqb}
 use borrow.Author.Needs.{needs}
 use Rattle.words.specs.Bits.{bit}
 use Rattle.words.proofs.Digits.{digit, and-one}
@@ -11,7 +8,7 @@ use Rattle.words.proofs.test.Tie as tie
 
 returns : tie.Need-returns
 unfolding bit digit
-returns c = ap (λ (x : ℕ). eqb x 1) (and-one (c .args .w) (c .args .b))
+returns c = search and-one
 
 pub test-spec : {M : Type 1} → statement M
 test-spec =
