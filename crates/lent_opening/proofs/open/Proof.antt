@@ -46,6 +46,7 @@ use denote.Triple.Walked.{says, Stays, stay-ref, stay-none, stay-none-slice, gav
 use denote.Triple.Walked.{goes-gave-slice, Walks, ends-at, walked, walk-meets}
 use denote.Signature.{plain, typesAt}
 use Rattle.map.specs.declared.Record.{Record}
+use Rattle.opening.specs.declared.Returned.{Returned}
 use Rattle.layers.specs.Layers.{tables}
 use Rattle.map.specs.Memory.{base as baseShape}
 use Rattle.rounds.specs.Leaves.{lent}
