@@ -1,12 +1,12 @@
 #!/usr/bin/env python3
 """Tries shorter answers in the proofs of a crate, and keeps those that `rt dev` accepts.
 
-    tools/thin.py CRATE [FN..] [--generated DIR]
+    tools/thin.py CRATE [FN..] [--list] [--generated DIR]
 
 An answer that applies a law, `law _ _ (place .call .ensures) ..`, is tried as `search law`, then with its places named, then as it was; a part of
 a tuple that cites no law as `search needs`; then without the names that it does not cite; and an answer that is one `search` goes into the closing
-list. Some two to four minutes a crate. Run it in the repository's root, after `tools/places.py name CRATE`; then `rt fmt`, and `rt check CRATE`
-for the verdict. Compare the time before and after: a `search` can cost more than the term that it finds.
+list, which is all that `--list` does. Some two to four minutes a crate. Run it in the repository's root, after `tools/places.py name CRATE`; then
+`rt fmt`, and `rt check CRATE` for the verdict. Compare the time before and after: a `search` can cost more than the term that it finds.
 """
 import argparse
 import collections
@@ -178,19 +178,24 @@ def settle(crate, files, title):
             return
 
 
+def shorten(crate, files):
+    settle(crate, files, 'shorter')
+    for file in files:
+        for answer in file.answers.values():
+            answer.is_pruned = True
+    settle(crate, files, 'without idle names')
+
+
 def main():
     parser = argparse.ArgumentParser(description=__doc__, formatter_class=argparse.RawDescriptionHelpFormatter)
     parser.add_argument('crate')
     parser.add_argument('functions', nargs='*')
+    parser.add_argument('--list', action='store_true')
     parser.add_argument('--generated', metavar='DIR')
     given = parser.parse_args()
     found = [File(path, function) for _, path, function in proofs.functions(given.crate, given.functions, given.generated)]
-    files = [file for file in found if file.answers]
-    settle(given.crate, files, 'shorter')
-    for file in files:
-        for answer in file.answers.values():
-            answer.is_pruned = True
-    settle(given.crate, files, 'without idle names')
+    if not given.list:
+        shorten(given.crate, [file for file in found if file.answers])
     while True:
         for file in found:
             file.finish()

@@ -1,6 +1,6 @@
 -- `notice::all_digits` meets its contract. The invariant: what is left decides as the whole does.
 -- The measure is what is left of the length. Assumes nothing.
-use mathlib.Core.Path.{_≡_, refl, sym, _∙_}
+use mathlib.Core.Path.{_≡_, sym, _∙_}
 use Prim.Native.Nat.{_≤_, _-_}
 use lib.ListN.{length, drop}
 use Rattle.lists.specs.Lists.{allb}
@@ -17,9 +17,6 @@ Inv-loop s i₀ i = (i ≤ length s) × (allb isDigit s ≡ allb isDigit (drop i
 abbrev μ-loop : tie.MeasureT-loop
 μ-loop s i₀ i = length s - i
 
-loop-holds : tie.Need-loop-holds Inv-loop μ-loop
-loop-holds c = (search needs, refl)
-
 returns : tie.Need-returns Inv-loop μ-loop
 returns c =
     let after-is-digit : tie.After-is-digit Inv-loop μ-loop = search in
@@ -33,8 +30,7 @@ loop-again c =
     let in-loop : tie.In-loop Inv-loop μ-loop = search in
     let at-loop : tie.At-loop Inv-loop μ-loop = search in (
       search needs,
-      at-loop .loop .inv .1 ∙ all-more isDigit _ _ 0 (in-loop .loop-test .taken)
-          (sym (after-is-digit .is-digit .ensures) ∙ not-false _ (c .if1 .left)),
+      at-loop .loop .inv .1 ∙ all-more isDigit _ _ 0 (in-loop .loop-test .taken) (sym (after-is-digit .is-digit .ensures) ∙ not-false _ (c .if1 .left)),
     )
 
 returns-2 : tie.Need-returns-2 Inv-loop μ-loop
@@ -48,7 +44,7 @@ all-digits-spec =
     (tie.spec
     Inv-loop
     μ-loop
-    loop-holds
+    (λ c. search needs)  -- loop-holds
     (λ c. search needs)  -- shared-slice-read-is-digit
     (λ c. search needs)  -- is-digit-requires
     returns

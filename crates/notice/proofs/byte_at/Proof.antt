@@ -18,12 +18,6 @@ value-requires-2 c κs =
     let start : tie.Start = search in
     all-at isDigit _ _ 0 (omega arith) (start .pre .0)
 
-returns : tie.Need-returns
-returns c =
-    let after-value : tie.After-value = search in
-    let start : tie.Start = search in
-    byte-spelt _ _ (after-value .value .ensures .0) (c .value2 .ensures .0) (start .pre .1)
-
 pub byte-at-spec : {M : Type 1} → statement M
 byte-at-spec =
     tie.close
@@ -37,4 +31,4 @@ byte-at-spec =
     value-requires-2
     (λ c. search needs)  -- mul-result
     (λ c. search needs)  -- add-result
-    returns)
+    (λ c. search byte-spelt))  -- returns

@@ -1,6 +1,5 @@
 -- `notice::line_end` meets its contract. The invariant: the end is as far from the place reached as what is left says.
 -- The measure is what is left of the length. Assumes nothing.
-use native.Mathlib.Nat.{zero-add}
 use mathlib.Core.Path.{_≡_, sym, _∙_}
 use Prim.Native.Nat.{_≤_, _+_, _-_}
 use lib.ListN.{length, drop}
@@ -16,9 +15,6 @@ Inv-loop s i₀ i = (i ≤ length s) × (endOf s ≡ i + endOf (drop i s))
 abbrev μ-loop : tie.MeasureT-loop
 μ-loop s i₀ i = length s - i
 
-loop-holds : tie.Need-loop-holds Inv-loop μ-loop
-loop-holds c = (search needs, sym (zero-add _))
-
 returns : tie.Need-returns Inv-loop μ-loop
 returns c =
     let in-loop : tie.In-loop Inv-loop μ-loop = search in
@@ -28,8 +24,10 @@ returns c =
 loop-again : tie.Need-loop-again Inv-loop μ-loop
 loop-again c =
     let in-loop : tie.In-loop Inv-loop μ-loop = search in
-    let at-loop : tie.At-loop Inv-loop μ-loop = search in
-    (search needs, at-loop .loop .inv .1 ∙ end-more _ _ (in-loop .loop-test .taken) (c .if1 .left))
+    let at-loop : tie.At-loop Inv-loop μ-loop = search in (
+      search needs,
+      at-loop .loop .inv .1 ∙ end-more _ _ (in-loop .loop-test .taken) (c .if1 .left),
+    )
 
 returns-2 : tie.Need-returns-2 Inv-loop μ-loop
 returns-2 c =
@@ -42,7 +40,7 @@ line-end-spec =
     (tie.spec
     Inv-loop
     μ-loop
-    loop-holds
+    (λ c. search needs)  -- loop-holds
     (λ c. search needs)  -- shared-slice-read-if1
     returns
     (λ c. search needs)  -- add-i

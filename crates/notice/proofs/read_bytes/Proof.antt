@@ -15,20 +15,8 @@ Inv-loop digits frame₀ n i₀ frame i = (i ≤ n) × Copied (bytesOf digits) f
 abbrev μ-loop : tie.MeasureT-loop
 μ-loop digits frame₀ n i₀ frame i = n - i
 
-loop-holds : tie.Need-loop-holds Inv-loop μ-loop
-loop-holds c = (search needs, copied-none _ _)
-
 byte-at-requires : tie.Need-byte-at-requires Inv-loop μ-loop
-byte-at-requires c κs =
-    let start : tie.Start Inv-loop μ-loop = search in
-    (start .pre .0, omega arith)
-
-loop-again : tie.Need-loop-again Inv-loop μ-loop
-loop-again c =
-    let in-loop : tie.In-loop Inv-loop μ-loop = search in
-    let at-loop : tie.At-loop Inv-loop μ-loop = search in
-    let start : tie.Start Inv-loop μ-loop = search in
-    (search needs, bytes-more _ _ (at-loop .loop .inv .1) (c .byte-at .ensures) (in-loop .loop-test .taken) (start .pre .1))
+byte-at-requires c κs = search needs
 
 returns : tie.Need-returns Inv-loop μ-loop
 returns c =
@@ -42,11 +30,11 @@ read-bytes-spec =
     (tie.spec
     Inv-loop
     μ-loop
-    loop-holds
+    (λ c. search (copied-none, needs))  -- loop-holds
     byte-at-requires
     (λ c. search needs)  -- slice-write-frame
     (λ c. search needs)  -- add-i
     (λ c. search needs)  -- loop-less
-    loop-again
+    (λ c. search (bytes-more, needs))  -- loop-again
     (λ c. search needs)  -- same-length
     returns)

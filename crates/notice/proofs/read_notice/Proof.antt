@@ -12,22 +12,11 @@ use Rattle.notice.proofs.read_notice.Tie as tie
 
 returns : tie.Need-returns
 unfolding readingOf
-returns c = read-short _ _ (omega arith)
+returns c = search read-short
 
 returns-2 : tie.Need-returns-2
 unfolding readingOf
-returns-2 c =
-    let after-line-end : tie.After-line-end = search in
-    let after-first-part : tie.After-first-part = search in
-    let else1 : tie.Else1 = search in
-    read-endless _ (after-first-part .first-part .ensures) (after-line-end .line-end .ensures) _ (c .if2 .taken) (else1 .if1 .left)
-
-slice-aggregate-digits : tie.Need-slice-aggregate-digits
-slice-aggregate-digits c =
-    let after-line-end : tie.After-line-end = search in
-    let after-first-part : tie.After-first-part = search in
-    let start : tie.Start = search in
-    digits-length (start .args .input .now) (after-first-part .first-part .ensures) (after-line-end .line-end .ensures)
+returns-2 c = search read-endless
 
 returns-3 : tie.Need-returns-3
 unfolding readingOf
@@ -42,15 +31,9 @@ returns-3 c =
 read-bytes-requires : tie.Need-read-bytes-requires
 read-bytes-requires c κs =
     let else3 : tie.Else3 = search in
-    let after-spells-frame : tie.After-spells-frame = search in
-    let else2 : tie.Else2 = search in
-    let after-line-end : tie.After-line-end = search in
-    let after-first-part : tie.After-first-part = search in
-    let else1 : tie.Else1 = search in
-    let start : tie.Start = search in (
+    let after-spells-frame : tie.After-spells-frame = search in (
       spells-parts _ (sym (after-spells-frame .spells-frame .ensures) ∙ not-false _ (else3 .if3 .left)) .digits,
-      digits-fit (start .args .input .now) (after-first-part .first-part .ensures) (after-line-end .line-end .ensures)
-          (start .args .frame .now) (else2 .if2 .left) (else1 .if1 .left),
+      search (digits-fit, needs),
     )
 
 add-t13 : tie.Need-add-t13
@@ -81,7 +64,7 @@ read-notice-spec =
     (λ c. search needs)  -- first-part-requires
     (λ c. search needs)  -- line-end-requires
     returns-2
-    slice-aggregate-digits
+    (λ c. search digits-length)  -- slice-aggregate-digits
     (λ c. search needs)  -- spells-frame-requires
     returns-3
     read-bytes-requires

@@ -2,32 +2,30 @@
 -- Assumes nothing.
 use mathlib.Core.Path.{subst}
 use Prim.Native.Nat.{ℕ, _<_}
-use mathlib.Core.Path.{sym}
 use Rattle.notice.proofs.Digits.{digit-least, value-numeral, value-letter, value-below}
 use borrow.Author.Needs.{needs}
 use Rattle.notice.proofs.value.Statement.{statement}
 use Rattle.notice.proofs.value.Tie as tie
 
-sub-result : tie.Need-sub-result
-sub-result c =
-    let start : tie.Start = search in
-    digit-least _ (start .pre)
-
 returns : tie.Need-returns
 returns c =
-    let start : tie.Start = search in
-    (sym (value-numeral _ (c .if1 .taken)), subst (λ (n : ℕ). n < 16) (value-numeral _ (c .if1 .taken)) (value-below _ (start .pre)))
+    let start : tie.Start = search in (
+      search (value-numeral, needs),
+      subst (λ (n : ℕ). n < 16) (value-numeral _ (c .if1 .taken)) (value-below _ (start .pre)),
+    )
 
 returns-2 : tie.Need-returns-2
 returns-2 c =
-    let start : tie.Start = search in
-    (sym (value-letter _ (c .if1 .left)), subst (λ (n : ℕ). n < 16) (value-letter _ (c .if1 .left)) (value-below _ (start .pre)))
+    let start : tie.Start = search in (
+      search (value-letter, needs),
+      subst (λ (n : ℕ). n < 16) (value-letter _ (c .if1 .left)) (value-below _ (start .pre)),
+    )
 
 pub value-spec : {M : Type 1} → statement M
 value-spec =
     tie.close
     (tie.spec
-    sub-result
+    (λ c. search digit-least)  -- sub-result
     (λ c. search needs)  -- sub-result-2
     returns
     returns-2)

@@ -17,9 +17,6 @@ Inv-loop frame line₀ i₀ line i = (i ≤ length frame) × Copied (digitsOf fr
 abbrev μ-loop : tie.MeasureT-loop
 μ-loop frame line₀ i₀ line i = length frame - i
 
-loop-holds : tie.Need-loop-holds Inv-loop μ-loop
-loop-holds c = (search needs, copied-none _ _)
-
 digit-requires : tie.Need-digit-requires Inv-loop μ-loop
 digit-requires c κs =
     let at-loop : tie.At-loop Inv-loop μ-loop = search in
@@ -27,16 +24,6 @@ digit-requires c κs =
 
 slice-write-line-2 : tie.Need-slice-write-line-2 Inv-loop μ-loop
 slice-write-line-2 c = simp length-set (omega arith)
-
-loop-again : tie.Need-loop-again Inv-loop μ-loop
-loop-again c =
-    let after-digit : tie.After-digit Inv-loop μ-loop = search in
-    let in-loop : tie.In-loop Inv-loop μ-loop = search in
-    let at-loop : tie.At-loop Inv-loop μ-loop = search in
-    let start : tie.Start Inv-loop μ-loop = search in (
-      search needs,
-      digits-more _ _ (at-loop .loop .inv .1) (after-digit .digit .ensures) (c .digit2 .ensures) (in-loop .loop-test .taken) (start .pre),
-    )
 
 returns : tie.Need-returns Inv-loop μ-loop
 returns c =
@@ -50,7 +37,7 @@ write-digits-spec =
     (tie.spec
     Inv-loop
     μ-loop
-    loop-holds
+    (λ c. search (copied-none, needs))  -- loop-holds
     (λ c. search needs)  -- shared-slice-read-b
     digit-requires
     (λ c. search needs)  -- mul-line
@@ -61,6 +48,6 @@ write-digits-spec =
     slice-write-line-2
     (λ c. search needs)  -- add-i
     (λ c. search needs)  -- loop-less
-    loop-again
+    (λ c. search (digits-more, needs))  -- loop-again
     (λ c. search needs)  -- same-length
     returns)

@@ -12,7 +12,7 @@ use Rattle.notice.proofs.write_notice.Tie as tie
 
 returns : tie.Need-returns
 unfolding writingOf
-returns c = write-short _ _ (omega arith)
+returns c = search write-short
 
 returns-2 : tie.Need-returns-2
 unfolding writingOf

@@ -4,9 +4,6 @@ use Rattle.report.proofs.Numbers.{digits-first, digits-are}
 use Rattle.report.proofs.digits.Statement.{statement}
 use Rattle.report.proofs.digits.Tie as tie
 
-returns : tie.Need-returns
-returns c = digits-first _ (c .if1 .taken)
-
 returns-2 : tie.Need-returns-2
 returns-2 c =
     let else1 : tie.Else1 = search in
@@ -54,7 +51,7 @@ pub digits-spec : {M : Type 1} → statement M
 digits-spec =
     tie.close
     (tie.spec
-    returns
+    (λ c. search digits-first)  -- returns
     returns-2
     returns-3
     returns-4

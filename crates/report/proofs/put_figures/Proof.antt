@@ -43,14 +43,6 @@ put-field-requires-4 c κs =
     let start : tie.Start = search back in
     omega (arith, figures-length (start .args .report))
 
-same-length : tie.Need-same-length
-same-length c =
-    let after-put-field4 : tie.After-put-field4 = search back in
-    let after-put-field3 : tie.After-put-field3 = search back in
-    let after-put-field2 : tie.After-put-field2 = search back in
-    let after-put-field : tie.After-put-field = search back in
-    omega (arith, after-put-field4 .put-field4 .kept, after-put-field3 .put-field3 .kept, after-put-field2 .put-field2 .kept, after-put-field .put-field .kept)
-
 returns : tie.Need-returns
 unfolding figuresText
 returns c =
@@ -72,5 +64,5 @@ put-figures-spec =
     put-field-requires-3
     (λ c. search needs)  -- cast-put-field-3
     put-field-requires-4
-    same-length
+    (λ c. search needs)  -- same-length
     returns)

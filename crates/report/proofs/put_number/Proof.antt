@@ -1,6 +1,5 @@
 -- `report::put_number` meets its contract: from the last digit to the first, each before those that stand. The measure is what is left of the
 -- number. Assumes nothing.
-use lib.ListN.{length-set}
 use borrow.Author.Needs.{needs}
 use native.Mathlib.Omega.{arith}
 use Rattle.report.proofs.Numbers.{Filling, digits-some, fill-start, fill-size, fill-place, fill-before, fill-more, fill-end}
@@ -13,11 +12,6 @@ Inv-loop line₀ at n end i₀ m₀ line i m = Filling n at end line₀ line i m
 abbrev μ-loop : tie.MeasureT-loop
 μ-loop line₀ at n end i₀ m₀ line i m = m
 
-add-end : tie.Need-add-end Inv-loop μ-loop
-add-end c =
-    let start : tie.Start Inv-loop μ-loop = search in
-    omega (arith, c .digits .ensures, start .pre, start .good .0 .0)
-
 sub-i : tie.Need-sub-i Inv-loop μ-loop
 sub-i c =
     let start : tie.Start Inv-loop μ-loop = search in
@@ -28,45 +22,12 @@ loop-holds c =
     let start : tie.Start Inv-loop μ-loop = search in
     fill-start _ _ _ (start .pre) (c .digits .ensures) _ (omega (arith, c .digits .ensures, digits-some (start .args .n)))
 
-slice-write-line : tie.Need-slice-write-line Inv-loop μ-loop
-slice-write-line c =
-    let at-loop : tie.At-loop Inv-loop μ-loop = search in
-    let start : tie.Start Inv-loop μ-loop = search in
-    fill-place _ _ _ (start .pre) (at-loop .loop .inv)
-
-sub-i-2 : tie.Need-sub-i-2 Inv-loop μ-loop
-sub-i-2 c =
-    let at-loop : tie.At-loop Inv-loop μ-loop = search in
-    let start : tie.Start Inv-loop μ-loop = search in
-    fill-before _ _ _ (start .pre) (at-loop .loop .inv) (c .loop-test .taken)
-
-loop-less : tie.Need-loop-less Inv-loop μ-loop
-loop-less c = omega (arith, c .loop-test .taken)
-
 loop-again : tie.Need-loop-again Inv-loop μ-loop
 loop-again c =
     let at-loop : tie.At-loop Inv-loop μ-loop = search in
     let start : tie.Start Inv-loop μ-loop = search in
     let g = fill-before _ _ _ (start .pre) (at-loop .loop .inv) (c .loop-test .taken) in
     fill-more _ _ _ (start .pre) (at-loop .loop .inv) (c .loop-test .taken) (omega (arith, g))
-
-slice-write-line-2 : tie.Need-slice-write-line-2 Inv-loop μ-loop
-slice-write-line-2 c =
-    let at-loop : tie.At-loop Inv-loop μ-loop = search in
-    let start : tie.Start Inv-loop μ-loop = search in
-    fill-place _ _ _ (start .pre) (at-loop .loop .inv)
-
-same-length : tie.Need-same-length Inv-loop μ-loop
-same-length c =
-    let at-loop : tie.At-loop Inv-loop μ-loop = search in
-    let start : tie.Start Inv-loop μ-loop = search in
-    simp length-set (fill-size _ _ _ (start .pre) (at-loop .loop .inv))
-
-returns : tie.Need-returns Inv-loop μ-loop
-returns c =
-    let at-loop : tie.At-loop Inv-loop μ-loop = search in
-    let start : tie.Start Inv-loop μ-loop = search in
-    fill-end _ _ _ (start .pre) (at-loop .loop .inv) (omega arith)
 
 pub put-number-spec : {M : Type 1} → statement M
 put-number-spec =
@@ -75,17 +36,17 @@ put-number-spec =
     Inv-loop
     μ-loop
     (λ c. search needs)  -- digits-requires
-    add-end
+    (λ c. search needs)  -- add-end
     sub-i
     loop-holds
     (λ c. search needs)  -- cast-line
     (λ c. search needs)  -- add-line
-    slice-write-line
-    sub-i-2
-    loop-less
+    (λ c. search fill-place)  -- slice-write-line
+    (λ c. search fill-before)  -- sub-i-2
+    (λ c. search needs)  -- loop-less
     loop-again
     (λ c. search needs)  -- cast-line-2
     (λ c. search needs)  -- add-line-2
-    slice-write-line-2
-    same-length
-    returns)
+    (λ c. search fill-place)  -- slice-write-line-2
+    (λ c. search (fill-size, needs))  -- same-length
+    (λ c. search fill-end))  -- returns

@@ -9,9 +9,6 @@ use borrow.Author.Needs.{needs}
 use Rattle.report.proofs.put_outcome.Statement.{statement}
 use Rattle.report.proofs.put_outcome.Tie as tie
 
-slice-write-line : tie.Need-slice-write-line
-slice-write-line c = omega arith
-
 slice-write-line-2 : tie.Need-slice-write-line-2
 slice-write-line-2 c = simp length-set (omega arith)
 
@@ -22,8 +19,10 @@ put-number-requires c κs =
 
 returns : tie.Need-returns
 returns c =
-    let after-letter : tie.After-letter = search in
-    (accepted-placed _ _ _ (c .enum-told .given .1) (after-letter .letter .ensures) (omega arith), omega arith)
+    let after-letter : tie.After-letter = search in (
+      accepted-placed _ _ _ (c .enum-told .given .1) (after-letter .letter .ensures) (omega arith),
+      search needs,
+    )
 
 same-length-2 : tie.Need-same-length-2
 same-length-2 c =
@@ -35,8 +34,7 @@ returns-2 c =
     let after-put-number : tie.After-put-number = search in
     let after-outcome : tie.After-outcome = search in
     let after-letter : tie.After-letter = search in (
-      refused-placed _ _ _ (after-outcome .outcome .given .1) (after-letter .letter .ensures) (after-put-number .put-number .ensures)
-          (omega arith),
+      refused-placed _ _ _ (after-outcome .outcome .given .1) (after-letter .letter .ensures) (after-put-number .put-number .ensures) (omega arith),
       omega (arith, decimal-byte (after-outcome .outcome .given .0 .0) (search needs)),
     )
 
@@ -44,7 +42,7 @@ pub put-outcome-spec : {M : Type 1} → statement M
 put-outcome-spec =
     tie.close
     (tie.spec
-    slice-write-line
+    (λ c. search needs)  -- slice-write-line
     (λ c. search needs)  -- letter-requires
     (λ c. search needs)  -- add-line
     slice-write-line-2

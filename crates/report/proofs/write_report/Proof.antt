@@ -21,7 +21,7 @@ figures-fit c = figures-most (c .args .report) (search needs) (search needs) (se
 
 returns : tie.Need-returns
 unfolding writtenOf
-returns c = report-short _ _ (omega arith)
+returns c = search report-short
 
 put-number-requires : tie.Need-put-number-requires
 put-number-requires c κs =
