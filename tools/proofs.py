@@ -5,7 +5,7 @@ import re
 import subprocess
 import sys
 
-from layout import walk, wrapped
+from layout import WIDE, walk, wrapped
 
 SIGNED = re.compile(r'^(?:(?:abbrev|pub|unfoldable) )*(\S+) :\s+(.*?)(?=\n\S|\Z)', re.S)
 POSITION = re.compile(r'-- src/\S+:\d+:\d+$')
@@ -146,6 +146,27 @@ def drop_routine(pars):
         pars.remove(par)
 
 
+def packed(lines):
+    """the lines of a closing list, (answer, need) each: routine answers that follow each other stand on one line, four at most"""
+    out, run = [], []
+
+    def flush():
+        if run:
+            out.append('    ' + ' '.join([ROUTINE] * len(run)) + '  -- ' + ', '.join(run))
+            run.clear()
+
+    for answer, need in lines:
+        if answer == ROUTINE and need:
+            if len(run) == 4 or len(ROUTINE) * (len(run) + 1) + len(', '.join(run + [need])) > WIDE:
+                flush()
+            run.append(need)
+        else:
+            flush()
+            out.append(f'    {answer}' + (f'  -- {need}' if need else ''))
+    flush()
+    return out
+
+
 def write_closing(pars, function, declared=()):
     """the last paragraph anew: `tie.spec` at each answer; one that is a `search` and that no other cites stands there itself, unless it is to stay
     declared; and `search needs` where there is none"""
@@ -164,7 +185,7 @@ def write_closing(pars, function, declared=()):
         if asked in have:
             lines.append((have[asked], ''))
         elif asked.startswith('Need-'):
-            lines.append((searches.get(asked, ROUTINE), '  -- ' + asked.removeprefix('Need-')))
+            lines.append((searches.get(asked, ROUTINE), asked.removeprefix('Need-')))
         else:
             sys.exit(f'{name} wants {asked}')
     if not lines:
@@ -173,7 +194,7 @@ def write_closing(pars, function, declared=()):
     comments = [line for line in closing.split('\n') if line.startswith('--')]
     head = [f'pub {name} : {{M : Type 1}} → statement M', f'{name} =', '    tie.close', '    (tie.spec']
     last = max(i for i, par in enumerate(pars) if 'tie.close' in par)
-    pars[last] = '\n'.join(comments + head + [f'    {answer}{comment}' for answer, comment in lines])
+    pars[last] = '\n'.join(comments + head + packed(lines))
     if any(cites(answer, 'needs') for answer, _ in lines):
         add_import(pars, 'borrow.Author.Needs', 'needs')
 

@@ -63,7 +63,6 @@ all-open-spec =
     cast-v
     is-open-requires
     returns
-    (λ c. search needs)  -- add-i
-    (λ c. search needs)  -- loop-less
+    (λ c. search needs) (λ c. search needs)  -- add-i, loop-less
     loop-again
     returns-2)

@@ -42,11 +42,8 @@ is-rising-spec =
     Inv-loop
     μ-loop
     loop-holds
-    (λ c. search needs)  -- shared-slice-read-if1
-    (λ c. search needs)  -- sub-if1
-    (λ c. search needs)  -- shared-slice-read-if1-2
+    (λ c. search needs) (λ c. search needs) (λ c. search needs)  -- shared-slice-read-if1, sub-if1, shared-slice-read-if1-2
     returns
-    (λ c. search needs)  -- add-i
-    (λ c. search needs)  -- loop-less
+    (λ c. search needs) (λ c. search needs)  -- add-i, loop-less
     loop-again
     returns-2)

@@ -81,8 +81,7 @@ link-depot-spec =
     cast-v
     row-set-requires
     row-set-requires-2
-    (λ c. search needs)  -- add-i
-    (λ c. search needs)  -- loop-less
+    (λ c. search needs) (λ c. search needs)  -- add-i, loop-less
     loop-again
     (λ c. search needs)  -- same-length
     returns)

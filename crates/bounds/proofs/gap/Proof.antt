@@ -20,7 +20,6 @@ pub gap-spec : {M : Type 1} → statement M
 gap-spec =
     tie.close
     (tie.spec
-    (λ c. search needs)  -- less-requires
-    (λ c. search needs)  -- less-requires-2
+    (λ c. search needs) (λ c. search needs)  -- less-requires, less-requires-2
     returns
     returns-2)

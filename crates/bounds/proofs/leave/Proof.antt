@@ -12,13 +12,7 @@ pub leave-spec : {M : Type 1} → statement M
 leave-spec =
     tie.close
     (tie.spec
-    (λ c. search needs)  -- mul-bounds
-    (λ c. search needs)  -- slice-write-bounds
-    (λ c. search needs)  -- mul-skips
-    (λ c. search needs)  -- slice-write-skips
-    (λ c. search needs)  -- mul-ranks
-    (λ c. search needs)  -- slice-write-ranks
-    (λ c. search needs)  -- same-length
-    (λ c. search needs)  -- same-length-2
+    (λ c. search needs) (λ c. search needs) (λ c. search needs) (λ c. search needs)  -- mul-bounds, slice-write-bounds, mul-skips, slice-write-skips
+    (λ c. search needs) (λ c. search needs) (λ c. search needs) (λ c. search needs)  -- mul-ranks, slice-write-ranks, same-length, same-length-2
     (λ c. search needs)  -- same-length-3
     returns)

@@ -15,14 +15,7 @@ pub mark-once-spec : {M : Type 1} → statement M
 mark-once-spec =
     tie.close
     (tie.spec
-    (λ c. search needs)  -- mul-fill
-    (λ c. search needs)  -- fill-requires
-    (λ c. search needs)  -- mul-fill-2
-    (λ c. search needs)  -- fill-requires-2
-    (λ c. search needs)  -- mul-bounds
-    (λ c. search needs)  -- slice-write-bounds
-    (λ c. search needs)  -- mul-skips
-    (λ c. search needs)  -- slice-write-skips
-    (λ c. search needs)  -- same-length
-    (λ c. search needs)  -- same-length-2
+    (λ c. search needs) (λ c. search needs) (λ c. search needs) (λ c. search needs)  -- mul-fill, fill-requires, mul-fill-2, fill-requires-2
+    (λ c. search needs) (λ c. search needs) (λ c. search needs) (λ c. search needs)  -- mul-bounds, slice-write-bounds, mul-skips, slice-write-skips
+    (λ c. search needs) (λ c. search needs)  -- same-length, same-length-2
     returns)

@@ -39,29 +39,12 @@ relax-spec =
     Inv-loop
     μ-loop
     loop-holds
-    (λ c. search needs)  -- mul-loop
-    (λ c. search needs)  -- mul-rank
-    (λ c. search needs)  -- slice-read-rank
-    (λ c. search needs)  -- mul-old
-    (λ c. search needs)  -- slice-read-old
-    (λ c. search needs)  -- mul-gap
-    (λ c. search needs)  -- shared-slice-read-gap
-    (λ c. search needs)  -- gap-requires
-    (λ c. search needs)  -- sub-b
-    (λ c. search needs)  -- mul-bounds
-    (λ c. search needs)  -- slice-write-bounds
-    (λ c. search needs)  -- mul-skip-taken
-    (λ c. search needs)  -- slice-read-skip-taken
-    (λ c. search needs)  -- skip-taken-requires
-    (λ c. search needs)  -- mul-skips
-    (λ c. search needs)  -- slice-write-skips
-    (λ c. search needs)  -- rank-left-requires
-    (λ c. search needs)  -- mul-ranks
-    (λ c. search needs)  -- slice-write-ranks
-    (λ c. search needs)  -- add-v
-    (λ c. search needs)  -- loop-less
+    (λ c. search needs) (λ c. search needs) (λ c. search needs) (λ c. search needs)  -- mul-loop, mul-rank, slice-read-rank, mul-old
+    (λ c. search needs) (λ c. search needs) (λ c. search needs) (λ c. search needs)  -- slice-read-old, mul-gap, shared-slice-read-gap, gap-requires
+    (λ c. search needs) (λ c. search needs) (λ c. search needs) (λ c. search needs)  -- sub-b, mul-bounds, slice-write-bounds, mul-skip-taken
+    (λ c. search needs) (λ c. search needs) (λ c. search needs)  -- slice-read-skip-taken, skip-taken-requires, mul-skips
+    (λ c. search needs) (λ c. search needs) (λ c. search needs)  -- slice-write-skips, rank-left-requires, mul-ranks
+    (λ c. search needs) (λ c. search needs) (λ c. search needs)  -- slice-write-ranks, add-v, loop-less
     loop-again
-    (λ c. search needs)  -- same-length
-    (λ c. search needs)  -- same-length-2
-    (λ c. search needs)  -- same-length-3
+    (λ c. search needs) (λ c. search needs) (λ c. search needs)  -- same-length, same-length-2, same-length-3
     returns)

@@ -33,13 +33,7 @@ pub put-codes-spec : {M : Type 1} → statement M
 put-codes-spec =
     tie.close
     (tie.spec
-    (λ c. search needs)  -- shared-slice-read-put-word
-    (λ c. search needs)  -- put-word-requires
-    (λ c. search needs)  -- shared-slice-read-put-word-2
-    (λ c. search needs)  -- put-word-requires-2
-    (λ c. search needs)  -- shared-slice-read-put-word-3
-    (λ c. search needs)  -- put-word-requires-3
-    (λ c. search needs)  -- shared-slice-read-put-word-4
-    (λ c. search needs)  -- put-word-requires-4
-    (λ c. search needs)  -- same-length
+    (λ c. search needs) (λ c. search needs) (λ c. search needs)  -- shared-slice-read-put-word, put-word-requires, shared-slice-read-put-word-2
+    (λ c. search needs) (λ c. search needs) (λ c. search needs)  -- put-word-requires-2, shared-slice-read-put-word-3, put-word-requires-3
+    (λ c. search needs) (λ c. search needs) (λ c. search needs)  -- shared-slice-read-put-word-4, put-word-requires-4, same-length
     returns)

@@ -24,12 +24,7 @@ put-record-spec =
     tie.close
     (tie.spec
     slice-aggregate-put-codes
-    (λ c. search needs)  -- put-codes-requires
-    (λ c. search needs)  -- cast-put-word
-    (λ c. search needs)  -- put-word-requires
-    (λ c. search needs)  -- cast-put-word-2
-    (λ c. search needs)  -- put-word-requires-2
-    (λ c. search needs)  -- cast-put-word-3
-    (λ c. search needs)  -- put-word-requires-3
-    (λ c. search needs)  -- same-length
+    (λ c. search needs) (λ c. search needs) (λ c. search needs)  -- put-codes-requires, cast-put-word, put-word-requires
+    (λ c. search needs) (λ c. search needs) (λ c. search needs)  -- cast-put-word-2, put-word-requires-2, cast-put-word-3
+    (λ c. search needs) (λ c. search needs)  -- put-word-requires-3, same-length
     returns)

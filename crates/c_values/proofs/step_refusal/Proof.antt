@@ -43,6 +43,5 @@ step-refusal-spec =
     returns-2
     returns-3
     returns-4
-    (λ c. search needs)  -- record-of-requires
-    (λ c. search needs)  -- map-refusal-requires
+    (λ c. search needs) (λ c. search needs)  -- record-of-requires, map-refusal-requires
     returns-5)

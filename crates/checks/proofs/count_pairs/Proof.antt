@@ -32,7 +32,6 @@ count-pairs-spec =
     (λ c. search needs)  -- mul-loop
     (λ c κs. search (row-fits, needs))  -- degree-requires
     add-sum
-    (λ c. search needs)  -- add-u
-    (λ c. search needs)  -- loop-less
+    (λ c. search needs) (λ c. search needs)  -- add-u, loop-less
     (λ c. search counted-next)  -- loop-again
     (λ c. search counted-whole))  -- returns

@@ -46,23 +46,14 @@ figures-are-sound-spec =
     (λ c. search rows-start)  -- rows-holds
     (λ c. search needs)  -- mul-rows
     (λ c. search words-start)  -- loop-holds
-    (λ c. search needs)  -- mul-x
-    (λ c. search needs)  -- add-x
-    (λ c. search needs)  -- mul-x-2
-    (λ c. search needs)  -- shared-slice-read-x
+    (λ c. search needs) (λ c. search needs) (λ c. search needs) (λ c. search needs)  -- mul-x, add-x, mul-x-2, shared-slice-read-x
     (λ c. search bits-start)  -- loop2-holds
-    (λ c. search needs)  -- mul-high
-    (λ c. search needs)  -- least-requires
-    (λ c. search needs)  -- add-high
-    (λ c. search needs)  -- pair-is-sound-requires
-    (λ c. search needs)  -- drop-least-requires
-    (λ c. search needs)  -- loop2-less
+    (λ c. search needs) (λ c. search needs) (λ c. search needs) (λ c. search needs)  -- mul-high, least-requires, add-high, pair-is-sound-requires
+    (λ c. search needs) (λ c. search needs)  -- drop-least-requires, loop2-less
     (λ c. search bits-next)  -- loop2-again
-    (λ c. search needs)  -- add-w
-    (λ c. search needs)  -- loop-less
+    (λ c. search needs) (λ c. search needs)  -- add-w, loop-less
     (λ c. search words-next)  -- loop-again
-    (λ c. search needs)  -- add-low
-    (λ c. search needs)  -- rows-less
+    (λ c. search needs) (λ c. search needs)  -- add-low, rows-less
     (λ c. search rows-next)  -- rows-again
     (λ c. search (scan-whole, figures-scanned))  -- returns-3
     (λ c. search (scan-fault, figures-scanned)))  -- returns-4

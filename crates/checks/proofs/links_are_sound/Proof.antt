@@ -43,23 +43,14 @@ links-are-sound-spec =
     (λ c. search rows-start)  -- rows-holds
     (λ c. search needs)  -- mul-rows
     (λ c. search words-start)  -- loop-holds
-    (λ c. search needs)  -- mul-x
-    (λ c. search needs)  -- add-x
-    (λ c. search needs)  -- mul-x-2
-    (λ c. search needs)  -- shared-slice-read-x
+    (λ c. search needs) (λ c. search needs) (λ c. search needs) (λ c. search needs)  -- mul-x, add-x, mul-x-2, shared-slice-read-x
     (λ c. search bits-start)  -- loop2-holds
-    (λ c. search needs)  -- mul-v
-    (λ c. search needs)  -- least-requires
-    (λ c. search needs)  -- add-v
-    (λ c. search needs)  -- link-is-sound-requires
-    (λ c. search needs)  -- drop-least-requires
-    (λ c. search needs)  -- loop2-less
+    (λ c. search needs) (λ c. search needs) (λ c. search needs) (λ c. search needs)  -- mul-v, least-requires, add-v, link-is-sound-requires
+    (λ c. search needs) (λ c. search needs)  -- drop-least-requires, loop2-less
     (λ c. search bits-next)  -- loop2-again
-    (λ c. search needs)  -- add-w
-    (λ c. search needs)  -- loop-less
+    (λ c. search needs) (λ c. search needs)  -- add-w, loop-less
     (λ c. search words-next)  -- loop-again
-    (λ c. search needs)  -- add-u
-    (λ c. search needs)  -- rows-less
+    (λ c. search needs) (λ c. search needs)  -- add-u, rows-less
     (λ c. search rows-next)  -- rows-again
     (λ c. search (scan-whole, links-scanned))  -- returns-2
     (λ c. search (scan-fault, links-scanned)))  -- returns-3

@@ -213,10 +213,7 @@ answer-spec =
     Inv-loop
     μ-loop
     loop-holds
-    (λ c. search needs)  -- sub-feed
-    (λ c. search needs)  -- part-feed-start
-    (λ c. search needs)  -- part-feed-end
-    (λ c. search needs)  -- feed-requires
+    (λ c. search needs) (λ c. search needs) (λ c. search needs) (λ c. search needs)  -- sub-feed, part-feed-start, part-feed-end, feed-requires
     (λ c. search needs)  -- slice-reshare-prefix-write-all
     slice-aggregate-write-all
     (λ c. search needs)  -- write-all-requires
@@ -243,13 +240,7 @@ answer-spec =
     add-at
     loop-less
     loop-again
-    (λ c. search needs)  -- same-length-19
-    (λ c. search needs)  -- same-length-20
-    (λ c. search needs)  -- same-length-21
-    (λ c. search needs)  -- same-length-22
-    (λ c. search needs)  -- same-length-23
-    (λ c. search needs)  -- same-length-24
-    (λ c. search needs)  -- same-length-25
-    (λ c. search needs)  -- same-length-26
+    (λ c. search needs) (λ c. search needs) (λ c. search needs) (λ c. search needs)  -- same-length-19, same-length-20, same-length-21, same-length-22
+    (λ c. search needs) (λ c. search needs) (λ c. search needs) (λ c. search needs)  -- same-length-23, same-length-24, same-length-25, same-length-26
     (λ c. search needs)  -- same-length-27
     (λ c. search needs))  -- returns-3

@@ -245,8 +245,7 @@ answer-all-spec =
     Inv-loop
     μ-loop
     loop-holds
-    (λ c. search needs)  -- read-requires
-    (λ c. search needs)  -- count-requires
+    (λ c. search needs) (λ c. search needs)  -- read-requires, count-requires
     same-length
     same-length-2
     same-length-3
@@ -257,9 +256,7 @@ answer-all-spec =
     same-length-8
     same-length-9
     same-length-10
-    (λ c. search needs)  -- returns
-    (λ c. search needs)  -- slice-reshare-prefix-answer
-    (λ c. search needs)  -- slice-aggregate-answer
+    (λ c. search needs) (λ c. search needs) (λ c. search needs)  -- returns, slice-reshare-prefix-answer, slice-aggregate-answer
     (λ c. search needs)  -- answer-requires
     same-length-11
     same-length-12

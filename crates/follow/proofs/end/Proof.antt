@@ -14,16 +14,9 @@ pub end-spec : {M : Type 1} → statement M
 end-spec =
     tie.close
     (tie.spec
-    (λ c. search needs)  -- finish-requires
-    (λ c. search needs)  -- slice-reshare-prefix-write-all
+    (λ c. search needs) (λ c. search needs)  -- finish-requires, slice-reshare-prefix-write-all
     slice-aggregate-write-all
-    (λ c. search needs)  -- write-all-requires
-    (λ c. search needs)  -- same-length
-    (λ c. search needs)  -- same-length-2
-    (λ c. search needs)  -- same-length-3
-    (λ c. search needs)  -- same-length-4
-    (λ c. search needs)  -- same-length-5
-    (λ c. search needs)  -- same-length-6
-    (λ c. search needs)  -- same-length-7
+    (λ c. search needs) (λ c. search needs) (λ c. search needs) (λ c. search needs)  -- write-all-requires, same-length, same-length-2, same-length-3
+    (λ c. search needs) (λ c. search needs) (λ c. search needs) (λ c. search needs)  -- same-length-4, same-length-5, same-length-6, same-length-7
     (λ c. search needs)  -- same-length-8
     (λ c. search needs))  -- returns

@@ -54,9 +54,7 @@ pub main-spec : {M : Type 1} → statement M
 main-spec =
     tie.close
     (tie.spec
-    (λ c. search needs)  -- slice-aggregate-begin
-    (λ c. search needs)  -- slice-aggregate-begin-2
-    (λ c. search needs)  -- begin-requires
+    (λ c. search needs) (λ c. search needs) (λ c. search needs)  -- slice-aggregate-begin, slice-aggregate-begin-2, begin-requires
     slice-aggregate-follow
     slice-aggregate-follow-2
     slice-aggregate-follow-3
@@ -65,7 +63,6 @@ main-spec =
     slice-aggregate-follow-6
     slice-aggregate-follow-7
     slice-aggregate-follow-8
-    (λ c. search needs)  -- slice-aggregate-follow-9
-    (λ c. search needs)  -- slice-aggregate-follow-10
+    (λ c. search needs) (λ c. search needs)  -- slice-aggregate-follow-9, slice-aggregate-follow-10
     follow-requires
     (λ c. search needs))  -- returns

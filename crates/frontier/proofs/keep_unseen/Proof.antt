@@ -28,14 +28,8 @@ keep-unseen-spec =
     Inv-loop
     μ-loop
     (λ c. search keep-start)  -- loop-holds
-    (λ c. search needs)  -- mul-x
-    (λ c. search needs)  -- slice-read-x
-    (λ c. search needs)  -- mul-x-2
-    (λ c. search needs)  -- shared-slice-read-x
-    (λ c. search needs)  -- mul-next
-    (λ c. search needs)  -- slice-write-next
-    (λ c. search needs)  -- add-j
-    (λ c. search needs)  -- loop-less
+    (λ c. search needs) (λ c. search needs) (λ c. search needs) (λ c. search needs)  -- mul-x, slice-read-x, mul-x-2, shared-slice-read-x
+    (λ c. search needs) (λ c. search needs) (λ c. search needs) (λ c. search needs)  -- mul-next, slice-write-next, add-j, loop-less
     loop-again
     (λ c. search needs)  -- same-length
     (λ c. search keep-end))  -- returns

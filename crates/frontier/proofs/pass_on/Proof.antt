@@ -28,17 +28,9 @@ pass-on-spec =
     Inv-loop
     μ-loop
     (λ c. search pass-start)  -- loop-holds
-    (λ c. search needs)  -- mul-x
-    (λ c. search needs)  -- shared-slice-read-x
-    (λ c. search needs)  -- mul-other
-    (λ c. search needs)  -- slice-write-other
-    (λ c. search needs)  -- mul-seen
-    (λ c. search needs)  -- slice-read-seen
-    (λ c. search needs)  -- mul-seen-2
-    (λ c. search needs)  -- slice-write-seen
-    (λ c. search needs)  -- add-j
-    (λ c. search needs)  -- loop-less
+    (λ c. search needs) (λ c. search needs) (λ c. search needs) (λ c. search needs)  -- mul-x, shared-slice-read-x, mul-other, slice-write-other
+    (λ c. search needs) (λ c. search needs) (λ c. search needs) (λ c. search needs)  -- mul-seen, slice-read-seen, mul-seen-2, slice-write-seen
+    (λ c. search needs) (λ c. search needs)  -- add-j, loop-less
     loop-again
-    (λ c. search needs)  -- same-length
-    (λ c. search needs)  -- same-length-2
+    (λ c. search needs) (λ c. search needs)  -- same-length, same-length-2
     (λ c. search pass-end))  -- returns

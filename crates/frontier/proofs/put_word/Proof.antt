@@ -8,8 +8,6 @@ pub put-word-spec : {M : Type 1} → statement M
 put-word-spec =
     tie.close
     (tie.spec
-    (λ c. search needs)  -- mul-row
-    (λ c. search needs)  -- slice-write-row
-    (λ c. search needs)  -- same-length
+    (λ c. search needs) (λ c. search needs) (λ c. search needs)  -- mul-row, slice-write-row, same-length
     (λ c. search put-here)  -- returns
     (λ c. search put-past))  -- returns-2

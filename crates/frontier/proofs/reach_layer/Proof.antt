@@ -20,11 +20,9 @@ reach-layer-spec =
     Inv-loop
     μ-loop
     (λ c. search words-start)  -- loop-holds
-    (λ c. search needs)  -- mul-reach-word
-    (λ c. search needs)  -- shared-slice-read-reach-word
+    (λ c. search needs) (λ c. search needs)  -- mul-reach-word, shared-slice-read-reach-word
     (λ c κs. search (words-fit, needs))  -- reach-word-requires
-    (λ c. search needs)  -- add-w
-    (λ c. search needs)  -- loop-less
+    (λ c. search needs) (λ c. search needs)  -- add-w, loop-less
     (λ c. search words-next)  -- loop-again
     (λ c. search needs)  -- same-length
     (λ c. search words-end))  -- returns

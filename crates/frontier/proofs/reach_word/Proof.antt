@@ -63,10 +63,7 @@ reach-word-spec =
     Inv-loop
     μ-loop
     (λ c. search bits-start)  -- loop-holds
-    (λ c. search needs)  -- mul-v
-    (λ c. search needs)  -- least-requires
-    (λ c. search needs)  -- add-v
-    (λ c. search needs)  -- mul-hops
+    (λ c. search needs) (λ c. search needs) (λ c. search needs) (λ c. search needs)  -- mul-v, least-requires, add-v, mul-hops
     (λ c. search needs)  -- slice-write-hops
     with-word-requires
     (λ c. search needs)  -- add-with-word
@@ -75,8 +72,7 @@ reach-word-spec =
     with-word-requires-3
     (λ c. search needs)  -- add-with-word-3
     with-word-requires-4
-    (λ c. search needs)  -- drop-least-requires
-    (λ c. search needs)  -- loop-less
+    (λ c. search needs) (λ c. search needs)  -- drop-least-requires, loop-less
     loop-again
     (λ c. search needs)  -- same-length
     (λ c. search bits-end))  -- returns

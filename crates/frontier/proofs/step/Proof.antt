@@ -9,15 +9,9 @@ pub step-spec : {M : Type 1} → statement M
 step-spec =
     tie.close
     (tie.spec
-    (λ c. search needs)  -- visit-requires
-    (λ c. search needs)  -- keep-unseen-requires
-    (λ c. search needs)  -- same-length
-    (λ c. search needs)  -- same-length-2
+    (λ c. search needs) (λ c. search needs) (λ c. search needs) (λ c. search needs)  -- visit-requires, keep-unseen-requires, same-length, same-length-2
     (λ c. search needs)  -- same-length-3
     (λ c. search step-none)  -- returns
-    (λ c. search needs)  -- pass-on-requires
-    (λ c. search needs)  -- same-length-4
-    (λ c. search needs)  -- same-length-5
-    (λ c. search needs)  -- same-length-6
+    (λ c. search needs) (λ c. search needs) (λ c. search needs) (λ c. search needs)  -- pass-on-requires, same-length-4, same-length-5, same-length-6
     (λ c. search needs)  -- same-length-7
     (λ c. search step-more))  -- returns-2

@@ -65,17 +65,11 @@ visit-spec =
     Inv-loop
     μ-loop
     (λ c. search fours-start)  -- loop-holds
-    (λ c. search needs)  -- reach-layer-requires
-    (λ c. search needs)  -- put-word-requires
-    (λ c. search needs)  -- add-put-word
-    (λ c. search needs)  -- put-word-requires-2
-    (λ c. search needs)  -- add-put-word-2
-    (λ c. search needs)  -- put-word-requires-3
-    (λ c. search needs)  -- add-put-word-3
-    (λ c. search needs)  -- put-word-requires-4
+    (λ c. search needs) (λ c. search needs) (λ c. search needs)  -- reach-layer-requires, put-word-requires, add-put-word
+    (λ c. search needs) (λ c. search needs) (λ c. search needs)  -- put-word-requires-2, add-put-word-2, put-word-requires-3
+    (λ c. search needs) (λ c. search needs)  -- add-put-word-3, put-word-requires-4
     add-j
     (λ c. search needs)  -- loop-less
     loop-again
-    (λ c. search needs)  -- same-length
-    (λ c. search needs)  -- same-length-2
+    (λ c. search needs) (λ c. search needs)  -- same-length, same-length-2
     (λ c. search fours-end))  -- returns

@@ -22,8 +22,5 @@ with-word-spec =
     tie.close
     (tie.spec
     returns
-    (λ c. search needs)  -- mul-result
-    (λ c. search needs)  -- add-result
-    (λ c. search needs)  -- mul-result-2
-    (λ c. search needs)  -- shared-slice-read-result
+    (λ c. search needs) (λ c. search needs) (λ c. search needs) (λ c. search needs)  -- mul-result, add-result, mul-result-2, shared-slice-read-result
     returns-2)

@@ -12,9 +12,6 @@ pub join-spec : {M : Type 1} → statement M
 join-spec =
     tie.close
     (tie.spec
-    (λ c. search needs)  -- settle-by-requires
-    (λ c. search needs)  -- mark-once-requires
-    (λ c. search needs)  -- same-length
-    (λ c. search needs)  -- same-length-2
-    (λ c. search needs)  -- same-length-3
+    (λ c. search needs) (λ c. search needs) (λ c. search needs)  -- settle-by-requires, mark-once-requires, same-length
+    (λ c. search needs) (λ c. search needs)  -- same-length-2, same-length-3
     returns)

@@ -51,20 +51,10 @@ pub refigure-spec : {M : Type 1} → statement M
 refigure-spec =
     tie.close
     (tie.spec
-    (λ c. search needs)  -- search-once-requires
-    (λ c. search needs)  -- join-requires
-    (λ c. search needs)  -- same-length
-    (λ c. search needs)  -- same-length-2
-    (λ c. search needs)  -- same-length-3
-    (λ c. search needs)  -- same-length-4
-    (λ c. search needs)  -- same-length-5
-    (λ c. search needs)  -- same-length-6
+    (λ c. search needs) (λ c. search needs) (λ c. search needs) (λ c. search needs)  -- search-once-requires, join-requires, same-length, same-length-2
+    (λ c. search needs) (λ c. search needs) (λ c. search needs) (λ c. search needs)  -- same-length-3, same-length-4, same-length-5, same-length-6
     returns
     settle-low-requires
-    (λ c. search needs)  -- same-length-7
-    (λ c. search needs)  -- same-length-8
-    (λ c. search needs)  -- same-length-9
-    (λ c. search needs)  -- same-length-10
-    (λ c. search needs)  -- same-length-11
-    (λ c. search needs)  -- same-length-12
+    (λ c. search needs) (λ c. search needs) (λ c. search needs) (λ c. search needs)  -- same-length-7, same-length-8, same-length-9, same-length-10
+    (λ c. search needs) (λ c. search needs)  -- same-length-11, same-length-12
     returns-2)

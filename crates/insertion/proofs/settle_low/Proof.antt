@@ -87,24 +87,13 @@ settle-low-spec =
     (tie.spec
     (λ c. search needs)  -- drop-stale-requires
     join-requires
-    (λ c. search needs)  -- same-length
-    (λ c. search needs)  -- same-length-2
-    (λ c. search needs)  -- same-length-3
-    (λ c. search needs)  -- same-length-4
-    (λ c. search needs)  -- same-length-5
-    (λ c. search needs)  -- same-length-6
+    (λ c. search needs) (λ c. search needs) (λ c. search needs) (λ c. search needs)  -- same-length, same-length-2, same-length-3, same-length-4
+    (λ c. search needs) (λ c. search needs)  -- same-length-5, same-length-6
     returns
-    (λ c. search needs)  -- mark-once-requires
-    (λ c. search needs)  -- same-length-7
-    (λ c. search needs)  -- same-length-8
-    (λ c. search needs)  -- same-length-9
+    (λ c. search needs) (λ c. search needs) (λ c. search needs) (λ c. search needs)  -- mark-once-requires, same-length-7, same-length-8, same-length-9
     (λ c. search needs)  -- same-length-10
     returns-2
     shrink-requires
-    (λ c. search needs)  -- same-length-11
-    (λ c. search needs)  -- same-length-12
-    (λ c. search needs)  -- same-length-13
-    (λ c. search needs)  -- same-length-14
-    (λ c. search needs)  -- same-length-15
-    (λ c. search needs)  -- same-length-16
+    (λ c. search needs) (λ c. search needs) (λ c. search needs) (λ c. search needs)  -- same-length-11, same-length-12, same-length-13, same-length-14
+    (λ c. search needs) (λ c. search needs)  -- same-length-15, same-length-16
     returns-3)

@@ -82,18 +82,14 @@ pub shrink-spec : {M : Type 1} → statement M
 shrink-spec =
     tie.close
     (tie.spec
-    (λ c. search needs)  -- slice-aggregate-begin
-    (λ c. search needs)  -- begin-requires
-    (λ c. search needs)  -- slice-aggregate-absorb
+    (λ c. search needs) (λ c. search needs) (λ c. search needs)  -- slice-aggregate-begin, begin-requires, slice-aggregate-absorb
     absorb-requires
-    (λ c. search needs)  -- slice-aggregate-run-rounds
-    (λ c. search needs)  -- slice-aggregate-run-rounds-2
+    (λ c. search needs) (λ c. search needs)  -- slice-aggregate-run-rounds, slice-aggregate-run-rounds-2
     (λ c. search needs)  -- slice-aggregate-run-rounds-3
     run-rounds-requires
     same-length
     (λ c. search needs)  -- same-length-2
     same-length-3
     same-length-4
-    (λ c. search needs)  -- same-length-5
-    (λ c. search needs)  -- same-length-6
+    (λ c. search needs) (λ c. search needs)  -- same-length-5, same-length-6
     returns)

@@ -44,15 +44,7 @@ pub begin-spec : {M : Type 1} → statement M
 begin-spec =
     tie.close
     (tie.spec
-    (λ c. search needs)  -- mul-fill
-    (λ c. search needs)  -- fill-requires
-    (λ c. search needs)  -- clear-requires
-    (λ c. search needs)  -- clear-requires-2
-    (λ c. search needs)  -- clear-requires-3
-    (λ c. search needs)  -- row-set-requires
-    (λ c. search needs)  -- row-set-requires-2
-    (λ c. search needs)  -- same-length
-    (λ c. search needs)  -- same-length-2
-    (λ c. search needs)  -- same-length-3
-    (λ c. search needs)  -- same-length-4
+    (λ c. search needs) (λ c. search needs) (λ c. search needs) (λ c. search needs)  -- mul-fill, fill-requires, clear-requires, clear-requires-2
+    (λ c. search needs) (λ c. search needs) (λ c. search needs)  -- clear-requires-3, row-set-requires, row-set-requires-2
+    (λ c. search needs) (λ c. search needs) (λ c. search needs) (λ c. search needs)  -- same-length, same-length-2, same-length-3, same-length-4
     returns)

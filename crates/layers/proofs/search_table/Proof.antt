@@ -117,22 +117,14 @@ search-table-spec =
     μ-loop
     (λ c. search needs)  -- begin-requires
     loop-holds
-    (λ c. search needs)  -- step-requires
-    (λ c. search needs)  -- same-length
-    (λ c. search needs)  -- same-length-2
-    (λ c. search needs)  -- same-length-3
-    (λ c. search needs)  -- same-length-4
-    (λ c. search needs)  -- same-length-5
+    (λ c. search needs) (λ c. search needs) (λ c. search needs) (λ c. search needs)  -- step-requires, same-length, same-length-2, same-length-3
+    (λ c. search needs) (λ c. search needs)  -- same-length-4, same-length-5
     returns
     add-k
     (λ c. search needs)  -- loop-less
     loop-again
-    (λ c. search needs)  -- step-requires-2
-    (λ c. search needs)  -- same-length-6
-    (λ c. search needs)  -- same-length-7
-    (λ c. search needs)  -- same-length-8
-    (λ c. search needs)  -- same-length-9
-    (λ c. search needs)  -- same-length-10
+    (λ c. search needs) (λ c. search needs) (λ c. search needs) (λ c. search needs)  -- step-requires-2, same-length-6, same-length-7, same-length-8
+    (λ c. search needs) (λ c. search needs)  -- same-length-9, same-length-10
     returns-2
     add-k-2
     (λ c. search needs)  -- loop-less-2

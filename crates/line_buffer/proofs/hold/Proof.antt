@@ -14,8 +14,6 @@ pub hold-spec : {M : Type 1} → statement M
 hold-spec =
     tie.close
     (tie.spec
-    (λ c. search needs)  -- slice-write-line
-    (λ c. search needs)  -- add-result
-    (λ c. search needs)  -- same-length
+    (λ c. search needs) (λ c. search needs) (λ c. search needs)  -- slice-write-line, add-result, same-length
     returns
     returns-2)

@@ -50,8 +50,7 @@ hold-part-spec =
     loop-holds
     (λ c. search needs)  -- shared-slice-read-b
     hold-requires
-    (λ c. search needs)  -- add-at
-    (λ c. search needs)  -- same-length
+    (λ c. search needs) (λ c. search needs)  -- add-at, same-length
     returns
     (λ c. search needs)  -- loop-less
     loop-again

@@ -55,11 +55,8 @@ pub put-report-spec : {M : Type 1} → statement M
 put-report-spec =
     tie.close
     (tie.spec
-    (λ c. search needs)  -- sub-write-report
-    (λ c. search needs)  -- part-write-report-start
-    (λ c. search needs)  -- part-write-report-end
-    (λ c. search needs)  -- write-report-requires
-    (λ c. search needs)  -- enum-known-answer
+    (λ c. search needs) (λ c. search needs) (λ c. search needs)  -- sub-write-report, part-write-report-start, part-write-report-end
+    (λ c. search needs) (λ c. search needs)  -- write-report-requires, enum-known-answer
     add-result
     (λ c. search needs)  -- enum-told
     same-length

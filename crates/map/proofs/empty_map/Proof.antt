@@ -24,8 +24,5 @@ empty-map-spec =
     (tie.spec
     returns
     returns-2
-    (λ c. search needs)  -- clear-requires
-    (λ c. search needs)  -- clear-requires-2
-    (λ c. search needs)  -- same-length
-    (λ c. search needs)  -- same-length-2
+    (λ c. search needs) (λ c. search needs) (λ c. search needs) (λ c. search needs)  -- clear-requires, clear-requires-2, same-length, same-length-2
     returns-3)

@@ -44,11 +44,8 @@ all-digits-spec =
     (tie.spec
     Inv-loop
     μ-loop
-    (λ c. search needs)  -- loop-holds
-    (λ c. search needs)  -- shared-slice-read-is-digit
-    (λ c. search needs)  -- is-digit-requires
+    (λ c. search needs) (λ c. search needs) (λ c. search needs)  -- loop-holds, shared-slice-read-is-digit, is-digit-requires
     returns
-    (λ c. search needs)  -- add-i
-    (λ c. search needs)  -- loop-less
+    (λ c. search needs) (λ c. search needs)  -- add-i, loop-less
     loop-again
     returns-2)

@@ -22,13 +22,9 @@ pub byte-at-spec : {M : Type 1} → statement M
 byte-at-spec =
     tie.close
     (tie.spec
-    (λ c. search needs)  -- mul-value
-    (λ c. search needs)  -- shared-slice-read-value
+    (λ c. search needs) (λ c. search needs)  -- mul-value, shared-slice-read-value
     value-requires
-    (λ c. search needs)  -- mul-value-2
-    (λ c. search needs)  -- add-value
-    (λ c. search needs)  -- shared-slice-read-value-2
+    (λ c. search needs) (λ c. search needs) (λ c. search needs)  -- mul-value-2, add-value, shared-slice-read-value-2
     value-requires-2
-    (λ c. search needs)  -- mul-result
-    (λ c. search needs)  -- add-result
+    (λ c. search needs) (λ c. search needs)  -- mul-result, add-result
     (λ c. search byte-spelt))  -- returns

@@ -9,7 +9,6 @@ pub digit-spec : {M : Type 1} → statement M
 digit-spec =
     tie.close
     (tie.spec
-    (λ c. search needs)  -- add-result
-    (λ c. search needs)  -- add-result-2
+    (λ c. search needs) (λ c. search needs)  -- add-result, add-result-2
     (λ c. search digit-numeral)  -- returns
     (λ c. search digit-letter))  -- returns-2

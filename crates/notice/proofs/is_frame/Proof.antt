@@ -12,7 +12,5 @@ is-frame-spec =
     (λ c. search frame-short)  -- returns
     (λ c. search needs)  -- shared-slice-read-if2
     (λ c. search frame-kind)  -- returns-2
-    (λ c. search needs)  -- shared-slice-read-wide
-    (λ c. search needs)  -- wide-requires
-    (λ c. search needs)  -- add-result
+    (λ c. search needs) (λ c. search needs) (λ c. search needs)  -- shared-slice-read-wide, wide-requires, add-result
     (λ c. search frame-count))  -- returns-3

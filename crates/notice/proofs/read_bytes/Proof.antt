@@ -32,9 +32,7 @@ read-bytes-spec =
     μ-loop
     (λ c. search (copied-none, needs))  -- loop-holds
     byte-at-requires
-    (λ c. search needs)  -- slice-write-frame
-    (λ c. search needs)  -- add-i
-    (λ c. search needs)  -- loop-less
+    (λ c. search needs) (λ c. search needs) (λ c. search needs)  -- slice-write-frame, add-i, loop-less
     (λ c. search (bytes-more, needs))  -- loop-again
     (λ c. search needs)  -- same-length
     returns)

@@ -61,8 +61,7 @@ read-notice-spec =
     tie.close
     (tie.spec
     returns
-    (λ c. search needs)  -- first-part-requires
-    (λ c. search needs)  -- line-end-requires
+    (λ c. search needs) (λ c. search needs)  -- first-part-requires, line-end-requires
     returns-2
     (λ c. search digits-length)  -- slice-aggregate-digits
     (λ c. search needs)  -- spells-frame-requires

@@ -71,6 +71,5 @@ spells-frame-spec =
     byte-at-requires
     returns-4
     byte-at-requires-2
-    (λ c. search needs)  -- wide-requires
-    (λ c. search needs)  -- add-result
+    (λ c. search needs) (λ c. search needs)  -- wide-requires, add-result
     returns-5)

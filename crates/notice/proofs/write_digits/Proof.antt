@@ -40,14 +40,10 @@ write-digits-spec =
     (λ c. search (copied-none, needs))  -- loop-holds
     (λ c. search needs)  -- shared-slice-read-b
     digit-requires
-    (λ c. search needs)  -- mul-line
-    (λ c. search needs)  -- slice-write-line
-    (λ c. search needs)  -- digit-requires-2
-    (λ c. search needs)  -- mul-line-2
+    (λ c. search needs) (λ c. search needs) (λ c. search needs) (λ c. search needs)  -- mul-line, slice-write-line, digit-requires-2, mul-line-2
     (λ c. search needs)  -- add-line
     slice-write-line-2
-    (λ c. search needs)  -- add-i
-    (λ c. search needs)  -- loop-less
+    (λ c. search needs) (λ c. search needs)  -- add-i, loop-less
     (λ c. search (digits-more, needs))  -- loop-again
     (λ c. search needs)  -- same-length
     returns)

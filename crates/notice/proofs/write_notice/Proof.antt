@@ -71,6 +71,5 @@ write-notice-spec =
     write-digits-requires
     (λ c. search needs)  -- mul-end
     slice-write-line
-    (λ c. search needs)  -- add-t4
-    (λ c. search needs)  -- same-length
+    (λ c. search needs) (λ c. search needs)  -- add-t4, same-length
     returns-3)

@@ -11,17 +11,9 @@ pub open-step-spec : {M : Type 1} → statement M
 open-step-spec =
     tie.close
     (tie.spec
-    (λ c. search needs)  -- map-refusal-requires
-    (λ c. search needs)  -- refused-requires
-    (λ c. search needs)  -- same-length
+    (λ c. search needs) (λ c. search needs) (λ c. search needs)  -- map-refusal-requires, refused-requires, same-length
     (λ c. search needs)  -- same-length-2
     returns
-    (λ c. search needs)  -- open-sound-requires
-    (λ c. search needs)  -- same-length-3
-    (λ c. search needs)  -- same-length-4
-    (λ c. search needs)  -- same-length-5
-    (λ c. search needs)  -- same-length-6
-    (λ c. search needs)  -- same-length-7
-    (λ c. search needs)  -- same-length-8
-    (λ c. search needs)  -- same-length-9
+    (λ c. search needs) (λ c. search needs) (λ c. search needs) (λ c. search needs)  -- open-sound-requires, same-length-3, same-length-4, same-length-5
+    (λ c. search needs) (λ c. search needs) (λ c. search needs) (λ c. search needs)  -- same-length-6, same-length-7, same-length-8, same-length-9
     (λ c. search needs))  -- returns-2

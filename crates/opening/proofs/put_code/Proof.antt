@@ -17,6 +17,5 @@ pub put-code-spec : {M : Type 1} → statement M
 put-code-spec =
     tie.close
     (tie.spec
-    (λ c. search needs)  -- row-set-requires
-    (λ c. search needs)  -- same-length
+    (λ c. search needs) (λ c. search needs)  -- row-set-requires, same-length
     returns)

@@ -25,10 +25,7 @@ pub letter-spec : {M : Type 1} → statement M
 letter-spec =
     tie.close
     (tie.spec
-    (λ c. search needs)  -- enum-known-o
-    (λ c. search needs)  -- enum-told
-    (λ c. search needs)  -- enum-told-2
-    (λ c. search needs)  -- enum-told-3
+    (λ c. search needs) (λ c. search needs) (λ c. search needs) (λ c. search needs)  -- enum-known-o, enum-told, enum-told-2, enum-told-3
     (λ c. search needs)  -- enum-told-4
     returns
     returns-2

@@ -28,6 +28,5 @@ lower-part-spec =
     returns
     (λ c. search needs)  -- add-if2
     returns-2
-    (λ c. search needs)  -- sub-below
-    (λ c. search needs)  -- below-requires
+    (λ c. search needs) (λ c. search needs)  -- sub-below, below-requires
     returns-3)

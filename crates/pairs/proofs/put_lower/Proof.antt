@@ -30,12 +30,9 @@ put-lower-spec =
     Inv-loop
     μ-loop
     loop-holds
-    (λ c. search needs)  -- mul-low
-    (λ c. search needs)  -- least-requires
-    (λ c. search needs)  -- add-low
+    (λ c. search needs) (λ c. search needs) (λ c. search needs)  -- mul-low, least-requires, add-low
     (λ c κs. search (holds-counted, needs))  -- put-pair-requires
-    (λ c. search needs)  -- drop-least-requires
-    (λ c. search needs)  -- loop-less
+    (λ c. search needs) (λ c. search needs)  -- drop-least-requires, loop-less
     (λ c. search lower-more)  -- loop-again
     (λ c. search holds-length)  -- same-length
     returns)

@@ -10,14 +10,11 @@ pub settle-spec : {M : Type 1} → statement M
 settle-spec =
     tie.close
     (tie.spec
-    (λ c. search needs)  -- mul-clear
-    (λ c. search needs)  -- mul-clear-2
-    (λ c. search needs)  -- clear-requires
+    (λ c. search needs) (λ c. search needs) (λ c. search needs)  -- mul-clear, mul-clear-2, clear-requires
     (λ c κs. search (holds-counted, clear-holds))  -- add-pairs-requires
     (λ c. search needs)  -- same-length
     (λ c. search (clear-holds, settle-above))  -- returns
-    (λ c. search needs)  -- add-pairs-requires-2
-    (λ c. search needs)  -- same-length-2
+    (λ c. search needs) (λ c. search needs)  -- add-pairs-requires-2, same-length-2
     (λ c. search settle-equal)  -- returns-2
     (λ c. search settle-zero)  -- returns-3
     (λ c. search settle-below))  -- returns-4

@@ -51,16 +51,10 @@ pub reckon-map-spec : {M : Type 1} → statement M
 reckon-map-spec =
     tie.close
     (tie.spec
-    (λ c. search needs)  -- slice-aggregate-begin
-    (λ c. search needs)  -- begin-requires
-    (λ c. search needs)  -- slice-aggregate-run-rounds
+    (λ c. search needs) (λ c. search needs) (λ c. search needs)  -- slice-aggregate-begin, begin-requires, slice-aggregate-run-rounds
     (λ c. search needs)  -- slice-aggregate-run-rounds-2
     slice-aggregate-run-rounds-3
     run-rounds-requires
-    (λ c. search needs)  -- same-length
-    (λ c. search needs)  -- same-length-2
-    (λ c. search needs)  -- same-length-3
-    (λ c. search needs)  -- same-length-4
-    (λ c. search needs)  -- same-length-5
-    (λ c. search needs)  -- same-length-6
+    (λ c. search needs) (λ c. search needs) (λ c. search needs) (λ c. search needs)  -- same-length, same-length-2, same-length-3, same-length-4
+    (λ c. search needs) (λ c. search needs)  -- same-length-5, same-length-6
     returns)

@@ -35,18 +35,15 @@ put-number-spec =
     (tie.spec
     Inv-loop
     μ-loop
-    (λ c. search needs)  -- digits-requires
-    (λ c. search needs)  -- add-end
+    (λ c. search needs) (λ c. search needs)  -- digits-requires, add-end
     sub-i
     loop-holds
-    (λ c. search needs)  -- cast-line
-    (λ c. search needs)  -- add-line
+    (λ c. search needs) (λ c. search needs)  -- cast-line, add-line
     (λ c. search fill-place)  -- slice-write-line
     (λ c. search fill-before)  -- sub-i-2
     (λ c. search needs)  -- loop-less
     loop-again
-    (λ c. search needs)  -- cast-line-2
-    (λ c. search needs)  -- add-line-2
+    (λ c. search needs) (λ c. search needs)  -- cast-line-2, add-line-2
     (λ c. search fill-place)  -- slice-write-line-2
     (λ c. search (fill-size, needs))  -- same-length
     (λ c. search fill-end))  -- returns

@@ -42,14 +42,9 @@ pub put-outcome-spec : {M : Type 1} → statement M
 put-outcome-spec =
     tie.close
     (tie.spec
-    (λ c. search needs)  -- slice-write-line
-    (λ c. search needs)  -- letter-requires
-    (λ c. search needs)  -- add-line
+    (λ c. search needs) (λ c. search needs) (λ c. search needs)  -- slice-write-line, letter-requires, add-line
     slice-write-line-2
-    (λ c. search needs)  -- enum-told
-    (λ c. search needs)  -- add-result
-    (λ c. search needs)  -- enum-known-outcome
-    (λ c. search needs)  -- add-put-number
+    (λ c. search needs) (λ c. search needs) (λ c. search needs) (λ c. search needs)  -- enum-told, add-result, enum-known-outcome, add-put-number
     (λ c. search needs)  -- cast-put-number
     put-number-requires
     (λ c. search needs)  -- same-length

@@ -9,10 +9,8 @@ pub report-line-spec : {M : Type 1} → statement M
 report-line-spec =
     tie.close
     (tie.spec
-    (λ c. search needs)  -- write-report-requires
-    (λ c. search needs)  -- enum-known-answer
+    (λ c. search needs) (λ c. search needs)  -- write-report-requires, enum-known-answer
     (λ c. search part-length)  -- slice-aggregate-part
-    (λ c. search needs)  -- enum-told
-    (λ c. search needs)  -- slice-aggregate-part-2
+    (λ c. search needs) (λ c. search needs)  -- enum-told, slice-aggregate-part-2
     (λ c. search line-handed)  -- returns
     (λ c. search none-handed))  -- returns-2

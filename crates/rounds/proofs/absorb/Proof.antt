@@ -13,13 +13,7 @@ pub absorb-spec : {M : Type 1} → statement M
 absorb-spec =
     tie.close
     (tie.spec
-    (λ c. search needs)  -- settle-by-requires
-    (λ c. search needs)  -- raise-requires
-    (λ c. search needs)  -- leave-requires
-    (λ c. search needs)  -- cast-relax
-    (λ c. search needs)  -- relax-requires
-    (λ c. search needs)  -- same-length
-    (λ c. search needs)  -- same-length-2
-    (λ c. search needs)  -- same-length-3
+    (λ c. search needs) (λ c. search needs) (λ c. search needs) (λ c. search needs)  -- settle-by-requires, raise-requires, leave-requires, cast-relax
+    (λ c. search needs) (λ c. search needs) (λ c. search needs) (λ c. search needs)  -- relax-requires, same-length, same-length-2, same-length-3
     (λ c. search needs)  -- same-length-4
     returns)

@@ -13,16 +13,7 @@ pub begin-spec : {M : Type 1} → statement M
 begin-spec =
     tie.close
     (tie.spec
-    (λ c. search needs)  -- mul-clear
-    (λ c. search needs)  -- mul-clear-2
-    (λ c. search needs)  -- clear-requires
-    (λ c. search needs)  -- mul-fill
-    (λ c. search needs)  -- fill-requires
-    (λ c. search needs)  -- mul-fill-2
-    (λ c. search needs)  -- fill-requires-2
-    (λ c. search needs)  -- rank-all-requires
-    (λ c. search needs)  -- same-length
-    (λ c. search needs)  -- same-length-2
-    (λ c. search needs)  -- same-length-3
-    (λ c. search needs)  -- same-length-4
+    (λ c. search needs) (λ c. search needs) (λ c. search needs) (λ c. search needs)  -- mul-clear, mul-clear-2, clear-requires, mul-fill
+    (λ c. search needs) (λ c. search needs) (λ c. search needs) (λ c. search needs)  -- fill-requires, mul-fill-2, fill-requires-2, rank-all-requires
+    (λ c. search needs) (λ c. search needs) (λ c. search needs) (λ c. search needs)  -- same-length, same-length-2, same-length-3, same-length-4
     returns)

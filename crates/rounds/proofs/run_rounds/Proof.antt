@@ -105,18 +105,9 @@ run-rounds-spec =
     Inv-loop
     μ-loop
     loop-holds
-    (λ c. search needs)  -- pick-next-requires
-    (λ c. search needs)  -- enum-known-found
-    (λ c. search needs)  -- enum-told
-    (λ c. search needs)  -- same-length
-    (λ c. search needs)  -- same-length-2
-    (λ c. search needs)  -- same-length-3
-    (λ c. search needs)  -- same-length-4
-    (λ c. search needs)  -- same-length-5
-    (λ c. search needs)  -- same-length-6
-    (λ c. search needs)  -- same-length-7
-    (λ c. search needs)  -- same-length-8
-    (λ c. search needs)  -- same-length-9
+    (λ c. search needs) (λ c. search needs) (λ c. search needs) (λ c. search needs)  -- pick-next-requires, enum-known-found, enum-told, same-length
+    (λ c. search needs) (λ c. search needs) (λ c. search needs) (λ c. search needs)  -- same-length-2, same-length-3, same-length-4, same-length-5
+    (λ c. search needs) (λ c. search needs) (λ c. search needs) (λ c. search needs)  -- same-length-6, same-length-7, same-length-8, same-length-9
     returns
     round-requires
     loop-less

@@ -15,9 +15,7 @@ pub settle-by-spec : {M : Type 1} → statement M
 settle-by-spec =
     tie.close
     (tie.spec
-    (λ c. search needs)  -- settle-requires
-    (λ c. search needs)  -- same-length
+    (λ c. search needs) (λ c. search needs)  -- settle-requires, same-length
     returns
-    (λ c. search needs)  -- settle-requires-2
-    (λ c. search needs)  -- same-length-2
+    (λ c. search needs) (λ c. search needs)  -- settle-requires-2, same-length-2
     returns-2)

@@ -24,10 +24,7 @@ all-zero-spec =
     Inv-loop
     μ-loop
     (λ c. search union-start)  -- loop-holds
-    (λ c. search needs)  -- add-union
-    (λ c. search needs)  -- mul-union
-    (λ c. search needs)  -- shared-slice-read-union
-    (λ c. search needs)  -- add-j
+    (λ c. search needs) (λ c. search needs) (λ c. search needs) (λ c. search needs)  -- add-union, mul-union, shared-slice-read-union, add-j
     (λ c. search needs)  -- loop-less
     (λ c. search union-more)  -- loop-again
     returns)

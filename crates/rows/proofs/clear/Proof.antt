@@ -41,10 +41,7 @@ clear-spec =
     Inv-loop
     μ-loop
     (λ c. search (turn-none, needs))  -- loop-holds
-    (λ c. search needs)  -- mul-row
-    (λ c. search needs)  -- slice-write-row
-    (λ c. search needs)  -- add-j
-    (λ c. search needs)  -- loop-less
+    (λ c. search needs) (λ c. search needs) (λ c. search needs) (λ c. search needs)  -- mul-row, slice-write-row, add-j, loop-less
     loop-again
     (λ c. search needs)  -- same-length
     returns)

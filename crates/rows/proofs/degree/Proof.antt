@@ -51,13 +51,7 @@ degree-spec =
     μ-loop
     (λ c. search needs)  -- mul-base
     loop-holds
-    (λ c. search needs)  -- add-count
-    (λ c. search needs)  -- mul-count
-    (λ c. search needs)  -- shared-slice-read-count
-    (λ c. search needs)  -- count-requires
-    (λ c. search needs)  -- cast-sum
-    (λ c. search needs)  -- add-sum
-    (λ c. search needs)  -- add-j
-    (λ c. search needs)  -- loop-less
+    (λ c. search needs) (λ c. search needs) (λ c. search needs) (λ c. search needs)  -- add-count, mul-count, shared-slice-read-count, count-requires
+    (λ c. search needs) (λ c. search needs) (λ c. search needs) (λ c. search needs)  -- cast-sum, add-sum, add-j, loop-less
     loop-again
     returns)

@@ -43,10 +43,7 @@ fill-spec =
     Inv-loop
     μ-loop
     (λ c. search (fill-none, needs))  -- loop-holds
-    (λ c. search needs)  -- mul-table
-    (λ c. search needs)  -- slice-write-table
-    (λ c. search needs)  -- add-v
-    (λ c. search needs)  -- loop-less
+    (λ c. search needs) (λ c. search needs) (λ c. search needs) (λ c. search needs)  -- mul-table, slice-write-table, add-v, loop-less
     loop-again
     (λ c. search needs)  -- same-length
     returns)

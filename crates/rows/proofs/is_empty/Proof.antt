@@ -42,10 +42,8 @@ is-empty-spec =
     Inv-loop
     μ-loop
     loop-holds
-    (λ c. search needs)  -- mul-if1
-    (λ c. search needs)  -- shared-slice-read-if1
+    (λ c. search needs) (λ c. search needs)  -- mul-if1, shared-slice-read-if1
     returns
-    (λ c. search needs)  -- add-j
-    (λ c. search needs)  -- loop-less
+    (λ c. search needs) (λ c. search needs)  -- add-j, loop-less
     (λ c. search (passed-more, needs))  -- loop-again
     returns-2)

@@ -47,21 +47,14 @@ next-member-spec =
     Inv-loop
     μ-loop
     returns
-    (λ c. search needs)  -- mul-w
-    (λ c. search needs)  -- shared-slice-read-w
-    (λ c. search needs)  -- shr-w
-    (λ c. search needs)  -- least-requires
+    (λ c. search needs) (λ c. search needs) (λ c. search needs) (λ c. search needs)  -- mul-w, shared-slice-read-w, shr-w, least-requires
     (λ c. search needs)  -- add-t15
     returns-2
     (λ c. search needs)  -- add-j
     loop-holds
-    (λ c. search needs)  -- mul-x
-    (λ c. search needs)  -- shared-slice-read-x
-    (λ c. search needs)  -- mul-t20
-    (λ c. search needs)  -- least-requires-2
+    (λ c. search needs) (λ c. search needs) (λ c. search needs) (λ c. search needs)  -- mul-x, shared-slice-read-x, mul-t20, least-requires-2
     (λ c. search needs)  -- add-t22
     (λ c. search passed-next)  -- returns-3
-    (λ c. search needs)  -- add-j-2
-    (λ c. search needs)  -- loop-less
+    (λ c. search needs) (λ c. search needs)  -- add-j-2, loop-less
     (λ c. search (passed-more, needs))  -- loop-again
     (λ c. search passed-all))  -- returns-4

@@ -21,12 +21,6 @@ pub row-set-spec : {M : Type 1} → statement M
 row-set-spec =
     tie.close
     (tie.spec
-    (λ c. search needs)  -- mul-i
-    (λ c. search needs)  -- add-i
-    (λ c. search needs)  -- mul-w
-    (λ c. search needs)  -- slice-read-w
-    (λ c. search needs)  -- with-bit-requires
-    (λ c. search needs)  -- mul-t
-    (λ c. search needs)  -- slice-write-t
-    (λ c. search needs)  -- same-length
+    (λ c. search needs) (λ c. search needs) (λ c. search needs) (λ c. search needs)  -- mul-i, add-i, mul-w, slice-read-w
+    (λ c. search needs) (λ c. search needs) (λ c. search needs) (λ c. search needs)  -- with-bit-requires, mul-t, slice-write-t, same-length
     returns)

@@ -9,9 +9,6 @@ pub row-test-spec : {M : Type 1} → statement M
 row-test-spec =
     tie.close
     (tie.spec
-    (λ c. search needs)  -- mul-test
-    (λ c. search needs)  -- add-test
-    (λ c. search needs)  -- mul-test-2
-    (λ c. search needs)  -- shared-slice-read-test
+    (λ c. search needs) (λ c. search needs) (λ c. search needs) (λ c. search needs)  -- mul-test, add-test, mul-test-2, shared-slice-read-test
     (λ c. search needs)  -- test-requires
     (λ c. search table-in))  -- returns

@@ -47,10 +47,8 @@ all-reached-spec =
     Inv-loop
     μ-loop
     loop-holds
-    (λ c. search needs)  -- mul-loop
-    (λ c. search needs)  -- is-reached-requires
+    (λ c. search needs) (λ c. search needs)  -- mul-loop, is-reached-requires
     returns
-    (λ c. search needs)  -- add-v
-    (λ c. search needs)  -- loop-less
+    (λ c. search needs) (λ c. search needs)  -- add-v, loop-less
     loop-again
     returns-2)

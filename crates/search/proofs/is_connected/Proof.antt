@@ -63,15 +63,9 @@ pub is-connected-spec : {M : Type 1} → statement M
 is-connected-spec =
     tie.close
     (tie.spec
-    (λ c. search needs)  -- next-member-requires
-    (λ c. search needs)  -- enum-known-lowest
-    (λ c. search needs)  -- enum-told
+    (λ c. search needs) (λ c. search needs) (λ c. search needs)  -- next-member-requires, enum-known-lowest, enum-told
     returns
     search-table-requires
-    (λ c. search needs)  -- all-reached-requires
-    (λ c. search needs)  -- same-length
-    (λ c. search needs)  -- same-length-2
-    (λ c. search needs)  -- same-length-3
-    (λ c. search needs)  -- same-length-4
-    (λ c. search needs)  -- same-length-5
+    (λ c. search needs) (λ c. search needs) (λ c. search needs) (λ c. search needs)  -- all-reached-requires, same-length, same-length-2, same-length-3
+    (λ c. search needs) (λ c. search needs)  -- same-length-4, same-length-5
     returns-2)

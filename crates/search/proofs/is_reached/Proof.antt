@@ -22,6 +22,5 @@ is-reached-spec =
     (tie.spec
     (λ c. search needs)  -- is-open-requires
     returns
-    (λ c. search needs)  -- mul-result
-    (λ c. search needs)  -- shared-slice-read-result
+    (λ c. search needs) (λ c. search needs)  -- mul-result, shared-slice-read-result
     returns-2)

@@ -42,10 +42,7 @@ search-from-spec =
     (tie.spec
     (λ c. search needs)  -- search-refusal-requires
     returns
-    (λ c. search needs)  -- slice-aggregate-search-table
-    (λ c. search needs)  -- slice-aggregate-search-table-2
+    (λ c. search needs) (λ c. search needs)  -- slice-aggregate-search-table, slice-aggregate-search-table-2
     search-table-requires
-    (λ c. search needs)  -- same-length
-    (λ c. search needs)  -- same-length-2
-    (λ c. search needs)  -- same-length-3
+    (λ c. search needs) (λ c. search needs) (λ c. search needs)  -- same-length, same-length-2, same-length-3
     returns-2)

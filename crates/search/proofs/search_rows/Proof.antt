@@ -21,12 +21,8 @@ pub search-rows-spec : {M : Type 1} → statement M
 search-rows-spec =
     tie.close
     (tie.spec
-    (λ c. search needs)  -- search-from-requires
-    (λ c. search needs)  -- enum-known-found
-    (λ c. search needs)  -- last-layer-requires
-    (λ c. search needs)  -- enum-known-found-2
-    (λ c. search needs)  -- slice-aggregate-last
-    (λ c. search needs)  -- same-length
+    (λ c. search needs) (λ c. search needs) (λ c. search needs)  -- search-from-requires, enum-known-found, last-layer-requires
+    (λ c. search needs) (λ c. search needs) (λ c. search needs)  -- enum-known-found-2, slice-aggregate-last, same-length
     returns
     (λ c. search needs)  -- same-length-2
     returns-2)

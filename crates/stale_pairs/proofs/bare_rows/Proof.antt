@@ -24,8 +24,7 @@ pub bare-rows-spec : {M : Type 1} → statement M
 bare-rows-spec =
     tie.close
     (tie.spec
-    (λ c. search needs)  -- bare-groups-requires
-    (λ c. search needs)  -- returns
+    (λ c. search needs) (λ c. search needs)  -- bare-groups-requires, returns
     mul-all-zero
     (λ c κs. search row-fits)  -- all-zero-requires
     returns-2

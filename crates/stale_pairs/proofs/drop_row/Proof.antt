@@ -89,15 +89,12 @@ drop-row-spec =
     add-i
     mul-sift
     slice-read-sift
-    (λ c. search needs)  -- mul-sift-2
-    (λ c. search needs)  -- sift-requires
+    (λ c. search needs) (λ c. search needs)  -- mul-sift-2, sift-requires
     mul-pairs
     slice-write-pairs
     (λ c. search needs)  -- count-requires
     add-count
-    (λ c. search needs)  -- longer-requires
-    (λ c. search needs)  -- add-j
-    (λ c. search needs)  -- loop-less
+    (λ c. search needs) (λ c. search needs) (λ c. search needs)  -- longer-requires, add-j, loop-less
     (λ c. search row-word)  -- loop-again
     (λ c. search needs)  -- same-length
     returns)

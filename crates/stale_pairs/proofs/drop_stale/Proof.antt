@@ -38,16 +38,11 @@ drop-stale-spec =
     Inv-loop
     μ-loop
     loop-holds
-    (λ c. search needs)  -- mul-loop
-    (λ c. search needs)  -- bare-rows-requires
-    (λ c. search needs)  -- add-u
-    (λ c. search needs)  -- loop-less
+    (λ c. search needs) (λ c. search needs) (λ c. search needs) (λ c. search needs)  -- mul-loop, bare-rows-requires, add-u, loop-less
     (λ c. search table-bare)  -- loop-again
     (λ c. search needs)  -- drop-row-requires
     add-count
-    (λ c. search needs)  -- longer-requires
-    (λ c. search needs)  -- add-u-2
-    (λ c. search needs)  -- loop-less-2
+    (λ c. search needs) (λ c. search needs) (λ c. search needs)  -- longer-requires, add-u-2, loop-less-2
     (λ c. search table-more)  -- loop-again-2
     (λ c. search needs)  -- same-length
     (λ c. search table-end))  -- returns

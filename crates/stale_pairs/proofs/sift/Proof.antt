@@ -24,15 +24,9 @@ sift-spec =
     Inv-loop
     μ-loop
     (λ c. search sift-start)  -- loop-holds
-    (λ c. search needs)  -- least-requires
-    (λ c. search needs)  -- add-way-by
-    (λ c. search needs)  -- way-by-requires
-    (λ c. search needs)  -- longer-requires
-    (λ c. search needs)  -- without-bit-requires
-    (λ c. search needs)  -- drop-least-requires
-    (λ c. search needs)  -- loop-less
+    (λ c. search needs) (λ c. search needs) (λ c. search needs) (λ c. search needs)  -- least-requires, add-way-by, way-by-requires, longer-requires
+    (λ c. search needs) (λ c. search needs) (λ c. search needs)  -- without-bit-requires, drop-least-requires, loop-less
     (λ c. search sift-drop)  -- loop-again
-    (λ c. search needs)  -- drop-least-requires-2
-    (λ c. search needs)  -- loop-less-2
+    (λ c. search needs) (λ c. search needs)  -- drop-least-requires-2, loop-less-2
     (λ c. search sift-keep)  -- loop-again-2
     returns)

@@ -24,13 +24,10 @@ pub way-by-spec : {M : Type 1} → statement M
 way-by-spec =
     tie.close
     (tie.spec
-    (λ c. search needs)  -- mul-near
-    (λ c. search needs)  -- shared-slice-read-near
+    (λ c. search needs) (λ c. search needs)  -- mul-near, shared-slice-read-near
     cast-near
-    (λ c. search needs)  -- mul-far
-    (λ c. search needs)  -- shared-slice-read-far
+    (λ c. search needs) (λ c. search needs)  -- mul-far, shared-slice-read-far
     cast-far
     add-sum
-    (λ c. search needs)  -- cast-result
-    (λ c. search needs)  -- returns
+    (λ c. search needs) (λ c. search needs)  -- cast-result, returns
     (λ c. search needs))  -- returns-2

@@ -74,21 +74,12 @@ answer-line-spec =
     tie.close
     (tie.spec
     slice-aggregate-read-notice
-    (λ c. search needs)  -- read-notice-requires
-    (λ c. search needs)  -- enum-known-got
-    (λ c. search needs)  -- array-read-code
+    (λ c. search needs) (λ c. search needs) (λ c. search needs)  -- read-notice-requires, enum-known-got, array-read-code
     sub-open-sound
     part-open-sound-start
     part-open-sound-end
-    (λ c. search needs)  -- open-sound-requires
-    (λ c. search needs)  -- enum-known-got-2
-    (λ c. search needs)  -- garbled-requires
-    (λ c. search needs)  -- same-length
-    (λ c. search needs)  -- same-length-2
-    (λ c. search needs)  -- same-length-3
-    (λ c. search needs)  -- same-length-4
-    (λ c. search needs)  -- same-length-5
-    (λ c. search needs)  -- same-length-6
-    (λ c. search needs)  -- same-length-7
+    (λ c. search needs) (λ c. search needs) (λ c. search needs)  -- open-sound-requires, enum-known-got-2, garbled-requires
+    (λ c. search needs) (λ c. search needs) (λ c. search needs) (λ c. search needs)  -- same-length, same-length-2, same-length-3, same-length-4
+    (λ c. search needs) (λ c. search needs) (λ c. search needs)  -- same-length-5, same-length-6, same-length-7
     returns
     returns-2)

@@ -171,38 +171,19 @@ feed-spec =
     Inv-loop
     μ-loop
     loop-holds
-    (λ c. search needs)  -- is-stopped-requires
-    (λ c. search needs)  -- same-length
-    (λ c. search needs)  -- same-length-2
-    (λ c. search needs)  -- same-length-3
-    (λ c. search needs)  -- same-length-4
-    (λ c. search needs)  -- same-length-5
-    (λ c. search needs)  -- same-length-6
-    (λ c. search needs)  -- same-length-7
-    (λ c. search needs)  -- same-length-8
-    (λ c. search needs)  -- same-length-9
+    (λ c. search needs) (λ c. search needs) (λ c. search needs) (λ c. search needs)  -- is-stopped-requires, same-length, same-length-2, same-length-3
+    (λ c. search needs) (λ c. search needs) (λ c. search needs) (λ c. search needs)  -- same-length-4, same-length-5, same-length-6, same-length-7
+    (λ c. search needs) (λ c. search needs)  -- same-length-8, same-length-9
     returns
     hold-part-requires
-    (λ c. search needs)  -- same-length-10
-    (λ c. search needs)  -- same-length-11
-    (λ c. search needs)  -- same-length-12
-    (λ c. search needs)  -- same-length-13
-    (λ c. search needs)  -- same-length-14
-    (λ c. search needs)  -- same-length-15
-    (λ c. search needs)  -- same-length-16
-    (λ c. search needs)  -- same-length-17
+    (λ c. search needs) (λ c. search needs) (λ c. search needs) (λ c. search needs)  -- same-length-10, same-length-11, same-length-12, same-length-13
+    (λ c. search needs) (λ c. search needs) (λ c. search needs) (λ c. search needs)  -- same-length-14, same-length-15, same-length-16, same-length-17
     (λ c. search needs)  -- same-length-18
     returns-2
     take-line-requires
     loop-less
     loop-again
-    (λ c. search needs)  -- same-length-19
-    (λ c. search needs)  -- same-length-20
-    (λ c. search needs)  -- same-length-21
-    (λ c. search needs)  -- same-length-22
-    (λ c. search needs)  -- same-length-23
-    (λ c. search needs)  -- same-length-24
-    (λ c. search needs)  -- same-length-25
-    (λ c. search needs)  -- same-length-26
+    (λ c. search needs) (λ c. search needs) (λ c. search needs) (λ c. search needs)  -- same-length-19, same-length-20, same-length-21, same-length-22
+    (λ c. search needs) (λ c. search needs) (λ c. search needs) (λ c. search needs)  -- same-length-23, same-length-24, same-length-25, same-length-26
     (λ c. search needs)  -- same-length-27
     returns-3)

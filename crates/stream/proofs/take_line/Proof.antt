@@ -48,12 +48,6 @@ take-line-spec =
     (λ c. search needs)  -- answer-line-requires
     add-number
     put-report-requires
-    (λ c. search needs)  -- same-length
-    (λ c. search needs)  -- same-length-2
-    (λ c. search needs)  -- same-length-3
-    (λ c. search needs)  -- same-length-4
-    (λ c. search needs)  -- same-length-5
-    (λ c. search needs)  -- same-length-6
-    (λ c. search needs)  -- same-length-7
-    (λ c. search needs)  -- same-length-8
+    (λ c. search needs) (λ c. search needs) (λ c. search needs) (λ c. search needs)  -- same-length, same-length-2, same-length-3, same-length-4
+    (λ c. search needs) (λ c. search needs) (λ c. search needs) (λ c. search needs)  -- same-length-5, same-length-6, same-length-7, same-length-8
     returns)

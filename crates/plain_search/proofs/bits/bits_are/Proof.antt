@@ -17,11 +17,6 @@ bits-are-spec =
     (tie.spec
     Inv-loop
     μ-loop
-    (λ c. search needs)  -- loop-holds
-    (λ c. search needs)  -- bit-requires
-    (λ c. search needs)  -- read-requires
-    (λ c. search needs)  -- returns
-    (λ c. search needs)  -- add-i
-    (λ c. search needs)  -- loop-less
-    (λ c. search needs)  -- loop-again
+    (λ c. search needs) (λ c. search needs) (λ c. search needs) (λ c. search needs)  -- loop-holds, bit-requires, read-requires, returns
+    (λ c. search needs) (λ c. search needs) (λ c. search needs)  -- add-i, loop-less, loop-again
     (λ c. search needs))  -- returns-2

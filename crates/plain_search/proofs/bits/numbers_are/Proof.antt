@@ -17,12 +17,6 @@ numbers-are-spec =
     (tie.spec
     Inv-loop
     μ-loop
-    (λ c. search needs)  -- loop-holds
-    (λ c. search needs)  -- mul-if1
-    (λ c. search needs)  -- element-copy-out-if1
-    (λ c. search needs)  -- read-requires
-    (λ c. search needs)  -- returns
-    (λ c. search needs)  -- add-v
-    (λ c. search needs)  -- loop-less
-    (λ c. search needs)  -- loop-again
+    (λ c. search needs) (λ c. search needs) (λ c. search needs) (λ c. search needs)  -- loop-holds, mul-if1, element-copy-out-if1, read-requires
+    (λ c. search needs) (λ c. search needs) (λ c. search needs) (λ c. search needs)  -- returns, add-v, loop-less, loop-again
     (λ c. search needs))  -- returns-2

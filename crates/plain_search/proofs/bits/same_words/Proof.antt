@@ -17,11 +17,6 @@ same-words-spec =
     (tie.spec
     Inv-loop
     μ-loop
-    (λ c. search needs)  -- loop-holds
-    (λ c. search needs)  -- word-requires
-    (λ c. search needs)  -- word-requires-2
-    (λ c. search needs)  -- returns
-    (λ c. search needs)  -- add-i
-    (λ c. search needs)  -- loop-less
-    (λ c. search needs)  -- loop-again
+    (λ c. search needs) (λ c. search needs) (λ c. search needs) (λ c. search needs)  -- loop-holds, word-requires, word-requires-2, returns
+    (λ c. search needs) (λ c. search needs) (λ c. search needs)  -- add-i, loop-less, loop-again
     (λ c. search needs))  -- returns-2

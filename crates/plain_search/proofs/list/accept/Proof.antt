@@ -18,16 +18,8 @@ accept-spec =
     (tie.spec
     Inv-loop
     μ-loop
-    (λ c. search needs)  -- code-of-byte-requires
-    (λ c. search needs)  -- read-requires
-    (λ c. search needs)  -- next-requires
-    (λ c. search needs)  -- write-requires
-    (λ c. search needs)  -- write-requires-2
-    (λ c. search needs)  -- loop-holds
-    (λ c. search needs)  -- neighbour-requires
-    (λ c. search needs)  -- write-requires-3
-    (λ c. search needs)  -- write-requires-4
-    (λ c. search needs)  -- add-i
-    (λ c. search needs)  -- loop-less
+    (λ c. search needs) (λ c. search needs) (λ c. search needs)  -- code-of-byte-requires, read-requires, next-requires
+    (λ c. search needs) (λ c. search needs) (λ c. search needs) (λ c. search needs)  -- write-requires, write-requires-2, loop-holds, neighbour-requires
+    (λ c. search needs) (λ c. search needs) (λ c. search needs) (λ c. search needs)  -- write-requires-3, write-requires-4, add-i, loop-less
     (λ c. search needs)  -- loop-again
     (λ c. search needs))  -- returns

@@ -18,12 +18,6 @@ fault-spec =
     (tie.spec
     Inv-loop
     μ-loop
-    (λ c. search needs)  -- loop-holds
-    (λ c. search needs)  -- neighbour-requires
-    (λ c. search needs)  -- returns
-    (λ c. search needs)  -- add-before
-    (λ c. search needs)  -- read-requires
-    (λ c. search needs)  -- add-i
-    (λ c. search needs)  -- loop-less
-    (λ c. search needs)  -- loop-again
+    (λ c. search needs) (λ c. search needs) (λ c. search needs) (λ c. search needs)  -- loop-holds, neighbour-requires, returns, add-before
+    (λ c. search needs) (λ c. search needs) (λ c. search needs) (λ c. search needs)  -- read-requires, add-i, loop-less, loop-again
     (λ c. search needs))  -- returns-2

@@ -17,10 +17,6 @@ are-covered-spec =
     (tie.spec
     Inv-loop
     μ-loop
-    (λ c. search needs)  -- loop-holds
-    (λ c. search needs)  -- is-covered-requires
-    (λ c. search needs)  -- returns
-    (λ c. search needs)  -- add-v
-    (λ c. search needs)  -- loop-less
-    (λ c. search needs)  -- loop-again
+    (λ c. search needs) (λ c. search needs) (λ c. search needs) (λ c. search needs)  -- loop-holds, is-covered-requires, returns, add-v
+    (λ c. search needs) (λ c. search needs)  -- loop-less, loop-again
     (λ c. search needs))  -- returns-2

@@ -17,14 +17,7 @@ is-covered-spec =
     (tie.spec
     Inv-loop
     μ-loop
-    (λ c. search needs)  -- read-requires
-    (λ c. search needs)  -- returns
-    (λ c. search needs)  -- mark-requires
-    (λ c. search needs)  -- returns-2
-    (λ c. search needs)  -- loop-holds
-    (λ c. search needs)  -- covers-requires
-    (λ c. search needs)  -- returns-3
-    (λ c. search needs)  -- add-r
-    (λ c. search needs)  -- loop-less
-    (λ c. search needs)  -- loop-again
+    (λ c. search needs) (λ c. search needs) (λ c. search needs) (λ c. search needs)  -- read-requires, returns, mark-requires, returns-2
+    (λ c. search needs) (λ c. search needs) (λ c. search needs) (λ c. search needs)  -- loop-holds, covers-requires, returns-3, add-r
+    (λ c. search needs) (λ c. search needs)  -- loop-less, loop-again
     (λ c. search needs))  -- returns-4

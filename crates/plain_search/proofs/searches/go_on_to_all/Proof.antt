@@ -17,9 +17,6 @@ go-on-to-all-spec =
     (tie.spec
     Inv-loop
     μ-loop
-    (λ c. search needs)  -- loop-holds
-    (λ c. search needs)  -- go-on-requires
-    (λ c. search needs)  -- add-v
-    (λ c. search needs)  -- loop-less
+    (λ c. search needs) (λ c. search needs) (λ c. search needs) (λ c. search needs)  -- loop-holds, go-on-requires, add-v, loop-less
     (λ c. search needs)  -- loop-again
     (λ c. search needs))  -- returns

@@ -17,9 +17,6 @@ note-pairs-spec =
     (tie.spec
     Inv-loop
     μ-loop
-    (λ c. search needs)  -- loop-holds
-    (λ c. search needs)  -- note-pair-requires
-    (λ c. search needs)  -- add-i
-    (λ c. search needs)  -- loop-less
+    (λ c. search needs) (λ c. search needs) (λ c. search needs) (λ c. search needs)  -- loop-holds, note-pair-requires, add-i, loop-less
     (λ c. search needs)  -- loop-again
     (λ c. search needs))  -- returns

@@ -17,16 +17,7 @@ search-spec =
     (tie.spec
     Inv-loop
     μ-loop
-    (λ c. search needs)  -- write-requires
-    (λ c. search needs)  -- cast-write
-    (λ c. search needs)  -- write-requires-2
-    (λ c. search needs)  -- loop-holds
-    (λ c. search needs)  -- returns
-    (λ c. search needs)  -- read-requires
-    (λ c. search needs)  -- code-of-requires
-    (λ c. search needs)  -- read-requires-2
-    (λ c. search needs)  -- go-on-to-all-requires
-    (λ c. search needs)  -- add-k
-    (λ c. search needs)  -- loop-less
-    (λ c. search needs)  -- loop-again
+    (λ c. search needs) (λ c. search needs) (λ c. search needs) (λ c. search needs)  -- write-requires, cast-write, write-requires-2, loop-holds
+    (λ c. search needs) (λ c. search needs) (λ c. search needs) (λ c. search needs)  -- returns, read-requires, code-of-requires, read-requires-2
+    (λ c. search needs) (λ c. search needs) (λ c. search needs) (λ c. search needs)  -- go-on-to-all-requires, add-k, loop-less, loop-again
     (λ c. search needs))  -- returns-2

@@ -17,9 +17,6 @@ search-all-spec =
     (tie.spec
     Inv-loop
     μ-loop
-    (λ c. search needs)  -- loop-holds
-    (λ c. search needs)  -- search-code-requires
-    (λ c. search needs)  -- add-s
-    (λ c. search needs)  -- loop-less
+    (λ c. search needs) (λ c. search needs) (λ c. search needs) (λ c. search needs)  -- loop-holds, search-code-requires, add-s, loop-less
     (λ c. search needs)  -- loop-again
     (λ c. search needs))  -- returns

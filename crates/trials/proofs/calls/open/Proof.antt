@@ -13,13 +13,8 @@ pub open-spec : {M : Type 1} → statement M
 open-spec =
     tie.close
     (tie.spec
-    (λ c. search needs)  -- slice-aggregate-open-value
-    (λ c. search needs)  -- slice-aggregate-open-value-2
-    (λ c. search needs)  -- slice-aggregate-open-value-3
-    (λ c. search needs)  -- slice-aggregate-open-value-4
-    (λ c. search needs)  -- array-borrow-prefix-odd
+    (λ c. search needs) (λ c. search needs)  -- slice-aggregate-open-value, slice-aggregate-open-value-2
+    (λ c. search needs) (λ c. search needs) (λ c. search needs)  -- slice-aggregate-open-value-3, slice-aggregate-open-value-4, array-borrow-prefix-odd
     slice-aggregate-open-value-5
-    (λ c. search needs)  -- open-value-requires
-    (λ c. search needs)  -- left-requires
-    (λ c. search needs)  -- opened-requires
+    (λ c. search needs) (λ c. search needs) (λ c. search needs)  -- open-value-requires, left-requires, opened-requires
     (λ c. search needs))  -- returns

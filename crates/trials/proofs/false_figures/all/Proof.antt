@@ -17,11 +17,6 @@ all-spec =
     (tie.spec
     Inv-loop
     μ-loop
-    (λ c. search needs)  -- worked-requires
-    (λ c. search needs)  -- loop-holds
-    (λ c. search needs)  -- case-requires
-    (λ c. search needs)  -- seen-requires
-    (λ c. search needs)  -- add-k
-    (λ c. search needs)  -- loop-less
-    (λ c. search needs)  -- loop-again
+    (λ c. search needs) (λ c. search needs) (λ c. search needs) (λ c. search needs)  -- worked-requires, loop-holds, case-requires, seen-requires
+    (λ c. search needs) (λ c. search needs) (λ c. search needs)  -- add-k, loop-less, loop-again
     (λ c. search needs))  -- returns

@@ -17,10 +17,6 @@ all-four-spec =
     (tie.spec
     Inv-loop
     μ-loop
-    (λ c. search needs)  -- start-requires
-    (λ c. search needs)  -- loop-holds
-    (λ c. search needs)  -- follow-requires
-    (λ c. search needs)  -- add-k
-    (λ c. search needs)  -- loop-less
-    (λ c. search needs)  -- loop-again
+    (λ c. search needs) (λ c. search needs) (λ c. search needs) (λ c. search needs)  -- start-requires, loop-holds, follow-requires, add-k
+    (λ c. search needs) (λ c. search needs)  -- loop-less, loop-again
     (λ c. search needs))  -- returns

@@ -17,12 +17,7 @@ grow-spec =
     (tie.spec
     Inv-loop
     μ-loop
-    (λ c. search needs)  -- fill-requires
-    (λ c. search needs)  -- with-false-figures-requires
-    (λ c. search needs)  -- empty-map-requires
-    (λ c. search needs)  -- loop-holds
-    (λ c. search needs)  -- call-requires
-    (λ c. search needs)  -- add-c
-    (λ c. search needs)  -- loop-less
+    (λ c. search needs) (λ c. search needs) (λ c. search needs)  -- fill-requires, with-false-figures-requires, empty-map-requires
+    (λ c. search needs) (λ c. search needs) (λ c. search needs) (λ c. search needs)  -- loop-holds, call-requires, add-c, loop-less
     (λ c. search needs)  -- loop-again
     (λ c. search needs))  -- returns

@@ -17,12 +17,6 @@ search-each-spec =
     (tie.spec
     Inv-loop
     μ-loop
-    (λ c. search needs)  -- loop-holds
-    (λ c. search needs)  -- cast-search
-    (λ c. search needs)  -- search-requires
-    (λ c. search needs)  -- search-word-requires
-    (λ c. search needs)  -- seen-requires
-    (λ c. search needs)  -- add-v
-    (λ c. search needs)  -- loop-less
-    (λ c. search needs)  -- loop-again
+    (λ c. search needs) (λ c. search needs) (λ c. search needs) (λ c. search needs)  -- loop-holds, cast-search, search-requires, search-word-requires
+    (λ c. search needs) (λ c. search needs) (λ c. search needs) (λ c. search needs)  -- seen-requires, add-v, loop-less, loop-again
     (λ c. search needs))  -- returns

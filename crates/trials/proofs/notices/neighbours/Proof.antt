@@ -19,13 +19,7 @@ neighbours-spec =
     (tie.spec
     Inv-loop
     μ-loop
-    (λ c. search needs)  -- loop-holds
-    (λ c. search needs)  -- cast-append
-    (λ c. search needs)  -- depot-requires
-    (λ c. search needs)  -- joined-requires
-    (λ c. search needs)  -- append-requires
-    (λ c. search needs)  -- add-v
-    (λ c. search needs)  -- loop-less
-    (λ c. search needs)  -- loop-again
+    (λ c. search needs) (λ c. search needs) (λ c. search needs) (λ c. search needs)  -- loop-holds, cast-append, depot-requires, joined-requires
+    (λ c. search needs) (λ c. search needs) (λ c. search needs) (λ c. search needs)  -- append-requires, add-v, loop-less, loop-again
     (λ c. search needs)  -- same-length
     (λ c. search needs))  -- returns

@@ -31,16 +31,9 @@ zorpedi-empty-spec =
     tie.close
     (tie.spec
     returns
-    (λ c. search needs)  -- record-of-requires
-    (λ c. search needs)  -- empty-map-requires
-    (λ c. search needs)  -- enum-told
-    (λ c. search needs)  -- put-record-requires
-    (λ c. search needs)  -- enum-known-answer
-    (λ c. search needs)  -- same-length
-    (λ c. search needs)  -- same-length-2
-    (λ c. search needs)  -- same-length-3
+    (λ c. search needs) (λ c. search needs) (λ c. search needs)  -- record-of-requires, empty-map-requires, enum-told
+    (λ c. search needs) (λ c. search needs) (λ c. search needs)  -- put-record-requires, enum-known-answer, same-length
+    (λ c. search needs) (λ c. search needs)  -- same-length-2, same-length-3
     returns-2
-    (λ c. search needs)  -- same-length-4
-    (λ c. search needs)  -- same-length-5
-    (λ c. search needs)  -- same-length-6
+    (λ c. search needs) (λ c. search needs) (λ c. search needs)  -- same-length-4, same-length-5, same-length-6
     returns-3)

@@ -40,27 +40,11 @@ zorpedi-open-spec =
     tie.close
     (tie.spec
     returns
-    (λ c. search needs)  -- record-of-requires
-    (λ c. search needs)  -- open-step-requires
-    (λ c. search needs)  -- enum-told
-    (λ c. search needs)  -- put-record-requires
-    (λ c. search needs)  -- letter-requires
-    (λ c. search needs)  -- enum-known-outcome
-    (λ c. search needs)  -- same-length
-    (λ c. search needs)  -- same-length-2
-    (λ c. search needs)  -- same-length-3
-    (λ c. search needs)  -- same-length-4
-    (λ c. search needs)  -- same-length-5
-    (λ c. search needs)  -- same-length-6
-    (λ c. search needs)  -- same-length-7
-    (λ c. search needs)  -- same-length-8
+    (λ c. search needs) (λ c. search needs) (λ c. search needs)  -- record-of-requires, open-step-requires, enum-told
+    (λ c. search needs) (λ c. search needs) (λ c. search needs)  -- put-record-requires, letter-requires, enum-known-outcome
+    (λ c. search needs) (λ c. search needs) (λ c. search needs) (λ c. search needs)  -- same-length, same-length-2, same-length-3, same-length-4
+    (λ c. search needs) (λ c. search needs) (λ c. search needs) (λ c. search needs)  -- same-length-5, same-length-6, same-length-7, same-length-8
     returns-2
-    (λ c. search needs)  -- same-length-9
-    (λ c. search needs)  -- same-length-10
-    (λ c. search needs)  -- same-length-11
-    (λ c. search needs)  -- same-length-12
-    (λ c. search needs)  -- same-length-13
-    (λ c. search needs)  -- same-length-14
-    (λ c. search needs)  -- same-length-15
-    (λ c. search needs)  -- same-length-16
+    (λ c. search needs) (λ c. search needs) (λ c. search needs) (λ c. search needs)  -- same-length-9, same-length-10, same-length-11, same-length-12
+    (λ c. search needs) (λ c. search needs) (λ c. search needs) (λ c. search needs)  -- same-length-13, same-length-14, same-length-15, same-length-16
     returns-3)

@@ -40,24 +40,11 @@ zorpedi-reckon-spec =
     tie.close
     (tie.spec
     returns
-    (λ c. search needs)  -- record-of-requires
-    (λ c. search needs)  -- reckon-all-requires
-    (λ c. search needs)  -- enum-known-answer
-    (λ c. search needs)  -- put-record-requires
-    (λ c. search needs)  -- enum-known-answer-2
-    (λ c. search needs)  -- same-length
-    (λ c. search needs)  -- same-length-2
-    (λ c. search needs)  -- same-length-3
-    (λ c. search needs)  -- same-length-4
-    (λ c. search needs)  -- same-length-5
-    (λ c. search needs)  -- same-length-6
-    (λ c. search needs)  -- same-length-7
+    (λ c. search needs) (λ c. search needs) (λ c. search needs)  -- record-of-requires, reckon-all-requires, enum-known-answer
+    (λ c. search needs) (λ c. search needs) (λ c. search needs)  -- put-record-requires, enum-known-answer-2, same-length
+    (λ c. search needs) (λ c. search needs) (λ c. search needs) (λ c. search needs)  -- same-length-2, same-length-3, same-length-4, same-length-5
+    (λ c. search needs) (λ c. search needs)  -- same-length-6, same-length-7
     returns-2
-    (λ c. search needs)  -- same-length-8
-    (λ c. search needs)  -- same-length-9
-    (λ c. search needs)  -- same-length-10
-    (λ c. search needs)  -- same-length-11
-    (λ c. search needs)  -- same-length-12
-    (λ c. search needs)  -- same-length-13
-    (λ c. search needs)  -- same-length-14
+    (λ c. search needs) (λ c. search needs) (λ c. search needs) (λ c. search needs)  -- same-length-8, same-length-9, same-length-10, same-length-11
+    (λ c. search needs) (λ c. search needs) (λ c. search needs)  -- same-length-12, same-length-13, same-length-14
     returns-3)

@@ -30,15 +30,8 @@ zorpedi-search-spec =
     tie.close
     (tie.spec
     returns
-    (λ c. search needs)  -- record-of-requires
-    (λ c. search needs)  -- search-from-requires
-    (λ c. search needs)  -- enum-known-found
-    (λ c. search needs)  -- enum-known-found-2
-    (λ c. search needs)  -- same-length
-    (λ c. search needs)  -- same-length-2
-    (λ c. search needs)  -- same-length-3
+    (λ c. search needs) (λ c. search needs) (λ c. search needs)  -- record-of-requires, search-from-requires, enum-known-found
+    (λ c. search needs) (λ c. search needs) (λ c. search needs) (λ c. search needs)  -- enum-known-found-2, same-length, same-length-2, same-length-3
     returns-2
-    (λ c. search needs)  -- same-length-4
-    (λ c. search needs)  -- same-length-5
-    (λ c. search needs)  -- same-length-6
+    (λ c. search needs) (λ c. search needs) (λ c. search needs)  -- same-length-4, same-length-5, same-length-6
     returns-3)

@@ -55,21 +55,12 @@ pub zorpedi-finish-spec : {M : Type 1} → statement M
 zorpedi-finish-spec =
     tie.close
     (tie.spec
-    (λ c. search needs)  -- step-refusal-requires
-    (λ c. search needs)  -- same-length
-    (λ c. search needs)  -- same-length-2
-    (λ c. search needs)  -- same-length-3
+    (λ c. search needs) (λ c. search needs) (λ c. search needs) (λ c. search needs)  -- step-refusal-requires, same-length, same-length-2, same-length-3
     returns
     record-of-requires
     finish-requires
     put-record-requires
-    (λ c. search needs)  -- same-length-4
-    (λ c. search needs)  -- same-length-5
-    (λ c. search needs)  -- same-length-6
-    (λ c. search needs)  -- same-length-7
-    (λ c. search needs)  -- same-length-8
-    (λ c. search needs)  -- same-length-9
-    (λ c. search needs)  -- same-length-10
-    (λ c. search needs)  -- same-length-11
+    (λ c. search needs) (λ c. search needs) (λ c. search needs) (λ c. search needs)  -- same-length-4, same-length-5, same-length-6, same-length-7
+    (λ c. search needs) (λ c. search needs) (λ c. search needs) (λ c. search needs)  -- same-length-8, same-length-9, same-length-10, same-length-11
     (λ c. search needs)  -- same-length-12
     returns-2)

@@ -20,9 +20,7 @@ pub zorpedi-read-notice-spec : {M : Type 1} → statement M
 zorpedi-read-notice-spec =
     tie.close
     (tie.spec
-    (λ c. search needs)  -- read-notice-requires
-    (λ c. search needs)  -- enum-known-got
-    (λ c. search needs)  -- enum-known-got-2
+    (λ c. search needs) (λ c. search needs) (λ c. search needs)  -- read-notice-requires, enum-known-got, enum-known-got-2
     (λ c. search needs)  -- same-length
     returns
     (λ c. search needs)  -- same-length-2

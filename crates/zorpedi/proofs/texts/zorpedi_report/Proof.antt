@@ -24,11 +24,8 @@ pub zorpedi-report-spec : {M : Type 1} → statement M
 zorpedi-report-spec =
     tie.close
     (tie.spec
-    (λ c. search needs)  -- outcome-of-requires
-    (λ c. search needs)  -- write-report-requires
-    (λ c. search needs)  -- enum-known-got
-    (λ c. search needs)  -- enum-known-got-2
-    (λ c. search needs)  -- same-length
+    (λ c. search needs) (λ c. search needs) (λ c. search needs)  -- outcome-of-requires, write-report-requires, enum-known-got
+    (λ c. search needs) (λ c. search needs)  -- enum-known-got-2, same-length
     returns
     (λ c. search needs)  -- same-length-2
     returns-2)
