@@ -13,7 +13,7 @@ pub mod Opening
 pub mod Correct
 -- 7. the refusals that speak of the network alone, by the words of 1
 pub mod Refusals
--- 8. document 01's worked cases, computed
+-- 8. the worked cases of the rules, computed
 pub mod Cases
 -- 9. further cases, one for each rule that those leave open
 pub mod RuleCases
