@@ -1,7 +1,8 @@
 #!/usr/bin/env python3
 """pages.py: are the pages true of the tree? Every file that README and docs/ name must be there, every edit must stand in the crate that the page
-names, and of each row of the audit's tables every name must stand in one of the files beside it. Run it in the repository's root; it exits with 1
-if something is stale. The gate runs it."""
+names, and of each row of the audit's tables every name must stand in one of the files beside it. Every rule of docs/RULES.md must have a row in
+docs/AUDIT.md, without an empty cell, and every rule that a page, a specification, the code or a test cites must be there. Run it in the repository's
+root; it exits with 1 if something is stale. The gate runs it."""
 import glob
 import os
 import re
@@ -63,8 +64,38 @@ def stale(page):
                         yield number, f'`{token}` does not stand in {cells[2]}'
 
 
+def unheld():
+    """what is wrong between the rules and their audit"""
+    with open('docs/RULES.md', encoding='utf8') as file:
+        rules = re.findall(r'^(\d+\.\d+)\. ', file.read(), re.M)
+    held = set()
+    with open('docs/AUDIT.md', encoding='utf8') as file:
+        for number, line in enumerate(file, 1):
+            match = re.match(r'\| (\d+\.\d+)(?:, [^|]*)? \|(.*)\|(.*)\|$', line)
+            if match:
+                held.add(match.group(1))
+                if match.group(1) not in rules:
+                    yield 'docs/AUDIT.md', number, f'no rule {match.group(1)}'
+                if not (match.group(2).strip() and match.group(3).strip()):
+                    yield 'docs/AUDIT.md', number, 'an empty cell'
+    for rule in rules:
+        if rule not in held:
+            yield 'docs/RULES.md', 0, f'no row of the audit for rule {rule}'
+    patterns = 'README.md', 'docs/*.md', 'crates/**/*.antt', 'crates/**/*.rt', 'include/*', 'examples/*', 'bench/*', 'rust/src/**/*.rs', 'rust/tests/**/*.rs'
+    for path in sorted(p for pattern in patterns for p in glob.glob(pattern, recursive=True) if os.path.isfile(p)):
+        with open(path, encoding='utf8', errors='replace') as file:
+            for number, line in enumerate(file, 1):
+                for cited in re.findall(r'\brules? ((?:\d+\.\d+(?:, | and | to |, and )?)+)', line):
+                    for rule in re.findall(r'\d+\.\d+', cited):
+                        if rule not in rules:
+                            yield path, number, f'no rule {rule}'
+
+
 def main():
     found = 0
+    for path, number, what in unheld():
+        found += 1
+        print(f'{path}:{number}: {what}')
     for page in ['README.md'] + sorted(glob.glob('docs/*.md')):
         for number, what in stale(page):
             found += 1
