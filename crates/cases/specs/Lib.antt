@@ -3,5 +3,5 @@
 pub mod Results
 -- 2. THE TABLE: the numbers, and a claim for each case
 pub mod Table
--- 3. a second table: a shrink that the rules do not work out
+-- 3. a second table: a shrink that the rules do not work out. Nobody has to believe this file
 pub mod Rules
