@@ -1,5 +1,5 @@
-/* The path of seven of document 01: openings from code, the whole reckoning, a search, and a notice line written. It prints what it finds, and
- * its exit status is 1 if a figure differs from the paper's.
+/* The path of seven (rule 5.6 of docs/RULES.md): openings from code, the whole reckoning, a search, and a notice line written. It prints what it
+ * finds, and its exit status is 1 if a figure differs from the rule's.
  *
  * In the repository's root:
  *
@@ -37,7 +37,7 @@ int main(void)
     expect("depots open", (unsigned)map.record[ZORPEDI_NUMBER], 7);
     expect("4 and 5 are linked", (unsigned)zorpedi_map_are_linked(&map, 5, 4), 1);
 
-    /* References 1, 2, 3, 5, 0, 6; depot 4 is skipped by 3 with bound 4. */
+    /* Every depot but 4 is searched. */
     expect("reckoning refused", zorpedi_map_reckon(&map, &searches), ZORPEDI_DONE);
     expect("depots searched", searches, 6);
     expect("depot 4 is skipped by", map.skips[4], 3);

@@ -1,5 +1,5 @@
-/* The seven lines of document 01, two ways: notice by notice, then as a stream. It prints what it does, and its exit status is 1 if a line
- * differs from the paper's.
+/* Seven lines (rule 10.5 of docs/RULES.md), two ways: notice by notice, then as a stream. It prints what it does, and its exit status is 1 if a
+ * line differs from the rule's.
  *
  * In the repository's root:
  *
@@ -50,7 +50,7 @@ static int follow_line(uint32_t number, const char *text, const char *expected)
     return is_text(line, length, expected);
 }
 
-/* Prints the farthest pairs; 1 if they are (0,3) and (1,4), as the paper has them after line 6. */
+/* Prints the farthest pairs; 1 if they are (0,3) and (1,4), as rule 10.5 has them after line 6. */
 static int show_pairs(void)
 {
     int good = map.record[ZORPEDI_PAIR_COUNT] == 2;
@@ -106,6 +106,6 @@ int main(void)
 {
     int lines = follow_lines();
     int streamed = follow_stream();
-    printf("notice by notice: %s; as a stream: %s\n", lines ? "as the paper has it" : "DIFFERS", streamed ? "the same" : "DIFFERS");
+    printf("notice by notice: %s; as a stream: %s\n", lines ? "as the rule has it" : "DIFFERS", streamed ? "the same" : "DIFFERS");
     return lines && streamed ? 0 : 1;
 }

@@ -1,7 +1,8 @@
 /* Zorpedi, the handover map, for C and C++.
  *
  * A map of depots and the links between them. It takes opening notices one by one and keeps the longest chain (the network's diameter) and
- * the set of farthest pairs. Link with target/staticlib/libzorpedi.a (`rt staticlib zorpedi` makes it). examples/seven.c shows its use.
+ * the set of farthest pairs. Link with target/staticlib/libzorpedi.a (`rt staticlib zorpedi` makes it). examples/seven.c shows its use. Rules
+ * cited by number are those of docs/RULES.md.
  *
  * WHAT IS PROMISED
  * Each promise below holds for every value of every argument, and is proved. It settles the answer and every element lent: what is not named
@@ -61,16 +62,16 @@ extern "C" {
 
 enum zorpedi_answer {
     ZORPEDI_DONE = 0,     /* done, for every call but zorpedi_open */
-    ZORPEDI_SHORT = 1,    /* short: a lent buffer is below its named size */
+    ZORPEDI_SHORT = 1,    /* short: a lent buffer is shorter than its size */
     ZORPEDI_SPOILT = 2,   /* spoilt: links are not sound; for an opening and the stream, links or figures */
-    ZORPEDI_APART = 3,    /* apart: links sound, but some open depot cannot be reached from the lowest open code */
-    ZORPEDI_ABSENT = 4,   /* absent: a search names a closed code */
-    ZORPEDI_TAKEN = 5,    /* taken: an opening names an open code */
-    ZORPEDI_LONELY = 6,   /* lonely: no neighbours, map not empty */
-    ZORPEDI_UNSORTED = 7, /* unsorted: neighbours not strictly rising */
-    ZORPEDI_UNKNOWN = 8,  /* unknown: a neighbour is closed, the new code itself included */
-    ZORPEDI_GARBLED = 9,  /* garbled: no 0A in the first 517 bytes, another character than 0-9 A-F, wrong digit count, or kind not 01; for
-                             the writer, a frame with a wrong kind or length */
+    ZORPEDI_APART = 3,    /* apart: the links are sound, but no walk leads from the lowest open code to some open depot */
+    ZORPEDI_ABSENT = 4,   /* absent: the depot to be searched from is not open */
+    ZORPEDI_TAKEN = 5,    /* taken: the depot to be opened is open already */
+    ZORPEDI_LONELY = 6,   /* lonely: an opening has no neighbours, and the map has a depot */
+    ZORPEDI_UNSORTED = 7, /* unsorted: some neighbour is not above the one before it */
+    ZORPEDI_UNKNOWN = 8,  /* unknown: some neighbour is not open; the new depot itself is not */
+    ZORPEDI_GARBLED = 9,  /* garbled: a line has no 0A among its first 517 bytes, or what stands before it does not spell a frame of kind 01 in
+                             the digits 0-9 and A-F; for the writer, the bytes are no such frame */
     ZORPEDI_GREW = 71,    /* 'G', grew, zorpedi_open only: accepted, and the longest chain is greater than before */
     ZORPEDI_KEPT = 75,    /* 'K', kept, zorpedi_open only: accepted, and it is the same */
     ZORPEDI_SHRANK = 83   /* 'S', shrank, zorpedi_open only: accepted, and it is neither; where the figures were true it is smaller */
@@ -78,14 +79,15 @@ enum zorpedi_answer {
 
 /* ---- what the memory means
  *
- * A depot's code is one byte. A row is four words: bit b of word w stands for code 64 w + b, bit 0 being the least. Row c of a table is words
- * 4 c to 4 c + 3. Bit v of row u of the link table: u and v are linked. Bit v of row u of the pair table, only for u < v: (u, v) is a
- * farthest pair.
+ * A depot's code is one byte. A row is a set of codes in four words (rule 1.2): bit c % 64 of word c / 64 is one if c is a member, bit 0 being
+ * the least. A table has a row for each code, row c beginning at word 4 c. Code v in row u of the link table: u and v are linked. Code v in
+ * row u of the pair table, only for u < v: (u, v) is a farthest pair.
  *
- * Links are sound if the number open equals the ones in the open set, no row has a bit for a closed code or its own, closed codes have empty
- * rows, and bit v of row u equals bit u of row v. Figures are sound if every pair bit joins two open codes u < v, the pair count equals the
- * ones in the pair table, and the longest chain is at most 255. A record word beyond these is spoilt (2) in every call that looks at it: search,
- * reckoning, opening and stream look at the open set and the number; opening and stream at chain and pair count too.
+ * Links are sound (rule 1.8) if the open set has as many codes as the record says, every code in a row is open and not the row's own, the rows
+ * of closed codes are empty, and v is in row u exactly if u is in row v. Figures are sound if every code v in row u of the pair table has u <
+ * v and both open, the pair table has as many bits as the record counts pairs, and the chain is 255 or less. A record word beyond these is
+ * spoilt (2) in every call that looks at it: search, reckoning, opening and stream look at the open set and the number; opening and stream at
+ * chain and pair count too.
  *
  * The map of a program is the record, the link table and the pair table. All zero is the empty map. A map that only zorpedi_open and the stream
  * have written since it was emptied is never spoilt or apart, and its figures are true: those of its links. A reckoning leaves the links as they
@@ -102,17 +104,18 @@ uint8_t zorpedi_empty(uint64_t *record, size_t record_size, uint64_t *links, siz
 /* Searches from the depot `code`.
  * 0: hops[c] is the distance from `code` to c, 65,535 for a closed c, for c from 0 to 255. *eccentricity is the greatest distance to an open
  * depot. Of the two layer rows, `even` if the eccentricity is even, else `odd`, is the set of depots at that distance; the other is the set at
- * the distance before it, or zeros if the eccentricity is 0.
+ * the distance before it, and is zero if the eccentricity is 0 (section 3 of the rules).
  * Refused: 1 (record below 7, links below 1,024, hops below 256, even or odd below 4), 2 (links only), 3, 4. */
 uint8_t zorpedi_search(uint16_t *hops, size_t hops_size, uint64_t *even, size_t even_size, uint64_t *odd, size_t odd_size,
                        uint16_t *eccentricity, const uint64_t *record, size_t record_size, const uint64_t *links, size_t links_size,
                        uint8_t code);
 
 /* Reckons longest chain and farthest pairs afresh from the links; chain, pair count and pair table may hold anything before.
- * 0: record words 5 and 6 and the pair table are those of the links; *searches is the number of depots searched, the references. The next
- * reference is the remaining depot of highest degree, lowest code on a tie. After the search from a reference r: if e(r) is the longest chain
- * found so far, and not 0, r with each depot at that distance joins the pairs; if it is greater, it is that chain, and the pairs are r's own. Then
- * each remaining depot v has the bound e(r) + d(r,v) if that is below the bound it has, and leaves as skipped if its bound is below that chain.
+ * 0: record words 5 and 6 and the pair table are those of the links; *searches is the number of depots searched, the references. Of the
+ * remaining depots the next reference is one with the highest degree, the one of lowest code among several (rule 5.4). After the search from
+ * r: if e(r) is the longest chain found so far, and not 0, r with each depot at that distance joins the pairs; if it is greater, it is that
+ * chain, and the pairs are r's own. Then each remaining depot v has the bound e(r) + d(r,v) if its own is greater, and leaves as skipped if
+ * its bound is below that chain (rule 5.3).
  * For c from 0 to 255: skips[c] is the earliest reference that gave the bound at which c was skipped (0 to 255), 256 if c was searched, else 257;
  * bounds[c] is that bound, the eccentricity if c was searched, else 65,535. hops, even and odd are as the last search leaves them (see
  * zorpedi_search), and unchanged if no depot is open.
@@ -122,14 +125,15 @@ uint8_t zorpedi_reckon(uint64_t *record, size_t record_size, uint64_t *pairs, si
                        uint64_t *odd, size_t odd_size, uint16_t *searches, const uint64_t *links, size_t links_size);
 
 /* Opens the depot `code` beside `neighbours`.
- * 71 'G', 75 'K' or 83 'S': the code joins the open set, the links to its neighbours join the link table, and the new depot a is searched from.
- * Let D be the stored chain. If e(a) is above D: 'G', the chain is e(a) and the pairs are a with each depot at that distance. Else every stored
- * pair (v,w) with d(v,a) + d(w,a) below D goes, and if e(a) is D, a joins in a pair with each other depot at that distance; if e(a) is D or a
- * pair is left: 'K', and the chain stays. Else 'S': the rounds of zorpedi_reckon follow, without pairs, a being the first reference, and with the
- * greatest, over the stored pairs, of the smaller of D and d(v,a) + d(w,a) as the chain found so far, 0 without pairs. The pair count is that of
- * the pair table. *searches is the number of depots searched: 1 for 'G' and 'K', at most the number open for 'S'. skips and bounds mark the depots
- * of this call as zorpedi_reckon says, all 256 places of both; hops, even and odd are as the last search leaves them. If the figures were true,
- * they are so again, and the answer compares the new chain with the old. On sound but false figures the same steps are taken.
+ * 71 'G', 75 'K' or 83 'S': the code joins the open set, the links to its neighbours join the link table, and the new depot a is searched
+ * from. With D the stored chain (rules 4.2 to 4.4): if e(a) is above D, 'G', the chain is e(a), and the pairs are those of a with the depots
+ * that far away. Else the stored pairs go whose way through a, the distances of both from a added, is below D, and if e(a) is D, the pairs of
+ * a with every other depot at that distance come; if e(a) is D or a stored pair is left, 'K', and the chain stays. Else 'S': the rounds of
+ * zorpedi_reckon follow, without pairs, a being the first reference; the chain found so far is, of each pair stored before, the lesser of D
+ * and its way through a, and of these the greatest, 0 without pairs. The pair count is that of the pair table. *searches is the number of
+ * depots searched: 1 for 'G' and 'K', at most the number open for 'S'. skips and bounds mark the depots of this call as zorpedi_reckon says,
+ * all 256 places of both; hops, even and odd are as the last search leaves them. If the figures were true, they are so again, and the answer
+ * compares the new chain with the old. On sound but false figures the same steps are taken.
  * Refused: 1 (sizes as for zorpedi_reckon; the neighbours have none), 2 (links or figures), 3, 5, 6, 7, 8. */
 uint8_t zorpedi_open(uint64_t *record, size_t record_size, uint64_t *links, size_t links_size, uint64_t *pairs, size_t pairs_size,
                      uint16_t *hops, size_t hops_size, uint16_t *bounds, size_t bounds_size, uint16_t *skips, size_t skips_size,
@@ -138,13 +142,13 @@ uint8_t zorpedi_open(uint64_t *record, size_t record_size, uint64_t *links, size
 
 /* ---- lines
  *
- * A notice line is upper-case hexadecimal, ended by byte 0A. It spells a frame: kind 01, code, neighbour count, neighbours. Opening 5 beside
- * 0, 2 and 4: 010503000204. The frame's code is byte 1, and its neighbours begin at byte 3.
+ * A notice line (section 7 of the rules) is upper-case hexadecimal, ended by byte 0A. It spells a frame: kind 01, code, neighbour count,
+ * neighbours. 010503000204 opens depot 5 beside 0, 2 and 4. The frame's code is byte 1, and its neighbours begin at byte 3.
  */
 
 /* Reads the notice line at the start of `input`.
  * 0: the first *length bytes of `frame` are the frame; *used is the number of bytes that the line has, 0A included.
- * Refused: 1 (frame below 258), 9. It does not judge the neighbours' order; the opening does. */
+ * Refused: 1 (frame below 258), 9. The neighbours may stand in any order: that is for the opening to judge. */
 uint8_t zorpedi_read_notice(const uint8_t *input, size_t input_size, uint8_t *frame, size_t frame_size, size_t *length, size_t *used);
 
 /* Writes the notice line of a frame; the frame is the whole of `frame`, three bytes more than its count.
@@ -152,7 +156,7 @@ uint8_t zorpedi_read_notice(const uint8_t *input, size_t input_size, uint8_t *fr
  * Refused: 1 (line below 517), 9. */
 uint8_t zorpedi_write_notice(const uint8_t *frame, size_t frame_size, uint8_t *line, size_t line_size, size_t *length);
 
-/* Writes a report line: number, answer, depots, chain, pairs, searches, in decimal, one space between, 0A at the end. The answer is the
+/* Writes a report line (rule 10.2): number, answer, depots, chain, pairs, searches, as decimals with a space between, and 0A. The answer is the
  * number that zorpedi_open or zorpedi_read_notice gave: 71, 75 and 83 are written G, K and S, any other n is written R and n.
  * 0: the first *length bytes of `line` are the line, 45 at most.
  * Refused: 1 (line below 48). */

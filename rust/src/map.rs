@@ -261,7 +261,7 @@ impl Map {
         Record { open: [a, b, c, d], number: number as u16, chain: chain as u16, pairs: pairs as u32 }
     }
 
-    /// The link table: row c is words 4c to 4c + 3, and bit b of word 4c + w stands for code 64w + b.
+    /// The link table: four words for each code, the set of codes that it is linked to, laid out as [`Record::open`].
     ///
     /// ```
     /// let mut map = zorpedi::Map::new();
@@ -274,7 +274,7 @@ impl Map {
         &self.memory.links
     }
 
-    /// The pair table, of the same shape: bit v of row u, only for u < v.
+    /// The pair table, laid out alike: the pair of u and v, u being the lower, is code v in the words of u.
     ///
     /// ```
     /// assert_eq!(zorpedi::Map::new().pairs(), &[0; 1024]);
@@ -292,7 +292,7 @@ impl Map {
         self.record().number
     }
 
-    /// The longest chain: the most handovers that any two depots need by the shortest way.
+    /// The longest chain, the network's diameter: no two depots are more handovers apart.
     ///
     /// ```
     /// assert_eq!(zorpedi::Map::new().chain(), 0);

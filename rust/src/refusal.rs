@@ -1,7 +1,7 @@
 use std::error::Error;
 use std::fmt;
 
-/// Why a call was refused: the numbers that the scanner shows. A refused call has changed nothing.
+/// Why a call was refused, by the trade's words and numbers. A refused call has changed nothing.
 ///
 /// ```
 /// use zorpedi::{Map, Refusal};
@@ -10,28 +10,28 @@ use std::fmt;
 /// let refusal = map.search(7).unwrap_err();
 /// assert_eq!(refusal, Refusal::Absent);
 /// assert_eq!(refusal.number(), 4);
-/// assert_eq!(refusal.to_string(), "absent (4): a search names a closed code");
+/// assert_eq!(refusal.to_string(), "absent (4): the depot to be searched from is not open");
 /// ```
 #[derive(Clone, Copy, Debug, PartialEq, Eq, Hash, PartialOrd, Ord)]
 #[repr(u8)]
 pub enum Refusal {
-    /// 1: a lent buffer is below its named size.
+    /// 1: a lent buffer is too small.
     Short = 1,
     /// 2: links are not sound; for an opening and the stream, links or figures.
     Spoilt = 2,
-    /// 3: links are sound, but some open depot cannot be reached from the lowest open code.
+    /// 3: links are sound, but no walk leads from the lowest open code to some open depot.
     Apart = 3,
-    /// 4: a search names a closed code.
+    /// 4: the depot to be searched from is not open.
     Absent = 4,
-    /// 5: an opening names an open code.
+    /// 5: the depot to be opened is open already.
     Taken = 5,
-    /// 6: no neighbours, and the map is not empty.
+    /// 6: an opening has no neighbours, and the map has a depot.
     Lonely = 6,
-    /// 7: neighbours are not strictly rising.
+    /// 7: some neighbour is not above the one before it.
     Unsorted = 7,
-    /// 8: a neighbour is closed, the new code itself included.
+    /// 8: some neighbour is not open; the new depot itself is not.
     Unknown = 8,
-    /// 9: a line that does not read, or a frame with a wrong kind or length.
+    /// 9: a line that spells no frame, or bytes that are no frame.
     Garbled = 9,
 }
 
@@ -91,15 +91,15 @@ impl Refusal {
 
     const fn condition(self) -> &'static str {
         match self {
-            Refusal::Short => "a lent buffer is below its named size",
+            Refusal::Short => "a lent buffer is too small",
             Refusal::Spoilt => "links or figures are not sound",
-            Refusal::Apart => "some open depot cannot be reached from the lowest open code",
-            Refusal::Absent => "a search names a closed code",
-            Refusal::Taken => "an opening names an open code",
-            Refusal::Lonely => "no neighbours, and the map is not empty",
-            Refusal::Unsorted => "neighbours are not strictly rising",
-            Refusal::Unknown => "a neighbour is closed",
-            Refusal::Garbled => "a line that does not read, or a frame with a wrong kind or length",
+            Refusal::Apart => "no walk leads from the lowest open code to some open depot",
+            Refusal::Absent => "the depot to be searched from is not open",
+            Refusal::Taken => "the depot to be opened is open already",
+            Refusal::Lonely => "an opening has no neighbours, and the map has a depot",
+            Refusal::Unsorted => "some neighbour is not above the one before it",
+            Refusal::Unknown => "some neighbour is not open",
+            Refusal::Garbled => "a line that spells no frame, or bytes that are no frame",
         }
     }
 

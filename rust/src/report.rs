@@ -1,4 +1,4 @@
-//! Report lines: line number; G, K, S, or R and the refusal; depots open; chain; pair count; searches of the call.
+//! Report lines: line number; the letter of the change, or R with the refusal's number; depots, chain and pairs; searches.
 //!
 //! ```
 //! use zorpedi::{report, Map};

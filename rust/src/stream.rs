@@ -13,7 +13,7 @@ pub struct Fed {
 }
 
 /// A stream of notice lines, in pieces of any size: one report line comes out for each line that goes in. It starts from an empty map and
-/// answers at most 1,000,000 lines.
+/// answers 1,000,000 lines at most.
 ///
 /// ```
 /// use zorpedi::Stream;

@@ -1,4 +1,4 @@
-// The arrival orders of the customer's first sentence: two notices A and B, three scanner lines with a map each, eight orders. It prints each order
+// Arrival orders (rule 9.7): two notices A and B reach three scanner lines, each with a map of its own, in eight orders. It prints each order
 // with the figures of its three lines (depots open, chain, pairs), and whether the three maps are equal word for word.
 mod maps;
 

@@ -1,6 +1,6 @@
--- Bounds, marks and the remaining depots, and the next reference.
+-- Bounds, marks and the remaining depots, and the next reference. Nobody has to believe this file.
 pub mod Bounds
--- The marks of a call that searched from one depot alone.
+-- The marks of a call that searched from one depot alone. Nobody has to believe this file.
 pub mod Once
--- The slices of the marks as one value, for the contracts.
+-- The slices of the marks as one value, for the contracts. Nobody has to believe this file.
 pub mod Slices

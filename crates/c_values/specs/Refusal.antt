@@ -12,7 +12,7 @@ use Rattle.report.specs.Line.{bufferLimit}
 use Rattle.opening.specs.Steps.{mapRefusal}
 use Rattle.c_values.specs.Words.{recordWords, recordOf}
 
--- the first refusal of a step: a buffer is below its named size (one below what it is said to hold is short too); then those of the lent map
+-- the first refusal of a step: a buffer is short (more held than a line has is short too); then those of the lent map
 unfoldable pub stepRefusal : List ℕ → List ℕ → List ℕ → Sizes → ℕ → ℕ → ℕ → ℕ
 stepRefusal words links pairs sizes line out held =
     cond (ltb (length words) recordWords || ltb line lineLimit || ltb out bufferLimit || ltb lineLimit held) shortBuffer

@@ -1,7 +1,7 @@
--- Document 01's worked cases, on lent memory. Order of reading:
+-- The worked cases of the rules, on lent memory. Order of reading:
 -- 1. what a call left, read as numbers and pairs
 pub mod Results
--- 2. THE TABLE: the numbers of document 01, and a claim for each case
+-- 2. THE TABLE: the numbers, and a claim for each case
 pub mod Table
--- 3. a second table: a shrink that document 01 does not work out
+-- 3. a second table: a shrink that the rules do not work out. Nobody has to believe this file
 pub mod Rules

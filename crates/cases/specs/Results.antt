@@ -70,7 +70,7 @@ resultOf step rec links B =
 
 -- ---- the stream's openings
 
--- letter, refusal, depots open, chain, pair count, searches; the pairs
+-- letter and refusal; the figures of a report line; the pairs
 unfoldable pub answerOf : OpenLeft → AnswerLine
 answerOf l = record {
   letter = Outcome.letterOf (l .report .outcome);
@@ -82,7 +82,7 @@ answerOf l = record {
   pairs = pairsIn (l .lent .pairs);
 }
 
--- the lines of a list of calls, each lent the map as the last one left it, of a program whose opening call is `step`
+-- the lines of a list of calls, each lent the map as it stands after the one before, of a program whose opening call is `step`
 unfoldable pub answersOf : Step → Memory → List Call → List AnswerLine
 answersOf step M [] = []
 answersOf step M (c ∷ cs) = let l = callStep step M c in answerOf l ∷ answersOf step (memoryAfter M c l) cs

@@ -24,7 +24,7 @@ shrinkLines =
     ∷ record { code = 6; neighbours = 1 ∷ 4 ∷ [] }
     ∷ []
 
--- letter (75 K, 71 G, 83 S) and refusal, depots open, chain, pair count, searches; and the pairs
+-- letter (75 K, 71 G, 83 S) and refusal, figures, searches; and the pairs
 abbrev pub shrinkAnswers : List AnswerLine
 shrinkAnswers =
     record { letter = 75; refusal = 0; number = 1; chain = 0; count = 0; searches = 1; pairs = [] }
@@ -36,6 +36,6 @@ shrinkAnswers =
     ∷ record { letter = 83; refusal = 0; number = 7; chain = 4; count = 1; searches = 5; pairs = (0, 5) ∷ [] }
     ∷ []
 
--- of a program whose opening call is `opening`: each call is lent the map as the last one left it, and any other memory that is long enough
+-- of a program whose opening call is `opening`: each call is lent the map as it stands after the one before, and any other memory that is long enough
 pub record RuleCases (opening : Step) : Type 0 where
   pub shrunk : (cs : List Call) → noticesOf cs ≡ shrinkLines → AllLong cs → answersOf opening (emptyMemory base) cs ≡ shrinkAnswers

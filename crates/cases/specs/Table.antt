@@ -1,6 +1,5 @@
--- THE TABLE OF CASES of document 01 ('The stream program', 'Conditions of acceptance'): the empty map, the single map and the path of seven
--- reckoned, and the seven stream lines, on any lent memory that is long enough, whatever scratch and longer buffers hold. `cases-hold` (proofs)
--- says it of `emptyCall base`, `reckonCall base` and `openCall base`, which the contracts cite, and of the stream's own calls.
+-- THE TABLE OF CASES (rule 11.6): the empty map, the single map and the path of seven reckoned, and the seven stream lines, on any lent memory that
+-- is long enough, whatever scratch and longer buffers hold. `cases-hold` (proofs) says it of `emptyCall base`, `reckonCall base` and `openCall base`, which the contracts cite, and of the stream's own calls.
 -- Assumes nothing.
 use mathlib.Core.Path.{_≡_}
 use mathlib.Core.List.{List, [], _∷_, _++_}
@@ -27,7 +26,7 @@ use Rattle.cases.specs.Results.{repeated, IsMapOf, Result, resultOf, ans
 
 -- ---- the numbers
 
--- an empty map and a map of one depot: chain 0 and no pairs
+-- the empty map, and the map of one depot
 abbrev pub emptyResult : Result
 emptyResult = record {
   refusal = 0;
@@ -54,7 +53,7 @@ singleResult = record {
   pairs = [];
 }
 
--- "the path 0-1-2-3-4-5-6: references 1, 2, 3, 5, 0, 6; depot 4 skipped by 3 with bound 4; chain 6, pair (0,6)"
+-- the path of seven (rule 5.6)
 abbrev pub sevenResult : Result
 sevenResult = record {
   refusal = 0;
@@ -68,7 +67,7 @@ sevenResult = record {
   pairs = (0, 6) ∷ [];
 }
 
--- the seven lines of the stream: letter (75 K, 71 G, 83 S, 82 R) and refusal, depots open, chain, pair count, searches; and the pairs
+-- the seven lines of the stream (rule 10.5): letter (75 K, 71 G, 83 S, 82 R) and refusal, figures, searches; and the pairs
 abbrev pub sevenAnswers : List AnswerLine
 sevenAnswers =
     record { letter = 75; refusal = 0; number = 1; chain = 0; count = 0; searches = 1; pairs = [] }
@@ -100,7 +99,7 @@ pub record Cases (emptying : Record → List ℕ → List ℕ → EmptyLeft) (re
       → (emptying rec links pairs .answer ≡ Done)
       × (networkOf 4 (emptying rec links pairs .after .codes) (emptying rec links pairs .links) ≡ path 0)
       × (emptying rec links pairs .after .number ≡ 0)
-  -- opened from the empty map, each call lent the map as the last one left it and any other memory that is long enough
+  -- opened from the empty map, each call lent the map as it stands after the one before, and any other memory that is long enough
   pub stream : (cs : List Call) → noticesOf cs ≡ sevenLines → AllLong cs → answersOf opening (emptyMemory base) cs ≡ sevenAnswers
   -- the stream's bytes: the whole output of the whole input; and on lent memory, however the input is cut into pieces
   pub text : transcript (bytesIn sevenInput) ≡ bytesIn sevenOutput

@@ -1,1 +1,1 @@
-// Document 01's table of cases, on lent memory; no code. Start at specs/Lib.antt.
+// The table of worked cases (rule 11.6), on lent memory; no code. Start at specs/Lib.antt.

@@ -1,4 +1,4 @@
--- THE CONDITIONS OF DOCUMENT 01'S TABLE ('Numbers the scanner shows') that every call on a map shares, in the published words: 2 and 3.
+-- THE CONDITIONS OF RULE 8.1 that every call on a map shares, in the published words: 2 and 3.
 -- Assumes nothing.
 use mathlib.Core.Logic.{_⊎_}
 use mathlib.Core.List.{List, [], _∷_}
@@ -16,7 +16,7 @@ IsSpoilt G number = AreLinksSound G number → ⊥
 abbrev pub IsMapSpoilt : Network → ℕ → Pairs → ℕ → ℕ → Type 0
 IsMapSpoilt G number P chain count = IsSpoilt G number ⊎ (AreFiguresSound G P chain count → ⊥)
 
--- 3, apart: the links are sound, but some open depot is not reached from the lowest open code
+-- 3, apart: the links are sound, but no walk leads from the lowest open code to some open depot
 abbrev pub IsSoundApart : Network → ℕ → Type 0
 IsSoundApart G number = AreLinksSound G number × IsApart G
 

@@ -1,4 +1,4 @@
--- WHEN LINKS AND FIGURES ARE SOUND (document 01, 'Memory of one map', last paragraph; refusal 2): as tests, and as what they mean.
+-- WHEN LINKS AND FIGURES ARE SOUND (rule 1.8; refusal 2): as tests, and as what they mean.
 -- `sound-links-iff` and `sound-figures-iff` (proofs/Theorems) say that they agree.
 -- Assumes nothing.
 use mathlib.Core.Path.{_≡_}
@@ -19,8 +19,7 @@ allSet n bits test = allb (λ u. allb (λ v. not (bits u v) || test u v) (range 
 unfoldable pub soundLink : Network → ℕ → ℕ → Bool
 soundLink G u v = G .isOpen u && G .isOpen v && not (eqb u v) && G .linked v u
 
--- "the number open equals the ones in the open set, no row has a bit for a closed code or its own, closed codes have empty rows, and bit v of
--- row u equals bit u of row v"
+-- the links are sound: as many codes are open as the record says, and every bit of the link table may stand
 unfoldable pub soundLinks : Network → ℕ → Bool
 soundLinks G number = eqb number (countb (G .isOpen) (range (G .limit))) && allSet (G .limit) (G .linked) (soundLink G)
 
@@ -28,7 +27,7 @@ soundLinks G number = eqb number (countb (G .isOpen) (range (G .limit))) && allS
 unfoldable pub soundPair : Network → ℕ → ℕ → Bool
 soundPair G u v = ltb u v && G .isOpen u && G .isOpen v
 
--- "every pair bit joins two open codes u < v, the pair count equals the ones in the pair table, and the longest chain is at most 255"
+-- the figures are sound: every bit of the pair table may stand, they are as many as the record says, and the chain is below the number of codes
 unfoldable pub soundFigures : Network → Pairs → ℕ → ℕ → Bool
 soundFigures G P chain count =
     allSet (G .limit) P (soundPair G)

@@ -54,7 +54,7 @@ module _ (G : Network) (sound : IsSound G) (small : G .limit < unreached) where
       go c (r ∷ vs) all = all-intro (λ v. ltb (dist G r v) unreached) vs (λ v m. reach c r v (all r (List·Memᴰ·head refl)) (all v (List·Memᴰ·tail m)))
 
 module _ (G : Network) (net : IsNet G) (s : ℕ) (o : T (G .isOpen s)) where
-  -- the hop table: distances, and 65,535 for a closed code
+  -- the hop table: distances, and 65,535 at closed codes
   pub hop-open : (v : ℕ) → T (G .isOpen v) → IsDist G s v (dist G s v)
   hop-open v ov = let w = net .connected s v o ov in dist-is G (net .sound) (net .small) s o (w .0) v (w .1)
 

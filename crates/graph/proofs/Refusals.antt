@@ -1,4 +1,4 @@
--- A NOTICE IS REFUSED by the first of document 01's conditions that holds. Assumes nothing.
+-- A NOTICE IS REFUSED by the first condition of rule 8.1 that holds. Assumes nothing.
 use mathlib.Core.Path.{_≡_, refl, sym, ap, subst}
 use mathlib.Core.Logic.{_↔_}
 use mathlib.Core.Bool.{Bool, true, false, not, _&&_}

@@ -17,7 +17,7 @@ use Rattle.graph.specs.Distance.{vertices}
 use Rattle.graph.specs.Chart.{Chart, chart, ecc, Pairs}
 use Rattle.graph.specs.Opening.{shrank, via, stayingPairs, anyPair, shrunkCandidate, openCase, opening}
 
--- "The degree of a depot is the number of ones in its row": all of the row, and all neighbours, those that were searched or skipped included
+-- rule 1.7: the degree is that of the whole row, with all neighbours, those that were searched or skipped included
 pub degree-is : (G : Network) → IsSound G → (u : ℕ) → chart G .degree u ≡ countb (G .linked u) (range (G .limit))
 unfolding chart vertices
 degree-is G sound u = count-filter (G .isOpen) (G .linked u) (range (G .limit)) (λ v h. t→true (G .isOpen v) (sound .ends u v (true→t h)))
@@ -54,7 +54,7 @@ module _ (C : Chart) (a D : ℕ) (P : Pairs) where
       let z = any-out (λ v. stayingPairs C a D P u v) (C .depots) (any-out (λ u. anyb (λ v. stayingPairs C a D P u v) (C .depots)) (C .depots) (none-stays q) u mu) v mv in
       ltb-true (via C a u v) D (not-false (ltb (via C a u v) D) (rw h at z))
 
-  -- "the smaller of D and d(v,a) + d(w,a)" is the sum: in a shrink every stored pair's way through a is below D
+  -- rule 4.4: in a shrink every stored pair's way through a is below D, so that it is the lesser of the two
   pub smaller-idle : opening C a D P .change ≡ shrank → shrunkCandidate C a D P ≡ maxOf (λ u. maxOf (λ v. cond (P u v) (via C a u v) 0) (C .depots)) (C .depots)
   unfolding shrunkCandidate
   smaller-idle q = max-ext _ _ (C .depots) (λ u mu. max-ext _ _ (C .depots) (λ v mv. go u v (P u v) (dropped q u v mu mv)))

@@ -25,7 +25,7 @@ use Rattle.graph.proofs.Charts.{greatest-unique, depot-in, depot-out, c
 use Rattle.graph.proofs.Opened.{IsAdmitted, admitted-of, opened-net, inserted}
 use Rattle.graph.proofs.Searched.{StandsIn, ReferencesIn, CoveredIn, reckon-references, reckon-cover, opening-references, opening-cover}
 
--- ---- distance, eccentricity, diameter, farthest pairs: what is computed is what the papers define
+-- ---- distance, eccentricity, diameter, farthest pairs: what is computed is what is published
 
 module _ (G : Network) (net : IsNet G) where
   -- the distance is the least number of links of a walk, and below the number of depots

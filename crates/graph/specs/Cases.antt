@@ -1,5 +1,5 @@
--- THE WORKED CASES of document 01 over networks, computed by the checker (`refl`): the empty map, the single map and the path of seven
--- reckoned, and the seven stream lines. Assumes nothing.
+-- THE WORKED CASES over networks, computed by the checker (`refl`): the empty map, the single map and the path of seven reckoned (rule 5.6), and
+-- the seven stream lines (rule 10.5). Assumes nothing.
 use mathlib.Core.Path.{_≡_, refl}
 use mathlib.Core.Bool.{false, cond, _&&_, _||_}
 use mathlib.Core.List.{List, [], _∷_, _++_}
@@ -58,7 +58,7 @@ reckoning G =
 
 -- ---- the seven stream lines
 
--- letter (ASCII: G K S, or R) and refusal; depots open, chain, pair count, searches of the call; the pairs themselves
+-- letter (ASCII: G K S, or R) and refusal; the figures of a report line; the pairs themselves
 pub record AnswerLine : Type 0 where
   pub letter : ℕ
   pub refusal : ℕ

@@ -16,7 +16,7 @@ pub record Chart : Type 0 where
   pub degree : ℕ → ℕ
   pub distance : ℕ → ℕ → ℕ
 
--- in document 01 every open depot is a destination
+-- every open depot is a destination (decision 21); the degree counts every neighbour (rule 1.7)
 unfoldable pub chart : Network → Chart
 unfolding vertices countb dist
 chart G = let vs = vertices G in record { depots = vs; isDestination = G .isOpen; degree = λ u. countb (G .linked u) vs; distance = dist G }
@@ -35,7 +35,7 @@ unfoldable pub greatestEcc : Chart → ℕ
 unfolding maxOf ecc destinations
 greatestEcc C = maxOf (ecc C) (destinations C)
 
--- the diameter, document 01's longest chain
+-- the diameter
 unfoldable pub diameter : Network → ℕ
 unfolding chart greatestEcc
 diameter G = greatestEcc (chart G)

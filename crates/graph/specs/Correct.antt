@@ -19,7 +19,7 @@ pub record IsNet (G : Network) : Type 0 where
   pub connected : IsConnected G
   pub small : G .limit < unreached
 
--- v is covered: a searched depot's eccentricity, plus the distance between them, is below the chain
+-- v is covered (rule 9.6): from some searched depot, eccentricity and distance to v add up to less than the chain
 pub record IsCovered (G : Network) (references : List ℕ) (chain v : ℕ) : Type 0 where
   pub reference : ℕ
   pub isReference : T (memb reference references)
@@ -46,7 +46,7 @@ pub record AreReferences (G : Network) (S : State) : Type 0 where
 abbrev pub AllCovered : Network → State → Type 0
 AllCovered G S = (v : ℕ) → T (G .isOpen v) → T (not (memb v (S .references))) → IsCovered G (S .references) (S .candidate) v
 
--- The depot v was skipped by right: the reference's eccentricity plus the distance between them is v's bound, and that is below the chain.
+-- The depot v was skipped by right: its bound is the reference's eccentricity and the distance to v, added, and that is below the chain.
 pub record IsSkipped (G : Network) (references : List ℕ) (chain v reference bound : ℕ) : Type 0 where
   pub isReference : T (memb reference references)
   pub ecc : ℕ

@@ -1,5 +1,5 @@
--- THE PUBLISHED DEFINITIONS (source documents 000 and 004; document 01, 'Meaning of the figures'): a network of depots, walks, distance,
--- eccentricity, diameter (document 01: the longest chain) and farthest pairs.
+-- THE PUBLISHED DEFINITIONS (rules 2.1 to 2.3): a network of depots, walks, distance, eccentricity, diameter (the trade's longest chain) and
+-- farthest pairs.
 -- Assumes nothing.
 use mathlib.Core.Path.{_≡_}
 use mathlib.Core.Logic.{_⊎_, _↔_}
@@ -25,7 +25,7 @@ pub data Walk (G : Network) : ℕ → ℕ → ℕ → Type 0 where
   stay : {u : ℕ} → Walk G zero u u
   step : {k u v w : ℕ} → T (G .linked u v) → Walk G k v w → Walk G (suc k) u w
 
--- every two open depots are joined by a walk (otherwise document 01 says: apart)
+-- every two open depots are joined by a walk (the trade's word for a network that is not so: apart)
 abbrev pub IsConnected : Network → Type 0
 IsConnected G = (u v : ℕ) → T (G .isOpen u) → T (G .isOpen v) → (k : ℕ) × Walk G k u v
 
@@ -39,7 +39,7 @@ pub record IsGreatest (P : ℕ → Type 0) (m : ℕ) : Type 0 where
   pub upper : (k : ℕ) → P k → k ≤ m
   pub attained : (m ≡ 0) ⊎ P m
 
--- Q tells the destinations: in document 01 they are all open depots, `G .isOpen`.
+-- Q tells the destinations: by the rules they are all open depots, `G .isOpen`.
 -- The eccentricity of u is e: the greatest distance from u to a destination.
 -- (On a network in parts it is the greatest finite one; every call refuses such a network.)
 abbrev pub IsEcc : Network → (ℕ → Bool) → ℕ → ℕ → Type 0
@@ -58,7 +58,7 @@ pub record IsFarthest (G : Network) (Q : ℕ → Bool) (u v : ℕ) : Type 0 wher
   pub isDiameter : IsDiameter G Q diameter
   pub isDist : IsDist G u v diameter
 
--- The figures are true: D is the diameter, and P tells the farthest pairs.
+-- The figures are true (rule 2.5): D is the diameter, and P tells the farthest pairs.
 pub record AreTrue (G : Network) (Q : ℕ → Bool) (D : ℕ) (P : ℕ → ℕ → Bool) : Type 0 where
   pub chain : IsDiameter G Q D
   pub pairs : (u v : ℕ) → T (P u v) ↔ IsFarthest G Q u v

@@ -1,4 +1,4 @@
--- THE OPENING OF A DEPOT, by document 01 ('Opening a depot'), over the network itself: no word, no table.
+-- THE OPENING OF A DEPOT (rules 4.1 to 4.6), over the network itself: no word, no table.
 -- Assumes nothing.
 use mathlib.Core.Bool.{Bool, true, false, cond, not, _&&_, _||_}
 use mathlib.Core.List.{List, [], _∷_}
@@ -38,7 +38,7 @@ unfoldable pub isEmpty : List ℕ → Bool
 isEmpty [] = true
 isEmpty (x ∷ xs) = false
 
--- the conditions 5 to 8 of document 01's table, each with its number: taken, lonely, unsorted, unknown
+-- the conditions 5 to 8 of rule 8.1 as tests, each with its number: taken, lonely, unsorted, unknown
 unfoldable pub noticeFaults : Network → Notice → List (Bool × ℕ)
 unfolding isEmpty vertices strictlyRising allb
 noticeFaults G o =
@@ -63,7 +63,7 @@ pub record Opened : Type 0 where
 unfoldable pub via : Chart → ℕ → ℕ → ℕ → ℕ
 via C a u v = C .distance a u + C .distance a v
 
--- "drop each stored pair (v,w) with d(v,a) + d(w,a) < D": the stored pairs that stay
+-- the stored pairs that stay: those whose way through a is not below D (rule 4.3)
 unfoldable pub stayingPairs : Chart → ℕ → ℕ → Pairs → Pairs
 unfolding via
 stayingPairs C a D P u v = P u v && not (ltb (via C a u v) D)
@@ -72,7 +72,7 @@ unfoldable pub anyPair : List ℕ → Pairs → Bool
 unfolding anyb
 anyPair vs P = anyb (λ u. anyb (λ v. P u v) vs) vs
 
--- "the greatest, over the stored pairs, of the smaller of D and d(v,a) + d(w,a), or 0 without pairs"
+-- the candidate of a shrink (rule 4.4)
 unfoldable pub shrunkCandidate : Chart → ℕ → ℕ → Pairs → ℕ
 unfolding via maxOf
 shrunkCandidate C a D P = maxOf (λ u. maxOf (λ v. cond (P u v) (min D (via C a u v)) 0) (C .depots)) (C .depots)
@@ -87,7 +87,7 @@ searchedOnce C a c Q = record {
   references = a ∷ [];
 }
 
--- by the three tests: e(a) > D; e(a) = D; a stored pair stays
+-- by the three tests of rules 4.2 and 4.3: e(a) > D; e(a) = D; a stored pair stays
 unfoldable pub openCase : Bool → Bool → Bool → Chart → ℕ → ℕ → Pairs → Opened
 unfolding ecc ownPairs stayingPairs shrunkCandidate searchedOnce round rounds start
 openCase true same stays C a D P = record { change = grew; final = searchedOnce C a (ecc C a) (ownPairs C a (ecc C a)) }

@@ -1,4 +1,4 @@
--- THE CONDITIONS OF DOCUMENT 01'S TABLE ('Numbers the scanner shows') that speak of the network and a notice, 3 to 8, in the published words.
+-- THE CONDITIONS OF RULE 8.1 that speak of the network and a notice, 3 to 8, in the published words.
 -- `notice-refusals` (proofs/Refusals) says that `noticeFaults` gives the first of 5 to 8 that holds, and 0 exactly if none does.
 -- Assumes nothing.
 use mathlib.Core.Path.{_≡_}
@@ -9,7 +9,7 @@ use lib.ListN.{length, getD}
 use Rattle.graph.specs.Network.{Network, Walk}
 use Rattle.graph.specs.Opening.{Notice}
 
--- 3, apart: (the links are sound, but) some open depot is not reached from the lowest open code
+-- 3, apart (where the links are sound): no walk leads from the lowest open code to some open depot
 pub record IsApart (G : Network) : Type 0 where
   pub lowest : ℕ
   pub isOpen : T (G .isOpen lowest)

@@ -1,4 +1,4 @@
--- THE REFERENCE ROUNDS and the whole reckoning, by document 01 ('Opening a depot', third paragraph), line by line over a chart.
+-- THE REFERENCE ROUNDS and the whole reckoning (rules 5.1 to 5.5), over a chart.
 -- Assumes nothing.
 use mathlib.Core.Bool.{Bool, true, false, cond, not, _&&_, _||_}
 use mathlib.Core.List.{List, [], _∷_, _++_}
@@ -10,7 +10,7 @@ use Rattle.lists.specs.Lists.{filterb}
 use Rattle.graph.specs.Distance.{unreached}
 use Rattle.graph.specs.Chart.{Chart, ecc, Pairs, ownPairs}
 
--- Where a depot stands in the rounds. A waiting depot is one that document 01 calls remaining.
+-- Where a depot stands in the rounds. A waiting depot is one that the rules call remaining.
 pub data Status : Type 0 where
   waiting : ℕ → ℕ → Status  -- its bound, and the earliest reference that gave it
   skipped : ℕ → ℕ → Status  -- the same, when it was skipped
@@ -21,13 +21,13 @@ isWaiting (waiting b g) = true
 isWaiting (skipped b g) = false
 isWaiting (searched e) = false
 
--- the skip table's number: the reference of a skipped depot, else one of two marks (256 and 257 in document 01)
+-- the skip table's number (rule 6.1): the reference of a skipped depot, else one of two marks (256 and 257 in a map)
 abbrev pub markOf : ℕ → ℕ → Status → ℕ
 markOf searchedMark otherMark (waiting b g) = otherMark
 markOf searchedMark otherMark (skipped b g) = g
 markOf searchedMark otherMark (searched e) = searchedMark
 
--- the bound table's number: the bound when skipped, the eccentricity if searched, 65,535 otherwise
+-- the bound table's number (rule 6.2)
 abbrev pub boundOf : Status → ℕ
 boundOf (waiting b g) = unreached
 boundOf (skipped b g) = b
@@ -39,8 +39,7 @@ pub record State : Type 0 where
   pub status : ℕ → Status
   pub references : List ℕ  -- so far, in order; the number of searches is its length
 
--- "takes e(r) + d(r,v) as its bound if smaller than the bound it has", then "whose bound is below the candidate is skipped":
--- the bound x offered by the reference r, with the candidate c
+-- rule 5.3, of one depot: it is offered the bound x by the reference r, and skipped if its bound is then below the candidate c
 unfoldable pub offer : ℕ → ℕ → ℕ → Status → Status
 offer c r x (waiting b g) =
     let b′ = min x b in
@@ -49,7 +48,7 @@ offer c r x (waiting b g) =
 offer c r x (skipped b g) = skipped b g
 offer c r x (searched e) = searched e
 
--- the candidate after a search from r with eccentricity e: only a destination raises it
+-- the candidate after a search from r with eccentricity e (rule 5.2): only a destination raises it
 unfoldable pub raise : Chart → ℕ → ℕ → ℕ → ℕ
 raise C r e c = cond (C .isDestination r) (max e c) c
 
@@ -73,7 +72,7 @@ round C r S =
       references = S .references ++ (r ∷ []);
     }
 
--- the better of two depots to search from next: the higher degree, the first (lower code) on a tie
+-- the better of two depots to search from next (rule 5.4): the higher degree, the first (lower code) on a tie
 unfoldable pub better : Chart → ℕ → Option ℕ → ℕ
 better C v none = v
 better C v (some w) = cond (ltb (C .degree v) (C .degree w)) w v
@@ -102,7 +101,7 @@ rounds C (suc k) S = orStop (pick C (remaining C S)) S (λ r. rounds C k (round 
 unfoldable pub start : ℕ → State
 start c = record { candidate = c; pairs = λ u v. false; status = λ v. waiting unreached 0; references = [] }
 
--- "A whole reckoning runs these rounds with candidate 0 and an all-zero pair table at the start"
+-- the whole reckoning (rule 5.5)
 unfoldable pub reckon : Chart → State
 unfolding rounds start
 reckon C = rounds C (length (C .depots)) (start 0)

@@ -1,5 +1,5 @@
--- A SECOND TABLE OF CASES, computed by the checker (`refl`): a small network for each rule that document 01's own cases leave open, with the
--- reading that it excludes. Assumes nothing.
+-- A SECOND TABLE OF CASES, computed by the checker (`refl`): a small network for each rule that the examples of the rules leave open, with the
+-- misunderstanding that it excludes. Assumes nothing.
 use mathlib.Core.Path.{_≡_, refl}
 use mathlib.Core.Bool.{_&&_, _||_}
 use mathlib.Core.List.{List, [], _∷_}

@@ -58,7 +58,7 @@ demand3 K shape = record {
       ∙ sym (memory-is K shape ds d);
 }
 
--- ---- document 01's map
+-- ---- the rules' map
 
 pub demand3-base : Demand3 base (openCall base)
 demand3-base = demand3 base base-shape

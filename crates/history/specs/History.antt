@@ -1,4 +1,4 @@
--- LISTS OF OPENING CALLS on one map: how each call is lent the map, and what the map is after it. `step` is the call: `openCall K` of the
+-- LISTS OF OPENING CALLS on one map (rule 9.4): how each call is lent the map, and what the map is after it. `step` is the call: `openCall K` of the
 -- specification, or the code's own.
 -- Assumes nothing.
 use mathlib.Core.List.{List, [], _∷_, _++_}
@@ -23,12 +23,12 @@ unfoldable pub lend : Part → List ℕ → List ℕ
 lend (first k) t = take k t
 lend (whole xs) t = t ++ xs
 
--- "A table lent too short is the first part of the map's, whose rest stays.": the map's table t after a call left l in the lent words
+-- the map's table t after a call left l in the lent words: what was not lent stays
 unfoldable pub restore : Part → List ℕ → List ℕ → List ℕ
 restore (first k) t l = l ++ drop k t
 restore (whole xs) t l = take (length t) l
 
--- a call: the notice, how the two tables are lent, and whatever the other lent memory holds
+-- a call: the notice, how the two tables are lent, and the other lent memory, which may hold anything
 pub record Call : Type 0 where
   pub notice : Notice
   pub links : Part
@@ -50,7 +50,7 @@ memoryAfter M c l = record {
   rec = l .after;
 }
 
--- the memory after a list of calls, "each call getting the map as the last one left it and nothing else writing it meanwhile"; their answers
+-- the memory after a list of calls, each lent the map as it stands after the one before; their answers
 unfoldable pub runMemory : Step → Memory → List Call → Memory
 runMemory step M [] = M
 runMemory step M (c ∷ cs) = runMemory step (memoryAfter M c (callStep step M c)) cs

@@ -1,5 +1,4 @@
--- THE PLAIN LIST over a whole list of calls: fed each opening call's code, neighbours and lent buffer sizes, and no answers. It knows no words and
--- no tables. Assumes nothing.
+-- THE PLAIN LIST (rules 9.1 to 9.3) over a whole list of calls. It knows no words, no tables and no answers. Assumes nothing.
 use mathlib.Core.Bool.{not}
 use mathlib.Core.List.{List, [], _∷_}
 use Prim.Native.Nat.{ℕ, zero, suc}
@@ -11,12 +10,12 @@ use Rattle.rounds.specs.Sizes.{Sizes, longEnough}
 use Rattle.outcome.specs.declared.Outcome.{Outcome}
 use Rattle.plain_list.specs.PlainList.{plainAnswer, plainNext}
 
--- what the list is fed of a call
+-- what the list is told of a call
 pub record Feed : Type 0 where
   pub notice : Notice
   pub sizes : Sizes
 
--- "A call is refused with the first of these that holds: 1 .. 5 .. 6 .. 7 .. 8"; 0: accepted
+-- the number of a call's refusal (rule 9.2), 0 if it is accepted
 unfoldable pub plainRefusal : Shape → Network → Feed → ℕ
 unfolding firstOf longEnough noticeFaults
 plainRefusal K G c = firstOf ((not (longEnough K (c .sizes)), 1) ∷ noticeFaults G (c .notice))
@@ -26,7 +25,7 @@ unfoldable pub noticed : ℕ → Notice → List Notice → List Notice
 noticed zero o os = o ∷ os
 noticed (suc k) o os = os
 
--- the whole list: the network of all accepted notices, the answers in order, the accepted notices
+-- the whole list: the network of the accepted notices, the answers in order, the accepted notices
 pub record PlainRun : Type 0 where
   pub network : Network
   pub answers : List Outcome

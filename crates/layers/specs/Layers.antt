@@ -1,4 +1,4 @@
--- WHAT A SEARCH LEAVES (document 01, 'Search from a depot'): the hop table and the two layer rows, by the distances of a network.
+-- WHAT A SEARCH LEAVES (rules 3.1 and 3.2): the hop table and the two layer rows, by the distances of a network.
 -- Assumes nothing.
 use mathlib.Core.Bool.{Bool, cond, not, _&&_}
 use mathlib.Core.List.{List}
@@ -17,8 +17,8 @@ tableNetwork W links = record { limit = 64 * W; isOpen = λ v. ltb v (64 * W); l
 unfoldable pub depthFrom : Network → ℕ → ℕ
 depthFrom G s = maxOf (λ v. cond (ltb (dist G s v) unreached) (dist G s v) 0) (range (G .limit))
 
--- "Depots at even distance pass through the first, at odd distance through the second. At the end one row holds the last layer and the other
--- the layer before it, or zeros if the last layer is at distance 0": bit v of the row for a parity, with h the distances and e the last layer's
+-- rule 3.2: bit v of the row for a parity, with h the distances and e that of the last layer. The row of e's parity has the last layer, the other
+-- row the one before it, none where e is 0
 unfoldable pub layerBit : (ℕ → ℕ) → ℕ → ℕ → ℕ → Bool
 layerBit h e parity v = cond (eqb (e % 2) parity) (eqb (h v) e) (not (eqb e 0) && eqb (h v) (e - 1))
 
@@ -31,7 +31,7 @@ pub record Tables : Type 0 where
 abbrev pub tables : List ℕ → List ℕ → List ℕ → Tables
 tables h x y = record { hops = h; even = x; odd = y }
 
--- as a search from s leaves them: "distances, 65,535 for a closed code", and the layers
+-- as a search from s leaves them: the distances (65,535 where there is none), and the layers
 unfoldable pub searchLeaves : ℕ → Network → ℕ → Tables → Tables
 searchLeaves W G s B =
     let e = depthFrom G s in

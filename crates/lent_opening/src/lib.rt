@@ -1,5 +1,4 @@
-// The opening on a record that is lent by `&mut`, as document 01 names it: a thin function over the step by value, whose proof is a walk of its
-// code by hand.
+// The opening on a record that is lent by `&mut` (rule 12.9): a thin function over the step by value, whose proof is a walk of its code by hand.
 ghost use mathlib.Core.Path.{_≡_};
 ghost use Rattle.map.specs.Memory.{base};
 ghost use Rattle.rounds.specs.Slices.{lentBefore, lentAfter};
@@ -9,7 +8,7 @@ use map::Record;
 use opening::Report;
 use opening::Returned;
 
-// The opening of a depot on a record that is lent: "The record of a line is lent to the opening call and brought up to date there."
+// The opening of a depot on a record that is lent, and is brought up to date (rule 4.1).
 pub fn open(
     rec: &mut Record,
     links: &mut [u64],

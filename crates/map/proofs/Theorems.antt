@@ -68,7 +68,7 @@ emptied-is-empty K rec links pairs h = go (emptyRefusal K links pairs) h
     }
     go (suc k) e = let z : _≡_ {A = ℕ} 0 1 = cc in absurd (omega arith)
 
--- ---- document 01's shape is one
+-- ---- the shape of the rules is one
 
 pub base-shape : IsShape base
 base-shape = record { positive = lit< tt; most = lit< tt; searchedFree = lit≤ tt; otherFree = lit≤ tt; marksDiffer = λ e. omega arith }

@@ -1,4 +1,4 @@
--- EMPTYING A MAP: it zeroes both tables and the record, and is refused only with 1. `emptied-is-empty` (proofs/Theorems) says what that means.
+-- EMPTYING A MAP (rule 8.4). `emptied-is-empty` (proofs/Theorems) says what that means.
 -- Assumes nothing.
 use mathlib.Core.Path.{_≡_}
 use mathlib.Core.Bool.{false, not, _&&_}
@@ -21,7 +21,7 @@ zeros n = mapl (λ i. 0) (range n)
 unfoldable pub emptyRecord : ℕ → Record
 emptyRecord W = record { codes = zeros W; number = 0; chain = 0; count = 0 }
 
--- this paper's number for each case of the answer: the refusal, 0 for none
+-- the number for each case of the answer: the refusal, 0 for none
 abbrev pub emptyingNumber : Emptying → ℕ
 emptyingNumber Done = 0
 emptyingNumber (Refused k) = k

@@ -1,5 +1,5 @@
--- THE MEMORY OF ONE MAP (document 01, 'Memory of one map'): its shape, and the network that its words mean. Document 01 has 4 words per row;
--- every definition takes the number of words.
+-- THE MEMORY OF ONE MAP (rules 1.1 to 1.5): its shape, and the network that its words mean. A row of a map has 4 words; every definition takes the
+-- number of words.
 -- Assumes nothing.
 use mathlib.Core.Path.{_≡_}
 use mathlib.Core.List.{List}
@@ -29,7 +29,7 @@ pub record IsShape (K : Shape) : Type 0 where
   pub otherFree : places K ≤ K .otherMark
   pub marksDiffer : K .searchedMark ≡ K .otherMark → ⊥
 
--- document 01's shape: 4 words, 256 codes, marks 256 and 257
+-- the shape of the rules: 4 words, 256 codes, marks 256 and 257
 abbrev pub base : Shape
 base = record { words = 4; searchedMark = 256; otherMark = 257 }
 

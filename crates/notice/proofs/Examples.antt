@@ -1,4 +1,4 @@
--- The document's line, computed: opening 5 beside 0, 2 and 4. Assumes nothing.
+-- The line of rule 7.2, computed. Assumes nothing.
 use mathlib.Core.Path.{_≡_, refl}
 use mathlib.Core.List.{List, [], _∷_, _++_}
 use Prim.Native.Nat.{ℕ}

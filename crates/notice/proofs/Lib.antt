@@ -12,5 +12,5 @@ pub mod Tests
 pub mod Answers
 -- The theorems: reader and writer undo each other, so each frame has exactly one line.
 pub mod Theorems
--- The document's line, computed.
+-- The line of rule 7.2, computed.
 pub mod Examples

@@ -1,4 +1,4 @@
--- The two calls on lent memory. Each is one definition from what was lent to the answer and every byte. Assumes nothing.
+-- The two calls (rules 7.3 to 7.5) on lent memory. Each is one definition from what was lent to the answer and every byte. Assumes nothing.
 use mathlib.Core.Bool.{cond}
 use mathlib.Core.List.{List}
 use Prim.Native.Nat.{ℕ}
@@ -16,8 +16,8 @@ use Rattle.notice.specs.declared.Writing.the-variants.{Line as Written, 
 abbrev pub frameLimit : ℕ
 frameLimit = 258
 
--- An answer in the document's numbers: the refusal, 0 for none; the length of what was written; the bytes used.
--- A refusal has only its number, and the writer uses no input: the other places are 0.
+-- An answer in numbers: the refusal, 0 for none; the length of what was written; the bytes used. A refusal has its number alone, and the writer uses
+-- no input: the other places are 0.
 pub record LineAnswer : Type 0 where
   pub refusal : ℕ
   pub written : ℕ
@@ -29,7 +29,7 @@ lineDone w u = record { refusal = 0; written = w; used = u }
 abbrev pub lineRefused : ℕ → LineAnswer
 lineRefused n = record { refusal = n; written = 0; used = 0 }
 
--- the document's numbers for each case of the reader's and the writer's answer
+-- the numbers for each case of the reader's and the writer's answer
 unfoldable pub readingOf : Reading → LineAnswer
 readingOf (Frame n u) = lineDone n u
 readingOf (NoReading n) = lineRefused n
@@ -51,7 +51,7 @@ unfoldable pub readInto : Line → List ℕ → LineLeft
 readInto garbled buffer = lineLeft (lineRefused garbledLine) buffer
 readInto (frame f used) buffer = lineLeft (lineDone (length f) used) (overwrite f buffer)
 
--- the reader: the line at the start of the input, into a buffer of at least 258 bytes
+-- the reader: the line that the input begins with, into a buffer of at least 258 bytes
 unfoldable pub readCall : List ℕ → List ℕ → LineLeft
 readCall input buffer = cond (ltb (length buffer) frameLimit) (lineLeft (lineRefused shortBuffer) buffer) (readInto (readLine input) buffer)
 

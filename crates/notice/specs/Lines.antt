@@ -1,4 +1,4 @@
--- Notice lines, after the document: upper-case hexadecimal, one frame a line, ended by the byte 0A. Assumes nothing.
+-- Notice lines (rules 7.1 and 7.2): frames, and the lines that spell them. Assumes nothing.
 use mathlib.Core.Bool.{Bool, cond, _&&_}
 use mathlib.Core.List.{List, [], _∷_, _++_}
 use Prim.Native.Nat.{ℕ, suc, _+_, _*_, _/_, _%_}
@@ -58,6 +58,6 @@ readHead head =
     let n = endOf head in
     cond (ltb n (length head) && spellsFrame (take n head)) (frame (bytesOf (take n head)) (n + 1)) garbled
 
--- the line at the start of the input: its end has to stand among the first 517 bytes
+-- the line that the input begins with (rule 7.3): its end has to stand among the first 517 bytes
 unfoldable pub readLine : List ℕ → Line
 readLine input = readHead (take lineLimit input)

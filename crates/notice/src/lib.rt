@@ -22,7 +22,7 @@ pub enum Writing {
     Refused(u8),
 }
 
-// Reads the line at the start of the input into the frame buffer. It does not judge the neighbours:
+// Reads the line that the input begins with into the frame buffer. It does not judge the neighbours:
 // the opening does.
 pub fn read_notice(input: &[u8], frame: &mut [u8]) -> Reading
     ensures { λ r. ⌜ lineLeft (readingOf r) (now (frame .exit)) ≡ readCall (now (input .entry)) (now (frame .entry)) ⌝ }

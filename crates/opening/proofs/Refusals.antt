@@ -1,4 +1,4 @@
--- AN OPENING IS REFUSED by the first of document 01's conditions that holds, and then changes nothing. Assumes nothing.
+-- AN OPENING IS REFUSED by the first condition of rule 8.1 that holds, and then changes nothing. Assumes nothing.
 use mathlib.Core.Path.{_≡_, refl}
 use Prim.Native.Nat.{ℕ, zero, suc}
 use Rattle.lists.proofs.Conditions.{decides-short, refuses-by}

@@ -41,7 +41,7 @@ module _ (K : Shape) (shape : IsShape K) (rec : Record) (links : List ℕ) (B : 
 pub open-demand2 : (K : Shape) → IsShape K → OpenDemand2 K (openCall K)
 open-demand2 K shape = record { figures = opened-represents K shape; marks = accepted-marked K shape }
 
--- ---- document 01's map
+-- ---- the rules' map
 
 pub open-demand2-base : OpenDemand2 base (openCall base)
 open-demand2-base = open-demand2 base base-shape

@@ -1,4 +1,4 @@
--- DEMAND 2 FOR OPENINGS, on any lent memory. On true stored figures the map afterwards is that of the network with the depot; on any stored
+-- DEMAND 2 (rule 11.2) FOR OPENINGS, on any lent memory. On true stored figures the map afterwards is that of the network with the depot; on any stored
 -- figures that are not refused, marks, number of searches, bound and cover hold.
 -- Assumes nothing.
 use mathlib.Core.Path.{_≡_}

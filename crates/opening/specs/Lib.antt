@@ -11,5 +11,5 @@ pub mod Refusals
 pub mod Tables
 -- 6. demand 2 for openings
 pub mod Demand2
--- 7. the steps of the code
+-- 7. small words for contracts, and the refusal of the lent map alone, which the stream's step cites
 pub mod Steps

@@ -5,7 +5,7 @@ use Rattle.map.specs.Memory.{Shape, tableWords}
 use Rattle.map.specs.Empty.{zeros, emptyRecord}
 use Rattle.map.specs.declared.Record.{Record}
 
--- "The map is link table, pair table and record, empty when all zero."
+-- a map (rule 1.4), and the empty one
 pub record Memory : Type 0 where
   pub links : List ℕ
   pub pairs : List ℕ

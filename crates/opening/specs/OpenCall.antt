@@ -1,4 +1,4 @@
--- THE OPENING CALL on lent memory, whole: its answer and every place that it leaves. The code's contract is one equation with `openCall`.
+-- THE OPENING CALL (section 4 of the rules) on lent memory, whole: its answer and every place that it leaves. The code's contract is one equation with `openCall`.
 -- Assumes nothing.
 use mathlib.Core.Bool.{not, _&&_}
 use mathlib.Core.List.{List, [], _∷_}

@@ -1,4 +1,4 @@
--- WHICH REFUSAL AN OPENING GIVES (document 01, 'Numbers the scanner shows'), in the published words: demand 1 for the opening.
+-- WHICH REFUSAL AN OPENING GIVES (rule 8.1), in the published words: demand 1 (rule 11.1) for the opening.
 -- `open-refusals` (proofs/Refusals) proves it of `openCall` for every shape.
 -- Assumes nothing.
 use mathlib.Core.List.{List, _∷_, _++_}

@@ -20,8 +20,7 @@ use Rattle.outcome.specs.declared.Outcome.the-variants.{Accepted, Refused}
 use Rattle.opening.specs.OpenCall.{OpenLeft}
 use Rattle.opening.specs.Memory.{Memory}
 
--- "the record's open set, number open, chain and pair count are the network's; a link bit is one exactly for a link, either way round, a pair bit
--- exactly for a farthest pair"
+-- the map M is that of the network G (rule 9.5)
 pub record Represents (K : Shape) (M : Memory) (G : Network) : Type 0 where
   pub codes : (c : ℕ) → c < places K → rowBit (K .words) (M .rec .codes) c ≡ G .isOpen c
   pub number : M .rec .number ≡ length (vertices G)

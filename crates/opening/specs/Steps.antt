@@ -1,4 +1,4 @@
--- THE STEPS OF THE CODE. Nobody has to believe these: the call answers by OpenCall.antt.
+-- WORDS FOR CONTRACTS: the refusal of the lent map alone (the stream's step asks and gives it), a notice, a refused answer.
 -- Assumes nothing.
 use mathlib.Core.Bool.{not, _&&_}
 use mathlib.Core.List.{List, [], _∷_}

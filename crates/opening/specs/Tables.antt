@@ -1,4 +1,4 @@
--- WHAT AN ACCEPTED OPENING LEAVES IN EVERY TABLE, by the published words, on any stored figures that are not refused.
+-- WHAT AN ACCEPTED OPENING LEAVES IN EVERY TABLE (section 6 of the rules), by the published words, on any stored figures that are not refused.
 -- `open-tables` (proofs/Tables) proves it of `openCall`. Which places are marked as searched stands in `IsMarked`, what the map means in `Represents`.
 -- Assumes nothing.
 use mathlib.Core.Path.{_≡_}
@@ -24,7 +24,7 @@ use Rattle.outcome.specs.declared.Change.the-variants.{Shrank}
 use Rattle.outcome.specs.declared.Outcome.the-variants.{Accepted}
 use Rattle.opening.specs.OpenCall.{openRefusal, networkAfter, OpenLeft, referencesOf}
 
--- the place of v holds neither a reference nor a bound: 257 and 65,535 in document 01
+-- the place of v holds neither a reference nor a bound: 257 and 65,535
 abbrev pub IsBlank : Shape → OpenLeft → ℕ → Type 0
 IsBlank K l v = (getD (l .lent .skips) v 0 ≡ K .otherMark) × (getD (l .lent .bounds) v 0 ≡ unreached)
 
@@ -44,7 +44,7 @@ pub record AreTables (K : Shape) (H : Network) (a : ℕ) (references links : Lis
       → IsSkipped H references (l .after .chain) v (getD (l .lent .skips) v 0) (getD (l .lent .bounds) v 0)
   pub others : (l .report .outcome ≡ Accepted Shrank → ⊥) → (v : ℕ) → v < places K → (v ≡ a → ⊥) → IsBlank K l v
   pub closed : (v : ℕ) → v < places K → (T (H .isOpen v) → ⊥) → IsBlank K l v
-  -- hop table and layer rows are left as the last search leaves them
+  -- hop table and layer rows hold what the last search left there
   pub searched : (e : ℕ) × IsSearch K H (lastOr a later) (B .searched) (searchLeft (Reached e) (l .lent .searched))
   -- what stands past the named sizes stays
   pub linksKept : KeepsPast (tableWords K) links (l .links)

@@ -1,7 +1,7 @@
--- Numbers of the document's table of refusals, those that lines give. Assumes nothing.
+-- Numbers of the table of refusals (rule 8.1), those that lines give. Assumes nothing.
 use Prim.Native.Nat.{ℕ}
 
--- short: a lent buffer is below its named size
+-- short: a lent buffer has not its size
 abbrev pub shortBuffer : ℕ
 shortBuffer = 1
 

@@ -1,4 +1,4 @@
--- The document's values for each case of the outcome enum: what the report line shows of it. Assumes nothing.
+-- The letter and the number for each case of the outcome enum (rules 4.7 and 12.10): what the report line shows of it. Assumes nothing.
 use Prim.Native.Nat.{ℕ}
 use Rattle.outcome.specs.declared.Change.the-variants.{Grew, Kept, Shrank}
 use Rattle.outcome.specs.declared.Outcome.{Outcome}

@@ -1,2 +1,2 @@
--- The pair table with the number of its pairs: pairs added and stale pairs dropped.
+-- The pair table with the number of its pairs: pairs added. Nobody has to believe this file.
 pub mod Pairs

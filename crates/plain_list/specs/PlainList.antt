@@ -1,4 +1,4 @@
--- ONE STEP OF THE PLAIN LIST: what it answers and what it then holds. It knows no words and no tables.
+-- ONE STEP OF THE PLAIN LIST (rule 9.3): what it answers and what it then holds. It knows no words and no tables.
 -- Assumes nothing.
 use mathlib.Core.Bool.{cond}
 use Prim.Native.Nat.{ℕ, zero, suc}
@@ -10,7 +10,7 @@ use Rattle.outcome.specs.declared.Outcome.{Outcome}
 use Rattle.outcome.specs.declared.Outcome.the-variants.{Accepted, Refused}
 use Rattle.outcome.specs.declared.Change.the-variants.{Grew, Kept, Shrank}
 
--- "It grew, kept or shrank as the longest chain of the two sets is greater than before, equal or smaller."
+-- how the longest chain moved from D to E
 unfoldable pub moved : ℕ → ℕ → Outcome
 moved D E = cond (ltb D E) (Accepted Grew) (cond (eqb D E) (Accepted Kept) (Accepted Shrank))
 

@@ -1,4 +1,4 @@
-// Document 01's plain list: a set of open codes and a set of links, fed with each opening's code, neighbours and whether a lent buffer is short.
+// The plain list (rules 9.1 to 9.3): open codes and links, told of each opening its code, its neighbours and whether a lent buffer is short.
 use crate::searches::figure;
 use crate::sheet::CHAIN;
 use crate::sheet::FIGURES;

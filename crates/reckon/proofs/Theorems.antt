@@ -158,6 +158,6 @@ reckon-refusals K shape rec links B =
 pub reckon-demand2 : (K : Shape) → IsShape K → ReckonDemand2 K (reckonCall K)
 reckon-demand2 K shape = record { numbered = call-numbered K; accepted = call-reckoning K shape; refused = call-refused K }
 
--- document 01's map
+-- of the rules' map
 pub reckon-demand2-base : ReckonDemand2 base (reckonCall base)
 reckon-demand2-base = reckon-demand2 base base-shape

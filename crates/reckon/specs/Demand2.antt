@@ -1,6 +1,6 @@
--- DEMAND 2 FOR THE WHOLE RECKONING, by the published words (graph, Network.antt): what every accepted call answers and leaves, on any lent memory,
+-- DEMAND 2 (rule 11.2) FOR THE WHOLE RECKONING, by the published words (graph, Network.antt): what every accepted call answers and leaves, on any lent memory,
 -- whatever figures were stored; and that a refused one changes nothing.
--- `reckon-demand2` (proofs/Theorems) proves it of `reckonCall` for every shape; `ReckonDemand2 base` is document 01's.
+-- `reckon-demand2` (proofs/Theorems) proves it of `reckonCall` for every shape; `ReckonDemand2 base` is that of the rules' map.
 -- Assumes nothing.
 use mathlib.Core.Path.{_≡_}
 use mathlib.Core.Logic.{_↔_}
@@ -46,7 +46,7 @@ pub record IsReckoning (K : Shape) (G : Network) (rec : Record) (B : Lent) (refe
   -- skip and bound table say so of each depot that was not searched; a closed code has the other mark and 65,535
   pub skipped : (v : ℕ) → T (G .isOpen v) → T (not (memb v references)) → IsSkipped G references (left .reckoned .after .chain) v (getD (left .lent .skips) v 0) (getD (left .lent .bounds) v 0)
   pub closed : (v : ℕ) → v < places K → (T (G .isOpen v) → ⊥) → (getD (left .lent .skips) v 0 ≡ K .otherMark) × (getD (left .lent .bounds) v 0 ≡ unreached)
-  -- hop table and layer rows are left as the last search leaves them, unchanged without a search
+  -- hop table and layer rows hold what the last search left there, and are unchanged without a search
   pub searched : (r : ℕ) (rs : List ℕ) → references ≡ r ∷ rs → (e : ℕ) × IsSearch K G (lastOr r rs) (B .searched) (searchLeft (Reached e) (left .lent .searched))
   pub unsearched : references ≡ [] → left .lent .searched ≡ B .searched
   -- what stands past the named sizes stays

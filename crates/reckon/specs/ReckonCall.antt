@@ -1,4 +1,4 @@
--- THE WHOLE RECKONING on lent memory: its answer and every place that it leaves. The code's contract is one equation with `reckonCall`.
+-- THE WHOLE RECKONING (rule 5.5) on lent memory: its answer and every place that it leaves. The code's contract is one equation with `reckonCall`.
 -- Assumes nothing.
 use mathlib.Core.Bool.{Bool, not}
 use mathlib.Core.List.{List, [], _∷_}
@@ -31,7 +31,7 @@ reckonRefusal K rec links sizes = firstOf ((not (longEnough K sizes), 1) ∷ lin
 unfoldable pub figuredBy : Shape → Record → State → Record
 figuredBy K rec S = record { codes = rec .codes; number = rec .number; chain = S .candidate; count = countPairs (range (places K)) (S .pairs) }
 
--- this paper's numbers for each case of the answer: the refusal, 0 for none; the searches, 0 in a refused call
+-- the numbers for each case of the answer: the refusal, 0 for none; the searches, 0 in a refused call (rule 6.4)
 abbrev pub reckoningNumber : Reckoning → ℕ
 reckoningNumber (Searches k) = 0
 reckoningNumber (Refused n) = n

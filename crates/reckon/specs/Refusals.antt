@@ -1,4 +1,4 @@
--- WHICH REFUSAL A RECKONING GIVES (document 01, 'Numbers the scanner shows'), in the published words: demand 1 for the whole reckoning.
+-- WHICH REFUSAL A RECKONING GIVES (rule 8.1), in the published words: demand 1 (rule 11.1) for the whole reckoning.
 -- `reckon-refusals` (proofs/Theorems) proves it of `reckonCall` for every shape.
 -- Assumes nothing.
 use mathlib.Core.List.{List, [], _∷_}

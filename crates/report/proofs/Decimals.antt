@@ -63,7 +63,7 @@ spell-most (suc k) (suc m) (suc n) h =
     let l : length (spell k (suc n / 10)) ≤ m = spell-most k m (suc n / 10) (omega arith) in
     omega (arith, length-append (spell k (suc n / 10)) (numeral (suc n % 10) ∷ []))
 
--- a number below 10 ^ (m + 1) has at most m + 1 digits; so the three widths of the document
+-- a number below 10 ^ (m + 1) has at most m + 1 digits; so the three widths of rule 10.2
 decimal-most : (m n : ℕ) → n < 10 ^ suc m → length (decimal n) ≤ suc m
 unfolding decimal
 decimal-most m zero h = omega arith

@@ -1,4 +1,4 @@
--- Two lines of the document's stream, computed. Assumes nothing.
+-- Two lines of rule 10.5, computed. Assumes nothing.
 use mathlib.Core.Path.{_≡_, refl}
 use mathlib.Core.List.{[], _∷_}
 use Rattle.outcome.specs.Outcome.{letterOf, refusalOf}

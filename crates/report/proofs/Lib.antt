@@ -8,5 +8,5 @@ pub mod Numbers
 pub mod Lines
 -- The theorems: no two reports have the same line, and the longest line has 45 bytes.
 pub mod Theorems
--- Two lines of the document's stream, computed.
+-- Two lines of rule 10.5, computed.
 pub mod Examples

@@ -1,4 +1,4 @@
--- The report line of the stream, after the document, and the call that writes it. Assumes nothing.
+-- The report line of the stream (rules 10.1 and 10.2), and the call that writes it (rule 10.4). Assumes nothing.
 use mathlib.Core.Bool.{cond}
 use mathlib.Core.List.{List, [], _∷_, _++_}
 use Prim.Native.Nat.{ℕ, _^_, _<_}
@@ -44,7 +44,7 @@ pub record IsWithin (r : ReportFields) : Type 0 where
 abbrev pub bufferLimit : ℕ
 bufferLimit = 48
 
--- The answer in the document's numbers: the refusal, 0 for none, and the length of the line, 0 where none is written.
+-- The answer in numbers: the refusal, 0 for none, and the length of the line, 0 where none is written.
 pub record ReportAnswer : Type 0 where
   pub refusal : ℕ
   pub written : ℕ
@@ -55,7 +55,7 @@ reportDone n = record { refusal = 0; written = n }
 abbrev pub reportRefused : ℕ → ReportAnswer
 reportRefused n = record { refusal = n; written = 0 }
 
--- the document's numbers for each case of the answer
+-- the numbers for each case of the answer
 unfoldable pub writtenOf : Written → ReportAnswer
 writtenOf (Line n) = reportDone n
 writtenOf (NoLine n) = reportRefused n

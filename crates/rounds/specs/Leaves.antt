@@ -1,4 +1,4 @@
--- WHAT ROUNDS LEAVE in lent memory (document 01, 'Opening a depot', fourth paragraph), by the state of the network's rounds.
+-- WHAT ROUNDS LEAVE in lent memory (rules 6.1 to 6.5), by the state of the network's rounds.
 -- Assumes nothing.
 use mathlib.Core.Bool.{cond}
 use mathlib.Core.List.{List, [], _∷_}
@@ -13,7 +13,7 @@ use Rattle.rows.specs.Rows.{encodeTable}
 use Rattle.layers.specs.Layers.{Tables, searchLeaves}
 use Rattle.map.specs.Memory.{Shape, places}
 
--- "Hop table and layer rows are left as the call's last search leaves them; a call without a search leaves them unchanged"
+-- the hop table and the layer rows (rule 6.5): what the last search leaves; as they were without a search
 unfoldable pub searchAfter : ℕ → Network → List ℕ → Tables → Tables
 searchAfter W G [] B = B
 searchAfter W G (r ∷ rs) B = searchLeaves W G (lastOr r rs) B
@@ -28,8 +28,7 @@ pub record Lent : Type 0 where
 abbrev pub lent : List ℕ → Tables → List ℕ → List ℕ → Lent
 lent p T b s = record { pairs = p; searched = T; bounds = b; skips = s }
 
--- "The skip table holds, for a skipped depot, the earliest reference that gave its bound; 256 for a searched depot; 257 for any other. The bound
--- table holds the bound when the depot was skipped, its eccentricity if searched, 65,535 otherwise."
+-- the pairs that the rounds found, and each code's place of the bound and the skip table (rules 6.1 and 6.2)
 unfoldable pub roundsLeave : Shape → Network → State → Lent → Lent
 roundsLeave K G S B = record {
   pairs = overwrite (encodeTable (K .words) (S .pairs)) (B .pairs);

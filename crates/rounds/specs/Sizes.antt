@@ -1,4 +1,4 @@
--- THE SIZES of the buffers that a reckoning or an opening is lent (refusal 1).
+-- THE SIZES of the buffers that a reckoning or an opening is lent (rule 8.3, refusal 1).
 -- Assumes nothing.
 use mathlib.Core.Bool.{Bool, _&&_}
 use mathlib.Core.List.{List}

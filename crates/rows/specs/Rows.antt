@@ -1,5 +1,5 @@
--- Sets of numbers below 64 W as rows of W words, and tables of 64 W such rows. Document 01 has W = 4; every definition takes W.
--- Row u of a table is words W * u to W * u + W - 1: document 01's "bit b of word 4c + w stands for code 64w + b". Bit 0 is the least.
+-- Sets of numbers below 64 W as rows of W words, and tables of 64 W such rows (rule 1.2). A map has W = 4; every definition takes W.
+-- Row u of a table is words W * u to W * u + W - 1.
 -- Assumes nothing.
 use mathlib.Core.Bool.{Bool, cond, _&&_}
 use mathlib.Core.List.{List}

@@ -1,5 +1,5 @@
--- DEMAND 2 for the search, by the published words (Network.antt): what every accepted search answers and leaves, on any lent memory.
--- `search-demand2` (proofs/Theorems) proves it for every shape; `SearchDemand2 base` is document 01's.
+-- DEMAND 2 (rule 11.2) for the search, by the published words (Network.antt): what every accepted search answers and leaves, on any lent memory.
+-- `search-demand2` (proofs/Theorems) proves it for every shape; `SearchDemand2 base` is that of the rules' map.
 -- Assumes nothing.
 use mathlib.Core.Path.{_≡_}
 use mathlib.Core.Logic.{_↔_}

@@ -1,4 +1,4 @@
--- WHICH REFUSAL A SEARCH GIVES (document 01, 'Numbers the scanner shows'), line by line and in the published words: demand 1 for the search.
+-- WHICH REFUSAL A SEARCH GIVES (rule 8.1), in the published words: demand 1 (rule 11.1) for the search.
 -- `search-refusals` (proofs/Theorems) proves it of `searchCall` for every shape.
 -- Assumes nothing.
 use mathlib.Core.List.{List, [], _∷_, _++_}

@@ -1,4 +1,4 @@
--- THE SEARCH CALL on lent memory, whole: its answer and every place that it leaves. The code's contract is one equation with `searchCall`.
+-- THE SEARCH CALL (rules 3.1 to 3.3) on lent memory, whole: its answer and every place that it leaves. The code's contract is one equation with `searchCall`.
 -- Assumes nothing.
 use mathlib.Core.Bool.{Bool, not, cond, _&&_}
 use mathlib.Core.List.{List, [], _∷_}
@@ -47,18 +47,18 @@ searchGiven (suc k) K rec links B code = record { answer = Refused (suc k); lent
 unfoldable pub searchCall : Shape → Record → List ℕ → Tables → ℕ → SearchLeft
 searchCall K rec links B code = searchGiven (searchRefusal K rec links (length (B .hops)) (length (B .even)) (length (B .odd)) code) K rec links B code
 
--- "handed back as part of whichever of the two lent layer rows holds it": the first words of the row for the eccentricity's parity
+-- the part handed back (rule 3.3): the first words of the row of the eccentricity's parity
 unfoldable pub lastLayer : ℕ → ℕ → List ℕ → List ℕ → List ℕ
 lastLayer W e even odd = take W (cond (eqb (e % 2) 0) even odd)
 
 -- ---- the same call with its last layer handed back beside both rows
 
--- this paper's number for each case of the answer: the refusal, 0 for none
+-- the number for each case of the answer: the refusal, 0 for none
 abbrev pub searchNumber : Found → ℕ
 searchNumber (Reached e) = 0
 searchNumber (Refused k) = k
 
--- the value of each case: the eccentricity; a refusal has only its number, so that what stood there stays
+-- the value of each case: the eccentricity; a refusal has none, so that what stood there stays
 abbrev pub eccOf : Found → ℕ → ℕ
 eccOf (Reached e) old = e
 eccOf (Refused k) old = old

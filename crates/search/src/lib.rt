@@ -78,7 +78,7 @@ pub fn is_connected(
     all_reached(&*hops, codes, words)
 }
 
-// The same for document 01's width, on local memory, so that a refused call changes nothing.
+// The same for rows of four words, on local memory, so that a refused call changes nothing.
 pub fn map_is_connected(links: &[u64], codes: &[u64]) -> bool
     requires { ⌜ IsLent 4 (now links) (now codes) × IsSound (networkOf 4 (now codes) (now links)) ⌝ }
     ensures { λ r. ⌜ r ≡ connected (networkOf 4 (now (codes .entry)) (now (links .entry))) ⌝ }
@@ -181,7 +181,7 @@ pub fn last_layer<'a>(even: &'a [u64], odd: &'a [u64], ecc: u16) -> &'a [u64]
     &odd[..4]
 }
 
-// The search with its last layer handed back as part of the lent row that holds it, beside both rows, so that no word is left unsaid.
+// The search with its last layer (rule 3.3): the part of the row that holds it, beside both rows, so that no word is left unsaid.
 // The answer goes into two numbers, since a lent enum is not covered: the refusal (0: none), and the eccentricity, which a refused call keeps.
 pub fn search_rows<'a>(
     hops: &mut [u16],

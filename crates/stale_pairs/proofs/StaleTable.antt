@@ -1,4 +1,4 @@
--- The loop of `drop_stale`: the rows below u hold their pairs that stay, the others are as they were; counts and greatest way of the rows done.
+-- The loop of `drop_stale`: the rows below u have only the pairs that stay, those from u on all of theirs; counts and greatest way of the rows done.
 -- Assumes nothing.
 use mathlib.Core.Path.{_≡_, refl, sym, ap, ap₂, _∙_}
 use mathlib.Core.Logic.{_≢_, _⊎_, inl, inr}

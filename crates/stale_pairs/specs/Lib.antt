@@ -1,2 +1,2 @@
--- the pairs that stay after a search, and the dropping of the others
+-- the pairs that stay after a search, and the dropping of the others. Nobody has to believe this file
 pub mod Stale

@@ -16,7 +16,7 @@ use Rattle.pairs.specs.Pairs.{Tally, tally, tallyOf}
 unfoldable pub staying : ℕ → List ℕ → ℕ → List ℕ → Pairs
 staying W hops D t u v = tableBit W t u v && not (ltb (getD hops u 0 + getD hops v 0) D)
 
--- the greatest, over the stored pairs, of the smaller of D and that way; 0 without pairs
+-- of each stored pair the lesser of D and that way, and of these the greatest (rule 4.4); 0 without pairs
 unfoldable pub greatestWay : ℕ → List ℕ → ℕ → List ℕ → ℕ
 greatestWay W hops D t =
     maxOf (λ u. maxOf (λ v. cond (tableBit W t u v) (min D (getD hops u 0 + getD hops v 0)) 0) (range (64 * W))) (range (64 * W))

@@ -124,7 +124,7 @@ fn bare_rows(pairs: &[u64], words: usize, u: usize) -> usize
     0
 }
 
-// Drops the stale pairs of the table, row by row in the table itself, and answers what is left of them and the greatest way that was there.
+// Drops the stale pairs of the table in place, a row after the other, and answers what is left of them and the greatest way that was there.
 pub fn drop_stale(pairs: &mut [u64], hops: &[u16], words: usize, chain: u16) -> Dropping
     requires { ⌜ HasHops words (now pairs) (now hops) ⌝ }
     ensures { λ r. ⌜ dropped (tally (now (pairs .exit)) (r .count)) (r .way) ≡ dropOf words (now (hops .entry)) chain (now (pairs .entry)) ⌝ }

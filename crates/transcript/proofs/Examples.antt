@@ -1,4 +1,4 @@
--- WORKED INPUTS of the stream, by computation: what document 01 says in words of blank lines, stretches and refusals. The seven lines stand in the
+-- WORKED INPUTS of the stream, by computation: what rules 10.1 and 10.3 say of blank lines, stretches and refusals. The seven lines stand in the
 -- table of cases (crate cases). Assumes nothing.
 use mathlib.Core.Path.{_≡_, refl}
 use mathlib.Core.List.{List, [], _∷_, _++_}
@@ -18,7 +18,7 @@ pub nothing : transcript [] ≡ []
 unfolding transcript
 nothing = refl
 
--- "A last stretch without 0A is one garbled line", a well-formed frame too; "as is a blank line"; lines are counted from 1
+-- a last stretch without 0A is garbled, a well-formed frame too; a blank line is; lines are counted from 1
 pub stretches : transcript (bytesIn "\n010000\n01010100") ≡ bytesIn "1 R9 0 0 0 0\n2 K 1 0 0 1\n3 R9 1 0 0 0\n"
 unfolding bytesIn transcript moved allb readHead endOf spellsFrame isFrame bytesOf isDigit digitValue outcomeText letterOf refusalOf figuresText field decimal spell
 stretches = refl
@@ -33,7 +33,7 @@ unfoldable pub zerosText : ℕ → List ℕ
 zerosText zero = []
 zerosText (suc n) = 48 ∷ zerosText n
 
--- "an overlong one up to its 0A" is one garbled line, and reading goes on after it
+-- an overlong line is one garbled line, and the next one begins behind its 0A
 pub overlong : transcript (zerosText 600 ++ bytesIn "\n010000\n") ≡ bytesIn "1 R9 0 0 0 0\n2 K 1 0 0 1\n"
 unfolding bytesIn transcript moved allb readHead endOf spellsFrame isFrame bytesOf isDigit digitValue outcomeText letterOf refusalOf figuresText field decimal spell zerosText
 overlong = refl

@@ -1,4 +1,4 @@
--- TEXTS AS BYTES, so that inputs and outputs stand as document 01 prints them. Assumes nothing.
+-- TEXTS AS BYTES, so that inputs and outputs stand as the rules print them. Assumes nothing.
 use mathlib.Core.List.{List, [], _∷_}
 use Prim.Native.Nat.{ℕ}
 use Prim.Native.Char.{code}

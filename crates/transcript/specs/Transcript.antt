@@ -1,5 +1,5 @@
--- THE TRANSCRIPT: what a whole input of the stream gives as whole output (document 01, 'The stream program'), over bytes and networks. No word
--- and no table is in it.
+-- THE TRANSCRIPT: what a whole input of the stream gives as whole output (section 10 of the rules), over bytes and networks. No word and no table is
+-- in it.
 -- Assumes nothing.
 use mathlib.Core.Bool.{cond}
 use mathlib.Core.List.{List, [], _∷_, _++_}
@@ -19,7 +19,7 @@ use Rattle.notice.specs.Lines.{lineEnd, Line, garbled, frame, readLine}
 use Rattle.report.specs.Line.{reportLine}
 use Rattle.report.specs.declared.ReportFields.{ReportFields}
 
--- "it reads at most 1,000,000 lines"
+-- the most lines that are read
 abbrev pub linesLimit : ℕ
 linesLimit = 1000000
 
@@ -30,7 +30,7 @@ unfoldable pub onto : ℕ → List (List ℕ) → List (List ℕ)
 onto b [] = (b ∷ []) ∷ []
 onto b (l ∷ ls) = (b ∷ l) ∷ ls
 
--- 0A ends a line; a last stretch without 0A is a line too, unless nothing is in it
+-- 0A ends a line; what is left behind the last 0A is a line too, unless nothing is left (rule 10.3)
 unfoldable pub linesOf : List ℕ → List (List ℕ)
 unfolding onto
 linesOf [] = []
@@ -48,7 +48,7 @@ pub record Followed : Type 0 where
   pub network : Network
   pub searches : ℕ
 
--- the searches of an opening that is not refused are those of document 01's steps, on the true figures of the network before it
+-- the searches of an opening that is not refused are those of section 4's steps, on the true figures of the network before it
 unfoldable pub searchesBy : ℕ → Network → Network → Notice → ℕ
 unfolding chart diameter farthest opening
 searchesBy zero G H o = length (opening (chart H) (o .code) (diameter G) (farthest G) .final .references)
@@ -59,7 +59,7 @@ unfoldable pub followBy : ℕ → Network → Notice → Followed
 unfolding plainNext plainAnswer searchesBy
 followBy k G o = let H = plainNext k G o in record { outcome = plainAnswer k G H; network = H; searches = searchesBy k G H o }
 
--- a line as the reader takes it: "A last stretch without 0A is one garbled line, as is a blank line, or an overlong one up to its 0A."
+-- a line as the reader takes it: to the reader a blank line, an overlong one and a last stretch without 0A are garbled (rule 10.3)
 unfoldable pub followLine : Network → Line → Followed
 unfolding noticeIn followBy firstOf noticeFaults
 followLine G garbled = record { outcome = Refused garbledLine; network = G; searches = 0 }
@@ -67,7 +67,7 @@ followLine G (frame f used) = let o = noticeIn f in followBy (firstOf (noticeFau
 
 -- ---- the output
 
--- "line number; G, K, S or R and the refusal; depots open; chain; pair count; searches of this call"
+-- the report of line n (rule 10.1)
 unfoldable pub reportOn : ℕ → Followed → ReportFields
 unfolding vertices diameter farthest countPairs
 reportOn n x =
@@ -87,7 +87,7 @@ unfolding followLine readLine reportLine reportOn
 reportsFrom n G [] = []
 reportsFrom n G (l ∷ ls) = let x = followLine G (readLine l) in reportLine (reportOn (n + 1) x) ++ reportsFrom (n + 1) (x .network) ls
 
--- "Starting from an empty map": the whole output of an input
+-- the whole output of an input, from an empty map
 unfoldable pub transcript : List ℕ → List ℕ
 unfolding reportsFrom emptyNetwork linesOf
 transcript input = reportsFrom 0 (emptyNetwork 256) (take linesLimit (linesOf input))

@@ -1,5 +1,5 @@
-// False but sound figures: a chain that is not the longest, and pairs that are not the farthest. An opening takes them and follows document 01's
-// steps; what it leaves is sound again, and a whole reckoning mends it.
+// False but sound figures: a chain that is not the longest, and pairs that are not the farthest. An opening takes them and follows the same
+// steps (rule 4.6); what it leaves is sound again, and a whole reckoning mends it.
 use crate::calls;
 use crate::compare::is_answer;
 use crate::compare::map_is;
@@ -148,7 +148,7 @@ fn leaves(b: Before, word: u8, searches: u16, chain: u16, count: u32) -> bool {
     both(left.ok, both(answered, figures))
 }
 
-// What document 01's steps give on figures that no network has.
+// What the steps of an opening give on figures that no network has.
 fn worked() -> Tally {
     // an empty map with a chain: it shrinks to 0
     let none = Before {

@@ -1,4 +1,4 @@
-// Histories of openings from the empty map: after each call the map is held to the plain list and to a simple search from every depot; after the last one
+// Histories of openings from the empty map: after each call the map is held to the plain list and to a plain search from each depot; after the last one
 // a whole reckoning and a search of every code are too.
 use crate::calls;
 use crate::calls::Answer;

@@ -1,5 +1,5 @@
-// Document 01's test program: it runs openings, searches and reckonings beside a plain list and a simple search from every depot, and prints a line for
-// each group of cases: how many were tried, and whether all came out as expected. A difference shows in the output.
+// The test program (rule 11.6): it runs openings, searches and reckonings beside a plain list and a plain search from each depot, and prints a line
+// for each group of cases: how many were tried, and whether all came out as expected. A difference shows in the output.
 mod calls;
 mod compare;
 mod false_figures;

@@ -1,4 +1,5 @@
--- What the calls for other languages promise: the call that each wraps, in numbers and lent words (crate foreign has the record's words). Order of reading:
+-- What the calls for other languages promise: the call that each wraps, in numbers and lent words (crate c_values has the record's words). Order of
+-- reading:
 -- 1. notice lines and report lines
 pub mod Lines
 -- 2. the calls on one map

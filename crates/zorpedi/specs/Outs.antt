@@ -37,7 +37,7 @@ pub record EmptyOut : Type 0 where
 abbrev pub emptiedOut : ℕ → List ℕ → List ℕ → List ℕ → EmptyOut
 emptiedOut r words links pairs = record { refusal = r; words = words; links = links; pairs = pairs }
 
--- this paper's number for each case of the answer, and the record's words: the new record over the first seven, or the old words
+-- the number for each case of the answer, and the record's words: the new record over the first seven, or the old words
 unfoldable pub emptyFrom : Emptying → EmptyLeft → List ℕ → EmptyOut
 emptyFrom Done x words = emptiedOut 0 (overwrite (wordsOf (x .after)) words) (x .links) (x .pairs)
 emptyFrom (NoEmptying k) x words = emptiedOut k words (x .links) (x .pairs)

@@ -41,7 +41,7 @@ pub fn store_figures(m: &mut Lent, figures: &Figures) {
     m.pairs.data[..1024].copy_from_slice(&table_of_bits(figures.pairs.iter().copied()));
 }
 
-/// Writes what a search leaves in hop table and layer rows: depots at even distance pass through the first row, at odd distance through the second.
+/// Writes what a search leaves in hop table and layer rows (rules 3.1 and 3.2).
 fn store_search(m: &mut Lent, distances: &Distances) {
     for code in 0..256 {
         m.hops.data[code] = distances[code].map_or(CLOSED, |d| d as u16);

@@ -13,7 +13,7 @@ fn notices_are_read() {
         let mut dice = Dice::new(7_000_000 + seed);
         let mut input = some_line(&mut dice);
         if dice.once_in(2) {
-            // the reader takes the line at the start only
+            // only the line in front is read
             let more = dice.below(40);
             input.extend(dice.bytes(more));
         }
@@ -107,7 +107,7 @@ fn lines_with_others_behind_them() {
     }
 }
 
-/// The line of document 01 with every byte at every place: only other digits, and a neighbour count that is right, read.
+/// The line of rule 7.2 with every byte at every place: only other digits, and a neighbour count that is right, read.
 #[test]
 fn every_character_in_every_place() {
     let mut dice = Dice::new(8_500_000);

@@ -1,4 +1,4 @@
-//! Every C function beside a plain implementation of document 01: the same answer, and the same value in every element of every buffer, scratch
+//! Every C function beside a plain implementation of the rules: the same answer, and the same value in every element of every buffer, scratch
 //! memory and what stands behind the lent part included. What is true of the figures is held to a search from every depot as well.
 #[path = "../inputs/mod.rs"]
 mod inputs;

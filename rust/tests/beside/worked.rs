@@ -1,4 +1,4 @@
-//! The worked cases of document 01, by their numbers; the plain implementation is held to them as well.
+//! The worked cases of docs/RULES.md, by their numbers; the plain implementation is held to them as well.
 use crate::both::{empty, feed, finish, open, read, reckon, report, search, write};
 use crate::inputs::Dice;
 use crate::lent::{Buffer, Lent};
@@ -135,7 +135,7 @@ fn the_greatest_values() {
     assert_eq!(figures(&whole), (256, 1, 32_640));
 }
 
-/// The readings of false but sound figures that docs/DECISIONS.md names.
+/// False but sound figures, as decision 8 of docs/DECISIONS.md has them.
 #[test]
 fn false_figures() {
     // an empty map with a chain: shrank, chain 0, 1 search

@@ -42,7 +42,7 @@ impl Network {
         self.rows.iter().enumerate().flat_map(|(u, row)| row.iter().map(move |&v| (u, v)))
     }
 
-    /// The number open is that of the open set, closed codes have empty rows, no row has a closed code or its own, and each link goes both ways.
+    /// The links are sound (rule 1.8).
     pub fn is_sound(&self, number: u64) -> bool {
         let is_right = |(u, v)| self.open.contains(&u) && self.open.contains(&v) && u != v && self.are_linked(v, u);
         number == self.open.len() as u64 && self.bits().all(is_right)
@@ -63,7 +63,7 @@ impl Network {
         found
     }
 
-    /// Some open depot cannot be reached from the lowest open code.
+    /// No walk leads from the lowest open code to some open depot.
     pub fn is_apart(&self) -> bool {
         match self.open.first() {
             None => false,
@@ -97,7 +97,7 @@ pub struct Figures {
     pub pairs: Pairs,
 }
 
-/// Every pair joins two open codes, the lower one first, the count is theirs, and the chain is at most 255.
+/// The figures are sound (rule 1.8).
 pub fn are_sound_figures(open: &BTreeSet<usize>, pairs: &Pairs, chain: u64, count: u64) -> bool {
     pairs.iter().all(|&(u, v)| u < v && open.contains(&u) && open.contains(&v)) && count == pairs.len() as u64 && chain <= 255
 }

@@ -65,7 +65,7 @@ impl Work {
         }
     }
 
-    /// The remaining depot of highest degree, lowest code on a tie.
+    /// The next reference (rule 5.4).
     fn next(&self, network: &Network) -> Option<usize> {
         let mut best = None;
         for (&v, status) in &self.status {

@@ -1,4 +1,4 @@
-//! Rows and tables of bits: bit b of word 4c + w stands for code 64w + b of row c.
+//! Rows and tables of bits (rule 1.2).
 use super::network::Pairs;
 use std::collections::BTreeSet;
 

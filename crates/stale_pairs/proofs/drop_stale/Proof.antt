@@ -1,5 +1,5 @@
--- `stale_pairs::drop_stale` meets its contract. The loop's invariant (StaleTable.antt): the rows below `u` hold their pairs that stay, the others are
--- as they were, and the rows done are counted. The measure is the rows left. Assumes nothing.
+-- `stale_pairs::drop_stale` meets its contract. The loop's invariant (StaleTable.antt): the rows below `u` have only the pairs that stay, those from
+-- `u` on all of theirs, and the rows done are counted. The measure is the rows left. Assumes nothing.
 use mathlib.Core.Path.{refl}
 use Prim.Native.Nat.{_-_, _*_}
 use native.Mathlib.Omega.{arith}
