@@ -31,7 +31,7 @@ use Rattle.lists.proofs.Appends.{append-none}
 -- ---- the beginning
 
 atStart : Place
-atStart = record { lines = 0; network = emptyNetwork (places base); streamBegun = [] }
+atStart = record { lines = 0; network = emptyNetwork (places base); begun = [] }
 
 whole-rest : (input : List ℕ) → restFrom atStart input ≡ transcript input
 unfolding atStart restFrom transcript
