@@ -233,7 +233,7 @@ fn map_after(input: &[u8], lines: usize) -> Outcome<Map> {
 }
 
 /// The time of one call in a sweep over all codes for which `is_tried` holds; the median of many sweeps. Refusals count as calls.
-fn sweep(map: &mut Map, is_tried: impl Fn(&Map, u8) -> bool) -> f64 {
+fn sweep(map: &Map, is_tried: impl Fn(&Map, u8) -> bool) -> f64 {
     let codes: Vec<u8> = (0..=255).filter(|&code| is_tried(map, code)).collect();
     let calls = 256 / codes.len().max(1);
     let mut times = Vec::new();
@@ -252,11 +252,11 @@ fn sweep(map: &mut Map, is_tried: impl Fn(&Map, u8) -> bool) -> f64 {
 /// `zorpedi_search` on the whole regional map; and the search inside it, without the checks: on the map before its last opening, where one
 /// code is closed, a search from that code is refused after all checks, so that the difference is the search alone.
 fn print_search(regional: &Input) -> Outcome<()> {
-    let mut whole = map_after(&regional.bytes, 256)?;
-    let mut before = map_after(&regional.bytes, 255)?;
-    let call = sweep(&mut whole, |_, _| true);
-    let checks = sweep(&mut before, |map, code| !map.is_open(code));
-    let both = sweep(&mut before, |map, code| map.is_open(code));
+    let whole = map_after(&regional.bytes, 256)?;
+    let before = map_after(&regional.bytes, 255)?;
+    let call = sweep(&whole, |_, _| true);
+    let checks = sweep(&before, |map, code| !map.is_open(code));
+    let both = sweep(&before, |map, code| map.is_open(code));
     println!("\n| One search of the regional map | Time |");
     println!("|---|---|");
     println!("| zorpedi_search, with all checks of the map | {} |", time_text(call));
