@@ -40,12 +40,12 @@ static int follow_line(uint32_t number, const char *text, const char *expected)
 {
     uint8_t frame[ZORPEDI_FRAME_SIZE], line[ZORPEDI_REPORT_SIZE];
     size_t length = 0, used = 0;
-    uint16_t searches = 0;
-    uint8_t answer = zorpedi_read_notice((const uint8_t *)text, strlen(text), frame, sizeof frame, &length, &used);
-    if (answer == ZORPEDI_DONE) {
-        answer = zorpedi_map_open(&map, frame[1], frame + 3, length - 3, &searches);
+    zorpedi_opened opened = {0, 0};
+    opened.answer = zorpedi_read_notice((const uint8_t *)text, strlen(text), frame, sizeof frame, &length, &used);
+    if (opened.answer == ZORPEDI_DONE) {
+        opened = zorpedi_map_opened(&map, frame[1], frame + 3, length - 3);
     }
-    zorpedi_map_report(&map, line, sizeof line, &length, number, answer, searches);
+    zorpedi_map_report(&map, line, sizeof line, &length, number, opened.answer, opened.searches);
     printf("%.*s", (int)length, (const char *)line);
     return is_text(line, length, expected);
 }
@@ -53,16 +53,15 @@ static int follow_line(uint32_t number, const char *text, const char *expected)
 /* Prints the farthest pairs; 1 if they are (0,3) and (1,4), as rule 10.5 has them after line 6. */
 static int show_pairs(void)
 {
-    int good = map.record[ZORPEDI_PAIR_COUNT] == 2;
-    for (unsigned u = 0; u < 256; u++) {
-        for (unsigned v = u + 1; v < 256; v++) {
-            if (zorpedi_map_is_farthest(&map, (uint8_t)u, (uint8_t)v)) {
-                printf("  farthest pair (%u,%u)\n", u, v);
-                good = good && ((u == 0 && v == 3) || (u == 1 && v == 4));
-            }
-        }
+    static const uint8_t expected[2][2] = {{0, 3}, {1, 4}};
+    zorpedi_pairs pairs = zorpedi_map_pairs(&map);
+    int good = 1, seen = 0;
+    while (zorpedi_pairs_next(&pairs)) {
+        printf("  farthest pair (%u,%u)\n", pairs.u, pairs.v);
+        good = good && seen < 2 && pairs.u == expected[seen][0] && pairs.v == expected[seen][1];
+        seen++;
     }
-    return good;
+    return good && seen == 2 && map.record[ZORPEDI_PAIR_COUNT] == 2;
 }
 
 static int follow_lines(void)

@@ -23,6 +23,16 @@
  * REFUSALS
  * A refused call answers a number from 1 to 9: the first of its own that applies, in rising order. It changes nothing that was lent, scratch
  * memory and single numbers included.
+ *
+ * VERSIONS
+ * ZORPEDI_VERSION is the version of this header, zorpedi_version() that of the archive: a thousand times the major number, and the minor number.
+ * - The minor number rises when something is added, and all that was there stays: a function, a helper, a macro, a field of a helper's struct, a
+ *   further number that a call can be refused with, though never a call that this header says is done.
+ * - The major number rises, and the minor number begins at 0 again, when something that was there changes: the arguments of a function, a size,
+ *   what a number or a place of memory means, a promise.
+ * - Neither rises for what a program cannot tell: other code behind the same promises, other words for them.
+ * So an archive serves a program if its major number is the header's and its minor number not below: zorpedi_version_serves(zorpedi_version()).
+ * A program that takes every answer but those named below as a refusal is ready for further ones.
  */
 #ifndef ZORPEDI_H
 #define ZORPEDI_H
@@ -33,6 +43,21 @@
 #ifdef __cplusplus
 extern "C" {
 #endif
+
+/* ---- the version of the interface */
+
+#define ZORPEDI_VERSION_MAJOR 1
+#define ZORPEDI_VERSION_MINOR 0
+#define ZORPEDI_VERSION (ZORPEDI_VERSION_MAJOR * 1000 + ZORPEDI_VERSION_MINOR)
+
+/* The version of the archive. Where both are of one delivery it is ZORPEDI_VERSION. */
+uint32_t zorpedi_version(void);
+
+/* 1 if an archive of this version serves a program that was compiled with this header, else 0. */
+static inline int zorpedi_version_serves(uint32_t version)
+{
+    return version / 1000 == ZORPEDI_VERSION_MAJOR && version >= ZORPEDI_VERSION;
+}
 
 /* ---- sizes, in elements */
 
@@ -76,6 +101,34 @@ enum zorpedi_answer {
     ZORPEDI_KEPT = 75,    /* 'K', kept, zorpedi_open only: accepted, and it is the same */
     ZORPEDI_SHRANK = 83   /* 'S', shrank, zorpedi_open only: accepted, and it is neither; where the figures were true it is smaller */
 };
+
+/* The trade's word for a refusal, as above: "short" for 1 to "garbled" for 9, and "" for every number that is no refusal of this header. The text
+ * stays for as long as the program runs. */
+static inline const char *zorpedi_refusal_word(unsigned number)
+{
+    switch (number) {
+    case ZORPEDI_SHORT:
+        return "short";
+    case ZORPEDI_SPOILT:
+        return "spoilt";
+    case ZORPEDI_APART:
+        return "apart";
+    case ZORPEDI_ABSENT:
+        return "absent";
+    case ZORPEDI_TAKEN:
+        return "taken";
+    case ZORPEDI_LONELY:
+        return "lonely";
+    case ZORPEDI_UNSORTED:
+        return "unsorted";
+    case ZORPEDI_UNKNOWN:
+        return "unknown";
+    case ZORPEDI_GARBLED:
+        return "garbled";
+    default:
+        return "";
+    }
+}
 
 /* ---- what the memory means
  *
@@ -224,6 +277,22 @@ static inline uint8_t zorpedi_map_open(zorpedi_map *map, uint8_t code, const uin
                         map->odd, ZORPEDI_ROW_SIZE, searches, code, count == 0 ? &code : neighbours, count);
 }
 
+/* An opening's answer by value: the number that zorpedi_open answers, and the number of depots searched, which is 0 if the opening was refused
+ * and at least 1 if it was accepted. */
+typedef struct zorpedi_opened {
+    uint8_t answer;
+    uint16_t searches;
+} zorpedi_opened;
+
+/* zorpedi_map_open, lent no number. `neighbours` may be null where `count` is 0. */
+static inline zorpedi_opened zorpedi_map_opened(zorpedi_map *map, uint8_t code, const uint8_t *neighbours, size_t count)
+{
+    zorpedi_opened opened;
+    opened.searches = 0; /* a refused call leaves it */
+    opened.answer = zorpedi_map_open(map, code, neighbours, count, &opened.searches);
+    return opened;
+}
+
 static inline uint8_t zorpedi_map_search(zorpedi_map *map, uint8_t code, uint16_t *eccentricity)
 {
     return zorpedi_search(map->hops, ZORPEDI_CODES_SIZE, map->even, ZORPEDI_ROW_SIZE, map->odd, ZORPEDI_ROW_SIZE, eccentricity, map->record,
@@ -265,6 +334,48 @@ static inline int zorpedi_map_are_linked(const zorpedi_map *map, uint8_t u, uint
 static inline int zorpedi_map_is_farthest(const zorpedi_map *map, uint8_t u, uint8_t v)
 {
     return u < v ? zorpedi_row_has(map->pairs + 4 * u, v) : zorpedi_row_has(map->pairs + 4 * v, u);
+}
+
+/* The farthest pairs of a map, one after the other:
+ *
+ *     zorpedi_pairs pairs = zorpedi_map_pairs(&map);
+ *     while (zorpedi_pairs_next(&pairs)) {
+ *         printf("(%u,%u)\n", pairs.u, pairs.v);
+ *     }
+ *
+ * zorpedi_pairs_next answers 1 and sets u and v to the next bit v of row u of the pair table, by rising u, and for each u by rising v; or it answers
+ * 0 and leaves them, when there is none. Each bit comes once, so that on sound figures u < v, and as many come as the record's pair count says. It
+ * looks at the map's own table: a call that may write the pairs (opening, reckoning, emptying, stream) ends the walk, and a new one is to begin. */
+typedef struct zorpedi_pairs {
+    const uint64_t *table; /* the map's pair table */
+    uint32_t place;        /* where the next look begins: 256 u + v */
+    uint8_t u;
+    uint8_t v;
+} zorpedi_pairs;
+
+static inline zorpedi_pairs zorpedi_map_pairs(const zorpedi_map *map)
+{
+    zorpedi_pairs pairs;
+    pairs.table = map->pairs;
+    pairs.place = 0;
+    pairs.u = 0;
+    pairs.v = 0;
+    return pairs;
+}
+
+static inline int zorpedi_pairs_next(zorpedi_pairs *pairs)
+{
+    while (pairs->place < ZORPEDI_TABLE_SIZE * 64) {
+        uint64_t rest = pairs->table[pairs->place / 64] >> (pairs->place % 64);
+        if (rest % 2 == 1) {
+            pairs->u = (uint8_t)(pairs->place / 256);
+            pairs->v = (uint8_t)(pairs->place % 256);
+            pairs->place++;
+            return 1;
+        }
+        pairs->place += rest == 0 ? 64 - pairs->place % 64 : 1; /* to the next word, or to the next bit */
+    }
+    return 0;
 }
 
 /* The last layer of a search with this eccentricity: the depots farthest from where it began. */

@@ -1,6 +1,7 @@
 //! The C functions, as include/zorpedi.h declares them. The tests take this file in too, since they call the archive without the safe types.
 #[rustfmt::skip]
 extern "C" {
+    pub fn zorpedi_version() -> u32;
     pub fn zorpedi_empty(record: *mut u64, _: usize, links: *mut u64, _: usize, pairs: *mut u64, _: usize) -> u8;
     pub fn zorpedi_search(
         hops: *mut u16, _: usize, even: *mut u64, _: usize, odd: *mut u64, _: usize, eccentricity: *mut u16,

@@ -1,7 +1,7 @@
 //! The calls of the archive, and the one place with `unsafe`: each below lends whole references, so that its pointers are
 //! valid for their lengths and what is written overlaps nothing. That is all that the archive assumes of its caller.
 use crate::c;
-use crate::map::Memory;
+use crate::map::{Memory, Search};
 
 /// A stream's own numbers and line buffer, beside its map.
 pub struct Progress {
@@ -10,15 +10,20 @@ pub struct Progress {
     pub held: usize,
 }
 
+pub fn version() -> u32 {
+    // SAFETY: nothing is lent.
+    unsafe { c::zorpedi_version() }
+}
+
 pub fn empty(m: &mut Memory) -> u8 {
     let (r, l, p) = (&mut m.record, &mut m.links, &mut m.pairs);
     // SAFETY: whole arrays of one struct, each borrowed once.
     unsafe { c::zorpedi_empty(r.as_mut_ptr(), r.len(), l.as_mut_ptr(), l.len(), p.as_mut_ptr(), p.len()) }
 }
 
-pub fn search(m: &mut Memory, eccentricity: &mut u16, code: u8) -> u8 {
-    let (h, e, o, r, l) = (&mut m.hops, &mut m.even, &mut m.odd, &m.record, &m.links);
-    // SAFETY: whole arrays of one struct, each borrowed once, and one number beside them.
+pub fn search(m: &Memory, found: &mut Search, code: u8) -> u8 {
+    let (h, e, o, r, l) = (&mut found.hops, &mut found.even, &mut found.odd, &m.record, &m.links);
+    // SAFETY: whole arrays of two structs, those that are written each borrowed once, and one number beside them.
     unsafe {
         c::zorpedi_search(
             h.as_mut_ptr(),
@@ -27,7 +32,7 @@ pub fn search(m: &mut Memory, eccentricity: &mut u16, code: u8) -> u8 {
             e.len(),
             o.as_mut_ptr(),
             o.len(),
-            eccentricity,
+            &mut found.eccentricity,
             r.as_ptr(),
             r.len(),
             l.as_ptr(),

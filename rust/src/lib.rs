@@ -21,7 +21,7 @@
 //! ```
 //!
 //! [`Map`] has the calls on a map, [`notice`] and [`report`] the lines, [`Stream`] a whole input. A call that is refused says why by a
-//! [`Refusal`], and has changed nothing.
+//! [`Refusal`], and has changed nothing. [`Version`] says which archives serve this crate, and where it looks.
 #![warn(missing_docs)]
 #![deny(unsafe_op_in_unsafe_fn)]
 
@@ -34,8 +34,10 @@ mod refusal;
 pub mod report;
 mod row;
 mod stream;
+mod version;
 
 pub use map::{Change, Map, Mark, Opened, Record, Search};
 pub use refusal::Refusal;
 pub use row::Codes;
 pub use stream::{Fed, Stream};
+pub use version::Version;

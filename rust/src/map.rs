@@ -1,10 +1,36 @@
 use crate::ffi;
 use crate::refusal::Refusal;
 use crate::row::{codes, has, Codes};
+use crate::version;
 use std::fmt;
 
-/// How an accepted opening changed the longest chain.
+/// How an accepted opening changed the longest chain. Further ways may come, so that a `match` needs an arm for them.
+///
+/// ```
+/// use zorpedi::Change;
+///
+/// fn is_worth_a_call(change: Change) -> bool {
+///     match change {
+///         Change::Kept => false,
+///         _ => true,
+///     }
+/// }
+/// assert!(is_worth_a_call(Change::Shrank));
+/// ```
+///
+/// ```compile_fail
+/// use zorpedi::Change;
+///
+/// fn letter(change: Change) -> char {
+///     match change {
+///         Change::Grew => 'G',
+///         Change::Kept => 'K',
+///         Change::Shrank => 'S',
+///     }
+/// }
+/// ```
 #[derive(Clone, Copy, Debug, PartialEq, Eq, Hash)]
+#[non_exhaustive]
 pub enum Change {
     /// The longest chain is greater than before.
     Grew,
@@ -30,7 +56,16 @@ impl Change {
 }
 
 /// An accepted opening.
+///
+/// ```
+/// use zorpedi::{Map, Opened};
+///
+/// let Opened { change, searches, .. } = Map::new().open(7, &[])?;
+/// assert_eq!((change.letter(), searches), ('K', 1));
+/// # Ok::<(), zorpedi::Refusal>(())
+/// ```
 #[derive(Clone, Copy, Debug, PartialEq, Eq, Hash)]
+#[non_exhaustive]
 pub struct Opened {
     /// How the longest chain changed.
     pub change: Change,
@@ -38,8 +73,20 @@ pub struct Opened {
     pub searches: u16,
 }
 
-/// The record of a map: what it knows beside its two tables.
+/// The record of a map: what it knows beside its two tables. One is made by [`Map::record`] or as that of the empty map, and its fields are
+/// then set.
+///
+/// ```
+/// use zorpedi::{Map, Record};
+///
+/// let mut record = Record::default();
+/// record.open[1] = 1;
+/// record.number = 1;
+/// let map = Map::from_parts(record, &[0; 1024], &[0; 1024]);
+/// assert!(map.is_open(64));
+/// ```
 #[derive(Clone, Copy, Debug, Default, PartialEq, Eq, Hash)]
+#[non_exhaustive]
 pub struct Record {
     /// The open set: bit b of word w stands for code 64 w + b.
     pub open: [u64; 4],
@@ -51,8 +98,21 @@ pub struct Record {
     pub pairs: u32,
 }
 
-/// What the last opening or reckoning did with a depot.
+/// What the last opening or reckoning did with a depot. Further marks may come, so that a `match` needs an arm for them.
+///
+/// ```
+/// use zorpedi::{Map, Mark};
+///
+/// let mut map = Map::new();
+/// map.open(1, &[])?;
+/// match map.mark(1) {
+///     Mark::Searched { eccentricity } => assert_eq!(eccentricity, 0),
+///     other => panic!("{other:?}"),
+/// }
+/// # Ok::<(), zorpedi::Refusal>(())
+/// ```
 #[derive(Clone, Copy, Debug, PartialEq, Eq, Hash)]
+#[non_exhaustive]
 pub enum Mark {
     /// The depot was searched.
     Searched {
@@ -116,6 +176,10 @@ pub struct Map {
 impl Map {
     /// An empty map.
     ///
+    /// # Panics
+    ///
+    /// If the archive that is linked does not serve this crate: see [`Version`](crate::Version).
+    ///
     /// ```
     /// let map = zorpedi::Map::new();
     /// assert_eq!((map.depots(), map.chain(), map.pair_count()), (0, 0, 0));
@@ -127,20 +191,26 @@ impl Map {
     /// A map from a record and two tables, as `record`, `links` and `pairs` give them. Nothing is checked here: each call checks what it
     /// is lent, and refuses with `Spoilt` or `Apart` what is no map.
     ///
+    /// # Panics
+    ///
+    /// If the archive that is linked does not serve this crate: see [`Version`](crate::Version).
+    ///
     /// ```
-    /// use zorpedi::{Map, Record, Refusal};
+    /// use zorpedi::{Map, Refusal};
     ///
     /// let mut map = Map::new();
     /// map.open(9, &[])?;
     /// let mut again = Map::from_parts(map.record(), map.links(), map.pairs());
     /// assert_eq!(again.open(10, &[9])?.searches, 1);
     ///
-    /// let wrong = Record { number: 2, ..map.record() };
+    /// let mut wrong = map.record();
+    /// wrong.number = 2;
     /// let mut spoilt = Map::from_parts(wrong, map.links(), map.pairs());
     /// assert_eq!(spoilt.open(10, &[9]), Err(Refusal::Spoilt));
     /// # Ok::<(), Refusal>(())
     /// ```
     pub fn from_parts(record: Record, links: &[u64; 1024], pairs: &[u64; 1024]) -> Map {
+        version::require();
         let [a, b, c, d] = record.open;
         let memory = Memory {
             record: [a, b, c, d, record.number.into(), record.chain.into(), record.pairs.into()],
@@ -175,14 +245,15 @@ impl Map {
     /// Refused with `Spoilt`, `Apart`, `Taken`, `Lonely`, `Unsorted` or `Unknown`; the first two only on a map made by `from_parts`.
     ///
     /// ```
-    /// use zorpedi::{Change, Map, Opened, Refusal};
+    /// use zorpedi::{Change, Map, Refusal};
     ///
     /// let mut map = Map::new();
     /// for code in 0..5u8 {
     ///     map.open(code, if code == 0 { vec![] } else { vec![code - 1] }.as_slice())?;
     /// }
     /// assert_eq!(map.chain(), 4);
-    /// assert_eq!(map.open(5, &[0, 2, 4])?, Opened { change: Change::Shrank, searches: 6 });
+    /// let opened = map.open(5, &[0, 2, 4])?;
+    /// assert_eq!((opened.change, opened.searches), (Change::Shrank, 6));
     /// assert_eq!(map.farthest_pairs().collect::<Vec<_>>(), [(0, 3), (1, 4)]);
     /// assert_eq!(map.open(5, &[0, 2, 4]), Err(Refusal::Taken));
     /// # Ok::<(), Refusal>(())
@@ -198,7 +269,8 @@ impl Map {
         Ok(Opened { change, searches })
     }
 
-    /// Searches from an open depot: its distance to every depot.
+    /// Searches from an open depot: its distance to every depot. The map is only read, and what is found has its own memory, so that several
+    /// searches and the map can be looked at together, also a stream's map, and by several threads.
     ///
     /// Refused with `Spoilt` (the links), `Apart` or `Absent`; the first two only on a map made by `from_parts`.
     ///
@@ -207,19 +279,17 @@ impl Map {
     /// map.open(10, &[])?;
     /// map.open(20, &[10])?;
     /// map.open(30, &[20])?;
-    /// let search = map.search(10)?;
-    /// assert_eq!(search.eccentricity(), 2);
-    /// assert_eq!(search.distance(20), Some(1));
-    /// assert_eq!(search.distance(40), None);
-    /// assert_eq!(search.last_layer().collect::<Vec<_>>(), [30]);
+    /// let (end, middle) = (map.search(10)?, map.search(20)?);
+    /// assert_eq!((end.eccentricity(), middle.eccentricity()), (map.chain(), 1));
+    /// assert_eq!(end.distance(20), Some(1));
+    /// assert_eq!(end.distance(40), None);
+    /// assert_eq!(end.last_layer().collect::<Vec<_>>(), [30]);
     /// # Ok::<(), zorpedi::Refusal>(())
     /// ```
-    pub fn search(&mut self, code: u8) -> Result<Search<'_>, Refusal> {
-        let mut eccentricity = 0;
-        Refusal::check(ffi::search(&mut self.memory, &mut eccentricity, code))?;
-        let (last, before) =
-            if eccentricity % 2 == 0 { (&self.memory.even, &self.memory.odd) } else { (&self.memory.odd, &self.memory.even) };
-        Ok(Search { eccentricity, distances: &self.memory.hops, last, before })
+    pub fn search(&self, code: u8) -> Result<Search, Refusal> {
+        let mut found = Search { eccentricity: 0, hops: [FAR; 256], even: [0; 4], odd: [0; 4] };
+        Refusal::check(ffi::search(&self.memory, &mut found, code))?;
+        Ok(found)
     }
 
     /// Reckons chain and pairs afresh from the links, whatever they were, and answers how many depots were searched.
@@ -426,16 +496,26 @@ impl fmt::Debug for Map {
     }
 }
 
-/// What a search found. It borrows the map's hop table and layer rows.
-#[derive(Clone, Copy, Debug, PartialEq, Eq)]
-pub struct Search<'a> {
-    eccentricity: u16,
-    distances: &'a [u16; 256],
-    last: &'a [u64; 4],
-    before: &'a [u64; 4],
+/// What a search found: the hop table and both layer rows, in memory of its own.
+///
+/// ```
+/// let mut stream = zorpedi::Stream::new();
+/// stream.push(b"010000\n01010100\n", &mut Vec::new())?;
+/// let search = stream.map().search(0)?;
+/// stream.push(b"01020101\n", &mut Vec::new())?;
+/// assert_eq!(search.eccentricity(), 1); // as it was when it was searched
+/// assert_eq!(stream.map().search(0)?.eccentricity(), 2);
+/// # Ok::<(), zorpedi::Refusal>(())
+/// ```
+#[derive(Clone, Debug, PartialEq, Eq)]
+pub struct Search {
+    pub(crate) eccentricity: u16,
+    pub(crate) hops: [u16; 256],
+    pub(crate) even: [u64; 4],
+    pub(crate) odd: [u64; 4],
 }
 
-impl<'a> Search<'a> {
+impl Search {
     /// The greatest distance to an open depot.
     pub fn eccentricity(&self) -> u16 {
         self.eccentricity
@@ -443,22 +523,30 @@ impl<'a> Search<'a> {
 
     /// The distance to a depot, if it is open.
     pub fn distance(&self, code: u8) -> Option<u16> {
-        let hop = self.distances[usize::from(code)];
+        let hop = self.hops[usize::from(code)];
         (hop != FAR).then_some(hop)
     }
 
     /// The hop table: the distance to each code, 65,535 for a closed one.
-    pub fn distances(&self) -> &'a [u16; 256] {
-        self.distances
+    pub fn distances(&self) -> &[u16; 256] {
+        &self.hops
     }
 
     /// The depots at the greatest distance, rising.
-    pub fn last_layer(&self) -> Codes<'a> {
-        codes(self.last)
+    pub fn last_layer(&self) -> Codes<'_> {
+        codes(self.rows().0)
     }
 
     /// The depots one step nearer, rising; none if the eccentricity is 0.
-    pub fn layer_before(&self) -> Codes<'a> {
-        codes(self.before)
+    pub fn layer_before(&self) -> Codes<'_> {
+        codes(self.rows().1)
+    }
+
+    /// The row of the last layer, which goes by the eccentricity's parity, and the other.
+    fn rows(&self) -> (&[u64; 4], &[u64; 4]) {
+        match self.eccentricity % 2 {
+            0 => (&self.even, &self.odd),
+            _ => (&self.odd, &self.even),
+        }
     }
 }

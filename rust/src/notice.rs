@@ -11,6 +11,7 @@
 //! ```
 use crate::ffi;
 use crate::refusal::Refusal;
+use crate::version;
 
 /// The most bytes of a frame.
 pub const FRAME_LIMIT: usize = 258;
@@ -45,6 +46,10 @@ impl Notice {
 ///
 /// Refused with `Garbled`.
 ///
+/// # Panics
+///
+/// If the archive that is linked does not serve this crate: see [`Version`](crate::Version).
+///
 /// ```
 /// use zorpedi::{notice, Refusal};
 ///
@@ -52,6 +57,7 @@ impl Notice {
 /// assert_eq!(notice::read(b"010000"), Err(Refusal::Garbled)); // no ending
 /// ```
 pub fn read(input: &[u8]) -> Result<(Notice, usize), Refusal> {
+    version::require();
     let mut notice = Notice { frame: [0; FRAME_LIMIT], length: 0 };
     let mut used = 0;
     Refusal::check(ffi::read_notice(input, &mut notice.frame, &mut notice.length, &mut used))?;
@@ -62,6 +68,10 @@ pub fn read(input: &[u8]) -> Result<(Notice, usize), Refusal> {
 ///
 /// Refused with `Garbled`: the kind is not 01, or the length is not 3 more than the neighbour count.
 ///
+/// # Panics
+///
+/// If the archive that is linked does not serve this crate: see [`Version`](crate::Version).
+///
 /// ```
 /// use zorpedi::{notice, Refusal};
 ///
@@ -70,6 +80,7 @@ pub fn read(input: &[u8]) -> Result<(Notice, usize), Refusal> {
 /// # Ok::<(), Refusal>(())
 /// ```
 pub fn write(frame: &[u8]) -> Result<Vec<u8>, Refusal> {
+    version::require();
     let mut line = vec![0; LINE_LIMIT];
     let mut length = 0;
     Refusal::check(ffi::write_notice(frame, &mut line, &mut length))?;

@@ -1,64 +1,101 @@
 use std::error::Error;
 use std::fmt;
 
-/// Why a call was refused, by the trade's words and numbers. A refused call has changed nothing.
+/// Why a call was refused, by the trade's words and numbers. A refused call has changed nothing. Further refusals may come, so that a `match`
+/// needs an arm for them.
 ///
 /// ```
 /// use zorpedi::{Map, Refusal};
 ///
-/// let mut map = Map::new();
-/// let refusal = map.search(7).unwrap_err();
+/// let refusal = Map::new().search(7).unwrap_err();
 /// assert_eq!(refusal, Refusal::Absent);
 /// assert_eq!(refusal.number(), 4);
 /// assert_eq!(refusal.to_string(), "absent (4): the depot to be searched from is not open");
+///
+/// let is_the_notice = match refusal {
+///     Refusal::Short | Refusal::Spoilt | Refusal::Apart => false,
+///     Refusal::Taken | Refusal::Lonely | Refusal::Unsorted | Refusal::Unknown | Refusal::Garbled => true,
+///     _ => false,
+/// };
+/// assert!(!is_the_notice);
+/// ```
+///
+/// ```compile_fail
+/// let mine = zorpedi::Refusal::Other(5); // only the crate makes one
 /// ```
 #[derive(Clone, Copy, Debug, PartialEq, Eq, Hash, PartialOrd, Ord)]
-#[repr(u8)]
+#[non_exhaustive]
 pub enum Refusal {
     /// 1: a lent buffer is too small.
-    Short = 1,
+    Short,
     /// 2: links are not sound; for an opening and the stream, links or figures.
-    Spoilt = 2,
+    Spoilt,
     /// 3: links are sound, but no walk leads from the lowest open code to some open depot.
-    Apart = 3,
+    Apart,
     /// 4: the depot to be searched from is not open.
-    Absent = 4,
+    Absent,
     /// 5: the depot to be opened is open already.
-    Taken = 5,
+    Taken,
     /// 6: an opening has no neighbours, and the map has a depot.
-    Lonely = 6,
+    Lonely,
     /// 7: some neighbour is not above the one before it.
-    Unsorted = 7,
+    Unsorted,
     /// 8: some neighbour is not open; the new depot itself is not.
-    Unknown = 8,
+    Unknown,
     /// 9: a line that spells no frame, or bytes that are no frame.
-    Garbled = 9,
+    Garbled,
+    /// Any other number, from an archive that is newer than this crate. Only the crate makes one, and [`Refusal::number`] gives the number.
+    #[non_exhaustive]
+    Other(u8),
 }
 
-impl Refusal {
-    /// All refusals, by their numbers.
-    pub const ALL: [Refusal; 9] = [
-        Refusal::Short,
-        Refusal::Spoilt,
-        Refusal::Apart,
-        Refusal::Absent,
-        Refusal::Taken,
-        Refusal::Lonely,
-        Refusal::Unsorted,
-        Refusal::Unknown,
-        Refusal::Garbled,
-    ];
+/// The refusals that have a name, by their numbers, which begin at 1.
+const NAMED: [Refusal; 9] = [
+    Refusal::Short,
+    Refusal::Spoilt,
+    Refusal::Apart,
+    Refusal::Absent,
+    Refusal::Taken,
+    Refusal::Lonely,
+    Refusal::Unsorted,
+    Refusal::Unknown,
+    Refusal::Garbled,
+];
 
-    /// The refusal's number, 1 to 9.
+impl Refusal {
+    /// The refusals that have a name, by rising numbers.
+    ///
+    /// ```
+    /// use zorpedi::Refusal;
+    ///
+    /// let words: Vec<&str> = Refusal::all().take(3).map(Refusal::word).collect();
+    /// assert_eq!(words, ["short", "spoilt", "apart"]);
+    /// ```
+    pub fn all() -> impl Iterator<Item = Refusal> {
+        NAMED.into_iter()
+    }
+
+    /// The refusal's number: 1 to 9 for those that have a name.
     ///
     /// ```
     /// assert_eq!(zorpedi::Refusal::Garbled.number(), 9);
     /// ```
     pub const fn number(self) -> u8 {
-        self as u8
+        match self {
+            Refusal::Short => 1,
+            Refusal::Spoilt => 2,
+            Refusal::Apart => 3,
+            Refusal::Absent => 4,
+            Refusal::Taken => 5,
+            Refusal::Lonely => 6,
+            Refusal::Unsorted => 7,
+            Refusal::Unknown => 8,
+            Refusal::Garbled => 9,
+            Refusal::Other(number) => number,
+        }
     }
 
-    /// The refusal with this number, if there is one.
+    /// The refusal with this number, if one has a name.
     ///
     /// ```
     /// use zorpedi::Refusal;
@@ -67,10 +104,10 @@ impl Refusal {
     /// assert_eq!(Refusal::from_number(0), None);
     /// ```
     pub fn from_number(number: u8) -> Option<Refusal> {
-        Refusal::ALL.into_iter().find(|r| r.number() == number)
+        Refusal::all().find(|refusal| refusal.number() == number)
     }
 
-    /// The trade's word for it.
+    /// The trade's word for it; empty where it has none.
     ///
     /// ```
     /// assert_eq!(zorpedi::Refusal::Lonely.word(), "lonely");
@@ -86,6 +123,7 @@ impl Refusal {
             Refusal::Unsorted => "unsorted",
             Refusal::Unknown => "unknown",
             Refusal::Garbled => "garbled",
+            Refusal::Other(_) => "",
         }
     }
 
@@ -100,15 +138,13 @@ impl Refusal {
             Refusal::Unsorted => "some neighbour is not above the one before it",
             Refusal::Unknown => "some neighbour is not open",
             Refusal::Garbled => "a line that spells no frame, or bytes that are no frame",
+            Refusal::Other(_) => "the archive is newer than the crate, which has no word for it",
         }
     }
 
-    /// What a call's number says where it was not accepted: only the numbers of `ALL` come from the archive.
+    /// What the number of a call says that was not done.
     pub(crate) fn of(number: u8) -> Refusal {
-        match Refusal::from_number(number) {
-            Some(refusal) => refusal,
-            None => unreachable!("the archive answers refusals 1 to 9, and gave {number}"),
-        }
+        Refusal::from_number(number).unwrap_or(Refusal::Other(number))
     }
 
     /// A call's number, 0 being none.
@@ -123,7 +159,10 @@ impl Refusal {
 
 impl fmt::Display for Refusal {
     fn fmt(&self, f: &mut fmt::Formatter<'_>) -> fmt::Result {
-        write!(f, "{} ({}): {}", self.word(), self.number(), self.condition())
+        match self {
+            Refusal::Other(number) => write!(f, "refused ({number}): {}", self.condition()),
+            _ => write!(f, "{} ({}): {}", self.word(), self.number(), self.condition()),
+        }
     }
 }
 

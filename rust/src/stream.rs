@@ -4,7 +4,16 @@ use crate::refusal::Refusal;
 use crate::report::REPORT_LIMIT;
 
 /// What a piece of the input came to.
+///
+/// ```
+/// use zorpedi::{Fed, Stream};
+///
+/// let Fed { used, written, .. } = Stream::new().feed(b"010000\n01", &mut [0; 100])?;
+/// assert_eq!((used, written), (9, 12));
+/// # Ok::<(), zorpedi::Refusal>(())
+/// ```
 #[derive(Clone, Copy, Debug, PartialEq, Eq)]
+#[non_exhaustive]
 pub struct Fed {
     /// The bytes of the piece that were used. The others are to be fed again.
     pub used: usize,
@@ -37,6 +46,10 @@ impl Stream {
     pub const LINES_LIMIT: u32 = 1_000_000;
 
     /// A stream at its begin: an empty map, no line read.
+    ///
+    /// # Panics
+    ///
+    /// If the archive that is linked does not serve this crate: see [`Version`](crate::Version).
     pub fn new() -> Stream {
         Stream { map: Map::new(), progress: Box::new(Progress { line: [0; 517], lines: 0, held: 0 }) }
     }
@@ -47,14 +60,15 @@ impl Stream {
     /// Refused with `Short` if `out` has fewer than 48 bytes.
     ///
     /// ```
-    /// use zorpedi::{Fed, Refusal, Stream};
+    /// use zorpedi::{Refusal, Stream};
     ///
     /// let mut stream = Stream::new();
     /// let mut out = [0; 48];
     /// let input = b"010000\n01010100\n";
-    /// assert_eq!(stream.feed(input, &mut out)?, Fed { used: 7, written: 12 });
-    /// assert_eq!(&out[..12], b"1 K 1 0 0 1\n");
-    /// assert_eq!(stream.feed(&input[7..], &mut out)?, Fed { used: 9, written: 12 });
+    /// let fed = stream.feed(input, &mut out)?;
+    /// assert_eq!((fed.used, &out[..fed.written]), (7, &b"1 K 1 0 0 1\n"[..]));
+    /// let fed = stream.feed(&input[7..], &mut out)?;
+    /// assert_eq!((fed.used, &out[..fed.written]), (9, &b"2 G 2 1 1 1\n"[..]));
     /// assert_eq!(stream.feed(b"", &mut out[..47]), Err(Refusal::Short));
     /// # Ok::<(), Refusal>(())
     /// ```
@@ -131,7 +145,10 @@ impl Stream {
     /// The map as the lines so far have left it.
     ///
     /// ```
-    /// assert_eq!(zorpedi::Stream::new().map().depots(), 0);
+    /// let mut stream = zorpedi::Stream::new();
+    /// stream.push(b"010700\n01080107\n", &mut Vec::new())?;
+    /// assert_eq!(stream.map().search(7)?.distance(8), Some(1));
+    /// # Ok::<(), zorpedi::Refusal>(())
     /// ```
     pub fn map(&self) -> &Map {
         &self.map

@@ -1,5 +1,6 @@
 //! The safe types, by what a user sees of them.
-use zorpedi::{notice, report, Change, Map, Mark, Opened, Record, Refusal, Stream};
+use std::thread;
+use zorpedi::{notice, report, Change, Map, Mark, Opened, Refusal, Search, Stream, Version};
 
 const SEVEN: [&str; 7] = ["010000\n", "01010100\n", "01020101\n", "01030102\n", "01040103\n", "010503000204\n", "010503000204\n"];
 
@@ -87,20 +88,39 @@ fn each_refusal() -> Result<(), Refusal> {
     assert_eq!(spoilt.search(10), Err(Refusal::Spoilt));
     assert_eq!(spoilt.reckon(), Err(Refusal::Spoilt));
     spoilt.empty();
-    assert_eq!(spoilt.open(13, &[]), Ok(Opened { change: Change::Kept, searches: 1 }));
-
-    for refusal in Refusal::ALL {
-        assert_eq!(Refusal::from_number(refusal.number()), Some(refusal));
-        assert!(refusal.to_string().starts_with(refusal.word()));
-    }
-    assert_eq!((0..=255).filter_map(Refusal::from_number).count(), 9);
+    let Opened { change, searches, .. } = spoilt.open(13, &[])?;
+    assert_eq!((change, searches), (Change::Kept, 1));
     Ok(())
+}
+
+/// Each refusal has the number and the word of the trade, and every other number has none.
+#[test]
+fn the_refusals_that_have_a_name() {
+    let words = ["short", "spoilt", "apart", "absent", "taken", "lonely", "unsorted", "unknown", "garbled"];
+    let named: Vec<(u8, &str)> = Refusal::all().map(|refusal| (refusal.number(), refusal.word())).collect();
+    assert_eq!(named, (1..).zip(words).collect::<Vec<_>>());
+    for refusal in Refusal::all() {
+        assert_eq!(Refusal::from_number(refusal.number()), Some(refusal));
+        assert!(refusal.to_string().starts_with(&format!("{} ({}): ", refusal.word(), refusal.number())));
+    }
+    assert_eq!((0..=255).filter_map(Refusal::from_number).count(), words.len());
+    assert!(Refusal::Short < Refusal::Garbled);
+}
+
+#[test]
+fn the_archive_serves() {
+    let archive = Version::of_archive();
+    assert_eq!(archive, Version::WANTED);
+    assert!(archive.serves());
+    assert_eq!(archive.to_string(), format!("{}.{}", archive.major, archive.minor));
 }
 
 #[test]
 fn figures_that_were_lost_are_reckoned() -> Result<(), Refusal> {
     let map = path(100..200)?;
-    let lost = Record { chain: 999, pairs: 5, ..map.record() };
+    let mut lost = map.record();
+    lost.chain = 999;
+    lost.pairs = 5;
     let mut again = Map::from_parts(lost, map.links(), &[u64::MAX; 1024]);
     assert_eq!(again.open(200, &[199]), Err(Refusal::Spoilt));
     let searches = again.reckon()?;
@@ -129,7 +149,7 @@ fn two_orders() -> Result<(), Refusal> {
 
 #[test]
 fn what_a_map_shows() -> Result<(), Refusal> {
-    let mut map = path(60..70)?;
+    let map = path(60..70)?;
     assert_eq!(map.open_codes().collect::<Vec<_>>(), (60..70).collect::<Vec<_>>());
     assert!(map.is_open(63) && map.is_open(64) && !map.is_open(70));
     assert!(map.are_linked(63, 64) && map.are_linked(64, 63) && !map.are_linked(63, 65));
@@ -147,5 +167,66 @@ fn what_a_map_shows() -> Result<(), Refusal> {
 
     let single = path(7..8)?.search(7)?.layer_before().count();
     assert_eq!(single, 0);
+    Ok(())
+}
+
+/// The eccentricities of a map's depots by searches whose results all live together, beside the map.
+fn greatest(map: &Map) -> Result<u16, Refusal> {
+    let searches: Vec<Search> = map.open_codes().map(|code| map.search(code)).collect::<Result<_, _>>()?;
+    for (u, from) in map.open_codes().zip(&searches) {
+        for (v, to) in map.open_codes().zip(&searches) {
+            assert_eq!(from.distance(v), to.distance(u));
+        }
+    }
+    Ok(searches.iter().map(Search::eccentricity).max().unwrap_or(0))
+}
+
+/// A search reads the map only: its result lives beside the map, later searches and later openings.
+#[test]
+fn searches_beside_the_map() -> Result<(), Refusal> {
+    let mut map = path(10..20)?;
+    let before = map.clone();
+    let first = map.search(10)?;
+    assert_eq!((first.eccentricity(), first.distance(19)), (map.chain(), Some(9)));
+    assert_eq!(greatest(&map)?, map.chain());
+    assert_eq!(map, before);
+    assert_eq!(map.mark(19), before.mark(19));
+
+    map.open(20, &[10, 19])?;
+    assert_eq!(first.distance(20), None);
+    assert_eq!(map.search(10)?.distance(20), Some(1));
+    assert_eq!(before.search(10)?, first);
+    Ok(())
+}
+
+#[test]
+fn a_streams_map_is_searched() -> Result<(), Refusal> {
+    let mut stream = Stream::new();
+    let mut reports = Vec::new();
+    let mut chains = Vec::new();
+    for line in SEVEN {
+        stream.push(line.as_bytes(), &mut reports)?;
+        assert_eq!(greatest(stream.map())?, stream.map().chain());
+        chains.push(stream.map().chain());
+    }
+    assert_eq!(chains, [0, 1, 2, 3, 4, 3, 3]);
+    assert_eq!(reports, REPORTS.as_bytes());
+    Ok(())
+}
+
+#[test]
+fn threads_search_one_map() -> Result<(), Refusal> {
+    let map = path(0..200)?;
+    let alone: Vec<Search> = map.open_codes().map(|code| map.search(code)).collect::<Result<_, _>>()?;
+    let (map, alone) = (&map, &alone);
+    thread::scope(|scope| {
+        for step in [1, 3, 7, 11] {
+            scope.spawn(move || {
+                for code in (0..200u8).step_by(step) {
+                    assert_eq!(map.search(code).as_ref(), Ok(&alone[usize::from(code)]));
+                }
+            });
+        }
+    });
     Ok(())
 }

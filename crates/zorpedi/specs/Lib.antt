@@ -6,3 +6,5 @@ pub mod Lines
 pub mod Outs
 -- 3. the step of the stream
 pub mod Feeds
+-- 4. the version of the interface
+pub mod Version

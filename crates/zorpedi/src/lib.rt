@@ -4,3 +4,4 @@
 mod maps;
 mod streams;
 mod texts;
+mod version;

@@ -9,6 +9,10 @@ mod c;
 
 // SAFETY, of all calls below: each buffer is a vector of its own with at least as many elements as are lent, and each number a place of its own.
 
+pub fn version() -> u32 {
+    unsafe { c::zorpedi_version() }
+}
+
 pub fn empty(m: &mut Lent) -> u8 {
     let (r, l, p) = (&mut m.record, &mut m.links, &mut m.pairs);
     unsafe { c::zorpedi_empty(r.pointer(), r.lent, l.pointer(), l.lent, p.pointer(), p.lent) }

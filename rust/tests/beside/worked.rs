@@ -5,6 +5,7 @@ use crate::lent::{Buffer, Lent};
 use crate::maps::any_memory;
 use crate::plain::lines::Fields;
 use crate::plain::words::bits_of_table;
+use crate::raw;
 use crate::truth::assert_reckoned;
 
 fn emptied() -> Lent {
@@ -21,6 +22,22 @@ fn figures(m: &Lent) -> (u64, u64, u64) {
 
 fn pairs(m: &Lent) -> Vec<(usize, usize)> {
     bits_of_table(&m.pairs.data).into_iter().collect()
+}
+
+/// The number that the header defines as this name.
+fn defined(name: &str) -> u32 {
+    let header = include_str!("../../../include/zorpedi.h");
+    let begin = format!("#define {name} ");
+    let text = header.lines().find_map(|line| line.strip_prefix(&begin)).expect("the header defines it");
+    text.parse().expect("a number")
+}
+
+/// Not document 01's, but a number too: header, archive and Rust crate are of one version.
+#[test]
+fn the_version() {
+    let (major, minor) = (defined("ZORPEDI_VERSION_MAJOR"), defined("ZORPEDI_VERSION_MINOR"));
+    assert_eq!(raw::version(), 1000 * major + minor);
+    assert_eq!((zorpedi::Version::WANTED.major, zorpedi::Version::WANTED.minor), (major, minor));
 }
 
 #[test]

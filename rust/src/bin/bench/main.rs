@@ -1,12 +1,15 @@
 //! The benchmark: Zorpedi beside a search from every depot (bench/naive.rs) and the best unverified program of the same rules (bench/fast.rs),
 //! all in one run and in turns. `bench/run` builds what it needs and starts it. It prints tables in Markdown.
 mod inputs;
+mod instructions;
+mod times;
 
 use std::error::Error;
 use std::fs::{self, File};
 use std::path::{Path, PathBuf};
 use std::process::{Command, Stdio};
 use std::time::Instant;
+use times::Time;
 use zorpedi::{Map, Stream};
 
 type Outcome<T> = Result<T, Box<dyn Error>>;
@@ -21,15 +24,19 @@ struct Input {
     process_runs: usize,
 }
 
-/// Medians in nanoseconds.
-struct Times {
-    zorpedi: f64,
-    fast: f64,
-    naive: f64,
+/// A value for each of the three programs.
+#[derive(Clone, Copy)]
+struct Three<T> {
+    zorpedi: T,
+    fast: T,
+    naive: T,
 }
 
-/// Turns of the in-memory runs; each turn has one run of each program's repetitions.
-const TURNS: usize = 9;
+impl<T> Three<T> {
+    fn map<U>(self, of: impl Fn(T) -> U) -> Three<U> {
+        Three { zorpedi: of(self.zorpedi), fast: of(self.fast), naive: of(self.naive) }
+    }
+}
 
 struct Places {
     work: PathBuf,
@@ -55,12 +62,19 @@ fn main() -> Outcome<()> {
     for input in &inputs {
         check_outputs(&places, input)?;
     }
-    println!("The four outputs of each input are the same (of naive the first five fields). Medians of one run, all programs in turns.");
-    let memory: Vec<Times> = inputs.iter().map(|input| in_memory(&places, input)).collect::<Outcome<_>>()?;
-    let process: Vec<Times> = inputs.iter().map(|input| as_process(&places, input)).collect::<Outcome<_>>()?;
-    print_table("In memory", &inputs, &memory);
-    print_table("As a process, file to file", &inputs, &process);
-    print_goals(&memory, &process);
+    println!("The four outputs of each input are the same (of naive the first five fields).");
+    let counts = if instructions::are_counted()? { Some(instructions::count_all(&places, &inputs)?) } else { None };
+    match &counts {
+        Some(counts) => instructions::print_table(&inputs, counts),
+        None => println!("\nvalgrind is not there: no instructions are counted, and the goals are not judged."),
+    }
+    let memory: Vec<Three<Time>> = inputs.iter().map(|input| times::in_memory(&places, input)).collect::<Outcome<_>>()?;
+    let process: Vec<Three<Time>> = inputs.iter().map(|input| times::as_process(&places, input)).collect::<Outcome<_>>()?;
+    times::print_table("In memory", &inputs, &memory);
+    times::print_table("As a process, file to file", &inputs, &process);
+    if let Some(counts) = counts {
+        print_goals(&counts, &memory, &process);
+    }
     print_search(&inputs[0])
 }
 
@@ -117,107 +131,34 @@ fn check_outputs(places: &Places, input: &Input) -> Outcome<()> {
     Ok(())
 }
 
-// ---- times
+// ---- goals
 
-fn median(mut times: Vec<f64>) -> f64 {
-    times.sort_by(f64::total_cmp);
-    times[times.len() / 2]
+/// A goal: a ratio on one input, and whether it is met.
+struct Goal {
+    name: &'static str,
+    input: usize,
+    ratio: fn(Three<f64>) -> f64,
+    is_met: fn(f64) -> bool,
 }
 
-/// The stream in memory, as fast.rs has it: the input in one piece, reports into 256 KiB that are thrown away when full.
-fn run_stream(input: &[u8], out: &mut [u8]) -> Outcome<f64> {
-    let mut stream = Stream::new();
-    let start = Instant::now();
-    let mut rest = input;
-    while !rest.is_empty() {
-        let fed = stream.feed(rest, out)?;
-        rest = &rest[fed.used..];
+const GOALS: [Goal; 5] = [
+    Goal { name: "regional growth: Zorpedi / fast, at most 2.5", input: 0, ratio: |n| n.zorpedi / n.fast, is_met: |r| r <= 2.5 },
+    Goal { name: "regional growth: naive / Zorpedi, at least 25", input: 0, ratio: |n| n.naive / n.zorpedi, is_met: |r| r >= 25.0 },
+    Goal { name: "ring: Zorpedi / fast, at most 1.5", input: 1, ratio: |n| n.zorpedi / n.fast, is_met: |r| r <= 1.5 },
+    Goal { name: "worst case: Zorpedi / naive, at most 1", input: 2, ratio: |n| n.zorpedi / n.naive, is_met: |r| r <= 1.0 },
+    Goal { name: "a million lines: Zorpedi / fast, at most 3", input: 3, ratio: |n| n.zorpedi / n.fast, is_met: |r| r <= 3.0 },
+];
+
+/// Instructions judge the goals. The ratios of the least times stand beside them.
+fn print_goals(counts: &[Three<f64>], memory: &[Three<Time>], process: &[Three<Time>]) {
+    println!("\n| Goal | By instructions | Met | By time, in memory | By time, as a process |");
+    println!("|---|---|---|---|---|");
+    for Goal { name, input, ratio, is_met } in GOALS {
+        let counted = ratio(counts[input]);
+        let timed = |times: &[Three<Time>]| ratio(times[input].map(|time| time.least));
+        let met = if is_met(counted) { "yes" } else { "NO" };
+        println!("| {name} | {counted:.2} | {met} | {:.2} | {:.2} |", timed(memory), timed(process));
     }
-    stream.finish(out)?;
-    Ok(start.elapsed().as_nanos() as f64)
-}
-
-/// The median that a program of bench/ prints when it is given a number of repetitions.
-fn repeated(program: &Path, input: &Input, reps: usize) -> Outcome<f64> {
-    let output = Command::new(program).arg(reps.to_string()).stdin(File::open(&input.file)?).output()?;
-    let text = String::from_utf8(output.stdout)?;
-    let median = text.split_whitespace().nth(1).ok_or("a program printed no median")?;
-    Ok(median.parse()?)
-}
-
-fn in_memory(places: &Places, input: &Input) -> Outcome<Times> {
-    let mut out = vec![0; 1 << 18];
-    let (mut zorpedi, mut fast, mut naive) = (Vec::new(), Vec::new(), Vec::new());
-    for _ in 0..TURNS {
-        let times = (0..input.reps).map(|_| run_stream(&input.bytes, &mut out)).collect::<Outcome<Vec<f64>>>()?;
-        zorpedi.push(median(times));
-        fast.push(repeated(&places.fast, input, input.reps)?);
-        naive.push(repeated(&places.naive, input, input.naive_reps)?);
-    }
-    Ok(Times { zorpedi: median(zorpedi), fast: median(fast), naive: median(naive) })
-}
-
-fn run_process(program: &Path, input: &Input, output: &Path) -> Outcome<f64> {
-    let (stdin, stdout) = (File::open(&input.file)?, File::create(output)?);
-    let start = Instant::now();
-    let status = Command::new(program).stdin(stdin).stdout(stdout).status()?;
-    let time = start.elapsed().as_nanos() as f64;
-    if !status.success() {
-        return Err(format!("{} failed", program.display()).into());
-    }
-    Ok(time)
-}
-
-fn as_process(places: &Places, input: &Input) -> Outcome<Times> {
-    let output = places.work.join("output.txt");
-    let (mut zorpedi, mut fast, mut naive) = (Vec::new(), Vec::new(), Vec::new());
-    for _ in 0..input.process_runs {
-        zorpedi.push(run_process(&places.follow, input, &output)?);
-        fast.push(run_process(&places.fast, input, &output)?);
-        naive.push(run_process(&places.naive, input, &output)?);
-    }
-    Ok(Times { zorpedi: median(zorpedi), fast: median(fast), naive: median(naive) })
-}
-
-// ---- tables
-
-fn time_text(ns: f64) -> String {
-    if ns < 1e3 {
-        format!("{ns:.0} ns")
-    } else if ns < 1e6 {
-        format!("{:.1} µs", ns / 1e3)
-    } else {
-        format!("{:.2} ms", ns / 1e6)
-    }
-}
-
-fn print_table(title: &str, inputs: &[Input], times: &[Times]) {
-    println!("\n| {title} | Zorpedi | fast | naive | Zorpedi / fast | naive / Zorpedi |");
-    println!("|---|---|---|---|---|---|");
-    for (input, t) in inputs.iter().zip(times) {
-        println!(
-            "| {} | {} | {} | {} | {:.2} | {:.2} |",
-            input.name,
-            time_text(t.zorpedi),
-            time_text(t.fast),
-            time_text(t.naive),
-            t.zorpedi / t.fast,
-            t.naive / t.zorpedi
-        );
-    }
-}
-
-fn print_goals(memory: &[Times], process: &[Times]) {
-    let word = |met: bool| if met { "yes" } else { "NO" };
-    println!("\n| Goal | Measured | Met |");
-    println!("|---|---|---|");
-    let at_most = |what: &str, ratio: f64, limit: f64| println!("| {what}, at most {limit} | {ratio:.2} | {} |", word(ratio <= limit));
-    at_most("regional growth in memory: Zorpedi / fast", memory[0].zorpedi / memory[0].fast, 2.5);
-    let quicker = memory[0].naive / memory[0].zorpedi;
-    println!("| regional growth in memory: naive / Zorpedi, at least 25 | {quicker:.2} | {} |", word(quicker >= 25.0));
-    at_most("ring in memory: Zorpedi / fast", memory[1].zorpedi / memory[1].fast, 1.5);
-    at_most("worst case in memory: Zorpedi / naive", memory[2].zorpedi / memory[2].naive, 1.0);
-    at_most("a million lines as a process: Zorpedi / fast", process[3].zorpedi / process[3].fast, 3.0);
 }
 
 // ---- one search
@@ -233,7 +174,7 @@ fn map_after(input: &[u8], lines: usize) -> Outcome<Map> {
 }
 
 /// The time of one call in a sweep over all codes for which `is_tried` holds; the median of many sweeps. Refusals count as calls.
-fn sweep(map: &mut Map, is_tried: impl Fn(&Map, u8) -> bool) -> f64 {
+fn sweep(map: &Map, is_tried: impl Fn(&Map, u8) -> bool) -> f64 {
     let codes: Vec<u8> = (0..=255).filter(|&code| is_tried(map, code)).collect();
     let calls = 256 / codes.len().max(1);
     let mut times = Vec::new();
@@ -246,20 +187,20 @@ fn sweep(map: &mut Map, is_tried: impl Fn(&Map, u8) -> bool) -> f64 {
         }
         times.push(start.elapsed().as_nanos() as f64 / (calls * codes.len()) as f64);
     }
-    median(times)
+    Time::of(times).median
 }
 
 /// `zorpedi_search` on the whole regional map; and the search inside it, without the checks: on the map before its last opening, where one
 /// code is closed, a search from that code is refused after all checks, so that the difference is the search alone.
 fn print_search(regional: &Input) -> Outcome<()> {
-    let mut whole = map_after(&regional.bytes, 256)?;
-    let mut before = map_after(&regional.bytes, 255)?;
-    let call = sweep(&mut whole, |_, _| true);
-    let checks = sweep(&mut before, |map, code| !map.is_open(code));
-    let both = sweep(&mut before, |map, code| map.is_open(code));
+    let whole = map_after(&regional.bytes, 256)?;
+    let before = map_after(&regional.bytes, 255)?;
+    let call = sweep(&whole, |_, _| true);
+    let checks = sweep(&before, |map, code| !map.is_open(code));
+    let both = sweep(&before, |map, code| map.is_open(code));
     println!("\n| One search of the regional map | Time |");
     println!("|---|---|");
-    println!("| zorpedi_search, with all checks of the map | {} |", time_text(call));
-    println!("| the search inside it | {} |", time_text((both - checks).max(0.0)));
+    println!("| zorpedi_search, with all checks of the map | {} |", times::text_of(call));
+    println!("| the search inside it | {} |", times::text_of((both - checks).max(0.0)));
     Ok(())
 }

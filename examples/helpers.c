@@ -1,0 +1,108 @@
+/* The helpers of zorpedi.h that give more than a call's arguments, each held to what the header says of it. It prints what differs, and its exit
+ * status is 1 if anything does. It is C11 and C++17.
+ *
+ * In the repository's root:
+ *
+ *   rt staticlib zorpedi
+ *   cc -std=c11 -Wall -Wextra -Iinclude examples/helpers.c target/staticlib/libzorpedi.a -o target/helpers && target/helpers
+ */
+#include <stdio.h>
+#include <string.h>
+
+#include "zorpedi.h"
+
+#if ZORPEDI_VERSION != ZORPEDI_VERSION_MAJOR * 1000 + ZORPEDI_VERSION_MINOR
+#error "the version's number"
+#endif
+
+static zorpedi_map map;
+
+static int differences = 0;
+
+static void expect(const char *what, int is_so)
+{
+    if (!is_so) {
+        printf("not so: %s\n", what);
+        differences++;
+    }
+}
+
+static void try_versions(void)
+{
+    const uint32_t here = ZORPEDI_VERSION;
+    expect("header and archive are of one version", zorpedi_version() == here);
+    expect("this archive serves", zorpedi_version_serves(zorpedi_version()));
+    expect("an archive with more serves", zorpedi_version_serves(here + 1));
+    expect("an archive with less does not", !zorpedi_version_serves(here - 1));
+    expect("the next major number does not", !zorpedi_version_serves(here + 1000));
+    expect("the major number before does not", !zorpedi_version_serves(here - 1000));
+}
+
+static void try_words(void)
+{
+    static const char *const words[] = {"", "short", "spoilt", "apart", "absent", "taken", "lonely", "unsorted", "unknown", "garbled"};
+    for (unsigned number = 0; number < 600; number++) {
+        const char *expected = number < sizeof words / sizeof words[0] ? words[number] : "";
+        expect("each refusal has its word, other numbers none", strcmp(zorpedi_refusal_word(number), expected) == 0);
+    }
+}
+
+/* An accepted and a refused opening, and all 256 depots linked with each other. */
+static void try_openings(void)
+{
+    uint8_t before[256];
+    zorpedi_map_empty(&map);
+    for (unsigned code = 0; code < 256; code++) {
+        zorpedi_opened opened = zorpedi_map_opened(&map, (uint8_t)code, before, code);
+        expect("the second depot makes the chain grow", opened.answer == (code == 1 ? ZORPEDI_GREW : ZORPEDI_KEPT));
+        expect("one search", opened.searches == 1);
+        opened = zorpedi_map_opened(&map, (uint8_t)code, NULL, 0);
+        expect("the code is taken", opened.answer == ZORPEDI_TAKEN);
+        expect("no search", opened.searches == 0);
+        before[code] = (uint8_t)code;
+    }
+}
+
+/* Whether the walk has each bit of the pair table once, in rising order, and then none. */
+static int walks_all(void)
+{
+    zorpedi_pairs pairs = zorpedi_map_pairs(&map);
+    for (unsigned place = 0; place < 65536; place++) {
+        uint8_t u = (uint8_t)(place / 256), v = (uint8_t)(place % 256);
+        if (zorpedi_row_has(map.pairs + 4 * u, v) && !(zorpedi_pairs_next(&pairs) && pairs.u == u && pairs.v == v)) {
+            return 0;
+        }
+    }
+    uint8_t u = pairs.u, v = pairs.v;
+    return !zorpedi_pairs_next(&pairs) && !zorpedi_pairs_next(&pairs) && pairs.u == u && pairs.v == v;
+}
+
+static void try_pairs(void)
+{
+    unsigned number = 0;
+    zorpedi_pairs pairs = zorpedi_map_pairs(&map);
+    while (zorpedi_pairs_next(&pairs)) {
+        number += zorpedi_map_is_farthest(&map, pairs.u, pairs.v) && pairs.u < pairs.v;
+    }
+    expect("every two of 256 depots are a pair", number == 32640 && map.record[ZORPEDI_PAIR_COUNT] == 32640);
+    expect("the pairs of 256 depots", walks_all());
+    memset(map.pairs, 255, sizeof map.pairs);
+    expect("all bits", walks_all());
+    zorpedi_map_empty(&map);
+    expect("no bit", walks_all());
+    for (unsigned place = 0; place < 65536; place += 255) {
+        map.pairs[place / 64] = (uint64_t)1 << (place % 64);
+        expect("a bit alone, and with others", walks_all());
+        map.pairs[place / 64] = place % 2 == 0 ? 0 : map.pairs[place / 64];
+    }
+}
+
+int main(void)
+{
+    try_versions();
+    try_words();
+    try_openings();
+    try_pairs();
+    puts(differences == 0 ? "the helpers are as the header says" : "the helpers DIFFER from the header");
+    return differences == 0 ? 0 : 1;
+}
