@@ -5,8 +5,8 @@ use borrow.Author.Needs.{needs}
 use Rattle.follow.proofs.end.Statement.{statement}
 use Rattle.follow.proofs.end.Tie as tie
 
-slice-aggregate-write-all : tie.Need-slice-aggregate-write-all
-slice-aggregate-write-all c =
+slice-aggregate-write-out : tie.Need-slice-aggregate-write-out
+slice-aggregate-write-out c =
     let after-finish : tie.After-finish = search in
     sym (length-take-le _ _ (after-finish .finish .ensures .1))
 
@@ -15,9 +15,10 @@ end-spec =
     tie.close
     (tie.spec
     (λ c. search needs)  -- finish-requires
-    (λ c. search needs)  -- slice-reshare-prefix-write-all
-    slice-aggregate-write-all
-    (λ c. search needs)  -- write-all-requires
+    (λ c. search needs)  -- slice-reshare-prefix-write-out
+    slice-aggregate-write-out
+    (λ c. search needs)  -- write-out-requires
+    (λ c. search needs)  -- say-read-requires
     (λ c. search needs)  -- same-length
     (λ c. search needs)  -- same-length-2
     (λ c. search needs)  -- same-length-3

@@ -54,6 +54,9 @@ pub main-spec : {M : Type 1} → statement M
 main-spec =
     tie.close
     (tie.spec
+    (λ c. search needs)  -- arg-count-requires
+    (λ c. search needs)  -- print-requires
+    (λ c. search needs)  -- returns
     (λ c. search needs)  -- slice-aggregate-begin
     (λ c. search needs)  -- slice-aggregate-begin-2
     (λ c. search needs)  -- begin-requires
@@ -68,4 +71,4 @@ main-spec =
     (λ c. search needs)  -- slice-aggregate-follow-9
     (λ c. search needs)  -- slice-aggregate-follow-10
     follow-requires
-    (λ c. search needs))  -- returns
+    (λ c. search needs))  -- returns-2
