@@ -1,17 +1,22 @@
 // The program: notice lines from standard input, a report line for each to standard output. What a read brings is answered and written before
-// the next read, so that a person or a scanner on a pipe sees each report at once; a file goes through in large pieces.
+// the next read, so that a person or a scanner on a pipe sees each report at once; a file goes through in large pieces. A read or write that
+// fails is said on standard error.
 ghost use Rattle.rounds.specs.Slices.{lentAt, lentAfter};
 ghost use Rattle.stream.specs.Feeding.{IsReady};
+
+mod system;
+mod usage;
+
 use stream::Progress;
 
-// Where the program stands: the stream's progress, and whether there is more to do.
+// Where the program stands: the stream's progress, and whether to go on.
 struct Answered {
     progress: Progress,
     going: bool,
 }
 
-// Answers a piece, writing the reports as the buffer fills. Nothing more is to be done after a write that fails, and where nothing of the piece is
-// used: the stream has had its lines.
+// Answers a piece, writing the reports as the buffer fills. It goes on unless a write failed, or the stream has had its lines: then nothing more
+// is read.
 fn answer(
     progress: Progress,
     links: &mut [u64],
@@ -47,7 +52,7 @@ fn answer(
         now = fed.progress;
         let written = fed.written;
         let used = fed.used;
-        if !io::write_all(1, &out[..written]) {
+        if !system::write_out(&out[..written]) {
             return Answered {
                 progress: now,
                 going: false,
@@ -61,10 +66,18 @@ fn answer(
         }
         at += used;
     }
+    let stopped = line_buffer::is_stopped(now.lines, 0, out.len());
     Answered {
         progress: now,
-        going: true,
+        going: !stopped,
     }
+}
+
+// How the input ended: the stream's progress, whether what it holds of a last line is to be reported, and whether a read failed.
+struct Ended {
+    progress: Progress,
+    finishing: bool,
+    failed: bool,
 }
 
 // Answers standard input to its end. A proved loop has to end, and nothing says that the input does: so the loop counts its turns down, from a
@@ -81,19 +94,20 @@ fn answer_all(
     line: &mut [u8],
     out: &mut [u8],
     input: &mut [u8],
-) -> Answered
+) -> Ended
     requires { ⌜ IsReady progress (now links) (lentAt pairs hops bounds skips even odd) (now line) ⌝ }
     ensures { λ r. ⌜ IsReady (r .progress) (now (links .exit)) (lentAfter pairs hops bounds skips even odd) (now (line .exit)) ⌝ }
 {
     let mut now = progress;
     let mut turns = u64::MAX;
     while turns > 0 {
-        let got = libc::read(0, input);
-        let n = io::count(got, &*input);
+        let got = system::read_some(input);
+        let n = got.count;
         if n == 0 {
-            return Answered {
+            return Ended {
                 progress: now,
-                going: true,
+                finishing: true,
+                failed: got.failed,
             };
         }
         let answered = answer(
@@ -109,19 +123,24 @@ fn answer_all(
             out,
             &input[..n],
         );
-        if !answered.going {
-            return answered;
-        }
         now = answered.progress;
+        if !answered.going {
+            return Ended {
+                progress: now,
+                finishing: false,
+                failed: false,
+            };
+        }
         turns -= 1;
     }
-    Answered {
+    Ended {
         progress: now,
-        going: true,
+        finishing: true,
+        failed: false,
     }
 }
 
-// Reports a last stretch without an ending.
+// Reports a last stretch without an ending, and says then that a read failed, if it did.
 fn end(
     progress: Progress,
     links: &mut [u64],
@@ -133,6 +152,7 @@ fn end(
     odd: &mut [u64],
     out: &mut [u8],
     line: &[u8],
+    failed: bool,
 )
     requires { ⌜ IsReady progress (now links) (lentAt pairs hops bounds skips even odd) (now line) ⌝ }
 {
@@ -149,7 +169,8 @@ fn end(
         out,
     );
     let written = fed.written;
-    io::write_all(1, &out[..written]);
+    let told = system::write_out(&out[..written]);
+    system::say_read(told, failed);
 }
 
 // Follows standard input.
@@ -168,7 +189,7 @@ fn follow(
 )
     requires { ⌜ IsReady progress (now links) (lentAt pairs hops bounds skips even odd) (now line) ⌝ }
 {
-    let answered = answer_all(
+    let ended = answer_all(
         progress,
         links,
         pairs,
@@ -181,8 +202,8 @@ fn follow(
         out,
         input,
     );
-    if answered.going {
-        let now = answered.progress;
+    if ended.finishing {
+        let now = ended.progress;
         end(
             now,
             links,
@@ -194,11 +215,16 @@ fn follow(
             odd,
             out,
             &*line,
+            ended.failed,
         );
     }
 }
 
 fn main() {
+    if os::arg_count() > 1 {
+        usage::print();
+        return;
+    }
     let mut links = [0u64; 1024];
     let mut pairs = [0u64; 1024];
     let mut hops = [0u16; 256];

@@ -46,8 +46,8 @@ loop-holds c =
     let start : tie.Start Inv-loop μ-loop = search back in
     (start .pre, refl, refl, refl, refl, refl, refl, refl, refl, refl, zero-le)
 
-slice-aggregate-write-all : tie.Need-slice-aggregate-write-all Inv-loop μ-loop
-slice-aggregate-write-all c =
+slice-aggregate-write-out : tie.Need-slice-aggregate-write-out Inv-loop μ-loop
+slice-aggregate-write-out c =
     let after-feed : tie.After-feed Inv-loop μ-loop = search back in
     sym (length-take-le _ _ (after-feed .feed .ensures .3))
 
@@ -214,9 +214,9 @@ answer-spec =
     μ-loop
     loop-holds
     (λ c. search needs) (λ c. search needs) (λ c. search needs) (λ c. search needs)  -- sub-feed, part-feed-start, part-feed-end, feed-requires
-    (λ c. search needs)  -- slice-reshare-prefix-write-all
-    slice-aggregate-write-all
-    (λ c. search needs)  -- write-all-requires
+    (λ c. search needs)  -- slice-reshare-prefix-write-out
+    slice-aggregate-write-out
+    (λ c. search needs)  -- write-out-requires
     same-length
     same-length-2
     same-length-3
@@ -240,7 +240,7 @@ answer-spec =
     add-at
     loop-less
     loop-again
-    (λ c. search needs) (λ c. search needs) (λ c. search needs) (λ c. search needs)  -- same-length-19, same-length-20, same-length-21, same-length-22
-    (λ c. search needs) (λ c. search needs) (λ c. search needs) (λ c. search needs)  -- same-length-23, same-length-24, same-length-25, same-length-26
-    (λ c. search needs)  -- same-length-27
+    (λ c. search needs) (λ c. search needs) (λ c. search needs)  -- is-stopped-requires, same-length-19, same-length-20
+    (λ c. search needs) (λ c. search needs) (λ c. search needs) (λ c. search needs)  -- same-length-21, same-length-22, same-length-23, same-length-24
+    (λ c. search needs) (λ c. search needs) (λ c. search needs)  -- same-length-25, same-length-26, same-length-27
     (λ c. search needs))  -- returns-3

@@ -28,11 +28,11 @@ abbrev μ-loop : tie.MeasureT-loop
     turns
 
 -- the way back, from each call to the one before it
-abbrev before-answer : tie.After-answer Inv-loop μ-loop → tie.After-read Inv-loop μ-loop
+abbrev before-answer : tie.After-answer Inv-loop μ-loop → tie.After-read-some Inv-loop μ-loop
 before-answer c = search
 
-abbrev before-read : tie.After-read Inv-loop μ-loop → tie.In-loop Inv-loop μ-loop
-before-read c = search
+abbrev before-read-some : tie.After-read-some Inv-loop μ-loop → tie.In-loop Inv-loop μ-loop
+before-read-some c = search
 
 abbrev before-in-loop : tie.In-loop Inv-loop μ-loop → tie.At-loop Inv-loop μ-loop
 before-in-loop c = search
@@ -40,7 +40,7 @@ before-in-loop c = search
 abbrev before-at-loop : tie.At-loop Inv-loop μ-loop → tie.Start Inv-loop μ-loop
 before-at-loop c = search
 
-ruleset back = (before-answer, before-read, before-in-loop, before-at-loop)
+ruleset back = (before-answer, before-read-some, before-in-loop, before-at-loop)
 
 loop-holds : tie.Need-loop-holds Inv-loop μ-loop
 loop-holds c =
@@ -94,9 +94,9 @@ same-length-9 c =
 
 same-length-10 : tie.Need-same-length-10 Inv-loop μ-loop
 same-length-10 c =
-    let after-read : tie.After-read Inv-loop μ-loop = search back in
+    let after-read-some : tie.After-read-some Inv-loop μ-loop = search back in
     let at-loop : tie.At-loop Inv-loop μ-loop = search back in
-    after-read .read .kept .1 .0 ∙ at-loop .loop .inv .10
+    after-read-some .read-some .kept .0 ∙ at-loop .loop .inv .10
 
 same-length-11 : tie.Need-same-length-11 Inv-loop μ-loop
 same-length-11 c =
@@ -154,9 +154,9 @@ same-length-19 c =
 
 same-length-20 : tie.Need-same-length-20 Inv-loop μ-loop
 same-length-20 c =
-    let after-read : tie.After-read Inv-loop μ-loop = search back in
+    let after-read-some : tie.After-read-some Inv-loop μ-loop = search back in
     let at-loop : tie.At-loop Inv-loop μ-loop = search back in
-    after-read .read .kept .1 .0 ∙ at-loop .loop .inv .10
+    after-read-some .read-some .kept .0 ∙ at-loop .loop .inv .10
 
 sub-turns : tie.Need-sub-turns Inv-loop μ-loop
 sub-turns c =
@@ -171,7 +171,7 @@ loop-less c =
 loop-again : tie.Need-loop-again Inv-loop μ-loop
 loop-again c =
     let after-answer : tie.After-answer Inv-loop μ-loop = search back in
-    let after-read : tie.After-read Inv-loop μ-loop = search back in
+    let after-read-some : tie.After-read-some Inv-loop μ-loop = search back in
     let at-loop : tie.At-loop Inv-loop μ-loop = search back in
     let k = after-answer .answer .kept in
     let v = at-loop .loop .inv in (
@@ -185,7 +185,7 @@ loop-again c =
       k .1 .1 .1 .1 .1 .1 .1 .0 ∙ v .7,
       k .1 .1 .1 .1 .1 .1 .1 .1 .0 ∙ v .8,
       k .1 .1 .1 .1 .1 .1 .1 .1 .1 .0 ∙ v .9,
-      after-read .read .kept .1 .0 ∙ v .10,
+      after-read-some .read-some .kept .0 ∙ v .10,
     )
 
 same-length-21 : tie.Need-same-length-21 Inv-loop μ-loop
@@ -245,7 +245,7 @@ answer-all-spec =
     Inv-loop
     μ-loop
     loop-holds
-    (λ c. search needs) (λ c. search needs)  -- read-requires, count-requires
+    (λ c. search needs)  -- read-some-requires
     same-length
     same-length-2
     same-length-3

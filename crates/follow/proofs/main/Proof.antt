@@ -54,6 +54,7 @@ pub main-spec : {M : Type 1} → statement M
 main-spec =
     tie.close
     (tie.spec
+    (λ c. search needs) (λ c. search needs) (λ c. search needs)  -- arg-count-requires, print-requires, returns
     (λ c. search needs) (λ c. search needs) (λ c. search needs)  -- slice-aggregate-begin, slice-aggregate-begin-2, begin-requires
     slice-aggregate-follow
     slice-aggregate-follow-2
@@ -65,4 +66,4 @@ main-spec =
     slice-aggregate-follow-8
     (λ c. search needs) (λ c. search needs)  -- slice-aggregate-follow-9, slice-aggregate-follow-10
     follow-requires
-    (λ c. search needs))  -- returns
+    (λ c. search needs))  -- returns-2
