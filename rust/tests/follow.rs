@@ -8,6 +8,8 @@ use plain::stream::output;
 use std::env;
 use std::fs::{self, File};
 use std::io::{BufRead, BufReader, Read, Seek, Write};
+use std::os::fd::OwnedFd;
+use std::os::unix::net::UnixStream;
 use std::path::{Path, PathBuf};
 use std::process::{Child, ChildStdin, Command, Stdio};
 use std::sync::mpsc::{channel, Receiver, RecvTimeoutError};
@@ -343,14 +345,96 @@ fn lines_in_bursts() {
     talk.assert_ended();
 }
 
-/// What follows a million lines ends the program, though its input does not end.
+/// The millionth line ends the program, though its input does not end: it does not wait for more.
 #[test]
 fn a_million_lines_on_a_pipe_that_stays_open() {
     let mut talk = Talk::begin();
-    talk.send(&vec![0x0A; 1_000_001]);
+    talk.send(&vec![0x0A; 1_000_000]);
     for number in 1..=1_000_000 {
         talk.assert_report(Some(&format!("{number} R9 0 0 0 0")));
     }
     assert!(talk.stdin.is_some());
     talk.assert_ended();
+}
+
+// ---- what goes wrong is said
+
+/// What a process that has ended wrote, and what it said; it has no other status.
+fn written_and_said(mut child: Child) -> (String, String) {
+    let (mut written, mut said) = (String::new(), String::new());
+    if let Some(mut stdout) = child.stdout.take() {
+        stdout.read_to_string(&mut written).expect("reports are text");
+    }
+    child.stderr.take().expect("a pipe").read_to_string(&mut said).expect("what it says is text");
+    assert_eq!(child.wait().expect("it ends").code(), Some(0));
+    (written, said)
+}
+
+/// The day's lines as standard input, and another standard output.
+fn day_to(stdout: Stdio) -> (String, String) {
+    let day = File::open(repository().join("examples/day.txt")).expect("the file opens");
+    written_and_said(Command::new(program()).stdin(day).stdout(stdout).stderr(Stdio::piped()).spawn().expect("the program starts"))
+}
+
+#[test]
+fn a_full_device() {
+    let full = File::options().write(true).open("/dev/full").expect("the device opens");
+    assert_eq!(day_to(full.into()).1, "follow: standard output: No space left on device\n");
+}
+
+#[test]
+fn an_output_that_cannot_be_written() {
+    let reading = File::open("/dev/null").expect("the device opens");
+    assert_eq!(day_to(reading.into()).1, "follow: standard output: Bad file descriptor\n");
+}
+
+#[test]
+fn a_closed_output() {
+    let child = Command::new("sh")
+        .args(["-c", "exec \"$0\" >&-"])
+        .arg(program())
+        .stdin(File::open(repository().join("examples/day.txt")).expect("the file opens"))
+        .stderr(Stdio::piped())
+        .spawn()
+        .expect("the shell starts");
+    assert_eq!(written_and_said(child).1, "follow: standard output: Bad file descriptor\n");
+}
+
+#[test]
+fn a_directory_as_input() {
+    let child = start(File::open(repository()).expect("the folder opens").into());
+    assert_eq!(written_and_said(child), (String::new(), "follow: standard input: Is a directory\n".into()));
+}
+
+/// What had come before the read that fails is answered, the last stretch too, and then it is said.
+#[test]
+fn a_read_that_would_block() {
+    let (mut here, there) = UnixStream::pair().expect("a pair of sockets");
+    here.write_all(b"010000\n01010100\n0102").expect("the socket takes it");
+    there.set_nonblocking(true).expect("a socket can");
+    let child = start(OwnedFd::from(there).into());
+    let reports = "1 K 1 0 0 1\n2 G 2 1 1 1\n3 R9 2 1 1 0\n".to_string();
+    assert_eq!(written_and_said(child), (reports, "follow: standard input: Resource temporarily unavailable\n".into()));
+}
+
+/// With any argument the program prints its usage, and reads nothing.
+#[test]
+fn usage() {
+    for argument in ["--help", "-h", "", "notices.txt"] {
+        let mut child = Command::new(program())
+            .arg(argument)
+            .stdin(Stdio::piped())
+            .stdout(Stdio::piped())
+            .stderr(Stdio::piped())
+            .spawn()
+            .expect("the program starts");
+        let open = child.stdin.take();
+        let (written, said) = written_and_said(child);
+        drop(open);
+        assert!(written.starts_with("Usage: follow < NOTICES > REPORTS\n"), "{argument}: {written}");
+        for word in ["G ", "K ", "S ", "taken", "lonely", "unsorted", "unknown", "garbled", "1,000,000 lines"] {
+            assert!(written.contains(word), "{word}");
+        }
+        assert_eq!(said, "");
+    }
 }
