@@ -31,8 +31,8 @@ fn count_three(places: &Places, input: &Path) -> Outcome<Three<f64>> {
     Ok(Three { zorpedi: count(&places.follow, input)?, fast: count(&places.fast, input)?, naive: count(&places.naive, input)? })
 }
 
-/// The instructions that each program takes for each input: those of the process, less those that it takes for an empty input, which are the loader's
-/// and the language's more than the program's.
+/// The instructions that each program takes for each input: those of the process, less those that it takes for an empty input to be loaded and to
+/// fill its buffers once.
 pub fn count_all(places: &Places, inputs: &[Input]) -> Outcome<Vec<Three<f64>>> {
     let nothing = count_three(places, Path::new("/dev/null"))?;
     let less =
