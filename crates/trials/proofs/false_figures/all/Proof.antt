@@ -19,7 +19,7 @@ all-spec =
     μ-loop
     (λ c. search needs)  -- worked-requires
     (λ c. search needs)  -- loop-holds
-    (λ c. search needs)  -- case-requires
+    (λ c. search needs)  -- is-taken-requires
     (λ c. search needs)  -- seen-requires
     (λ c. search needs)  -- add-k
     (λ c. search needs)  -- loop-less

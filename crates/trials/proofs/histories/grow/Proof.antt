@@ -6,10 +6,10 @@ use Rattle.trials.proofs.histories.grow.Statement.{statement}
 use Rattle.trials.proofs.histories.grow.Tie as tie
 
 abbrev Inv-loop : tie.InvT-loop
-Inv-loop links₀ pairs₀ sheet₀ kind calls mixed s₀ end c₀ links pairs sheet s c = (c ≤ end) × (end < 1024)
+Inv-loop sheet₀ kind calls s₀ end c₀ sheet s c = (c ≤ end) × (end < 1024)
 
 abbrev μ-loop : tie.MeasureT-loop
-μ-loop links₀ pairs₀ sheet₀ kind calls mixed s₀ end c₀ links pairs sheet s c = end - c
+μ-loop sheet₀ kind calls s₀ end c₀ sheet s c = end - c
 
 pub grow-spec : {M : Type 1} → statement M
 grow-spec =
@@ -17,9 +17,7 @@ grow-spec =
     (tie.spec
     Inv-loop
     μ-loop
-    (λ c. search needs)  -- fill-requires
-    (λ c. search needs)  -- with-false-figures-requires
-    (λ c. search needs)  -- empty-map-requires
+    (λ c. search needs)  -- empty-requires
     (λ c. search needs)  -- loop-holds
     (λ c. search needs)  -- call-requires
     (λ c. search needs)  -- add-c
