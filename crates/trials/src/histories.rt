@@ -85,6 +85,15 @@ pub fn open(m: Lent, sheet: &mut Sheet, kind: Kind, j: usize, bent: usize) -> Ma
     Made { lent, want, got }
 }
 
+// Whether the word that is wanted is a letter, or of a bent call the number that it was bent for.
+fn is_meant(want: u8, bent: usize) -> bool {
+    if bent == 0 {
+        9 < want
+    } else {
+        plain_search::wide(want) == bent
+    }
+}
+
 // Where a history stands after the opening of depot j, bent.
 fn turn(s: State, sheet: &mut Sheet, kind: Kind, j: usize, bent: usize) -> State {
     let before = s.tally;
@@ -96,7 +105,8 @@ fn turn(s: State, sheet: &mut Sheet, kind: Kind, j: usize, bent: usize) -> State
     } else {
         is_accepted(got, made.want, &*sheet)
     };
-    let tally = before.seen(both(answered, is_true(lent, &*sheet)));
+    let right = both(is_meant(made.want, bent), is_true(lent, &*sheet));
+    let tally = before.seen(both(answered, right));
     State { lent, tally }
 }
 
