@@ -80,8 +80,9 @@ fn leaves(got: Answer, word: u8, searches: u16, chain: u16, count: u32) -> bool 
     both(answered, both(rec.chain == chain, rec.count == count))
 }
 
-// What document 01's steps give on figures that no network has: an empty map with a chain shrinks to 0; two depots with their pair and chain 0 grow, and the
-// old pair goes; and a path of three with chain 9 and its ends as pair, the fourth depot at the middle, has candidate 4, which no search reaches: no pair is left.
+// What document 01's steps give on figures that no network has: an empty map with a chain shrinks to 0; two depots with their pair and chain 0 grow, and
+// the old pair goes; a path of three with chain 9 and its ends as pair, the fourth depot at the middle, has candidate 4, which no search reaches, and no
+// pair is left.
 fn worked() -> Tally {
     let t = tally::start();
     let t = t.seen(leaves(open(0, 0, 9, 0), b'S', 1, 0, 0));

@@ -48,13 +48,17 @@ fn empty() -> Lent {
 
 // ---- a call
 
-// What is lent to a call: with a pair too many in the record (2), or with depot j open there, which nothing is linked to (3); or as it is.
+// What is lent to a call: its record with a chain too long or a pair too many (2), or with depot j open, which nothing is linked to (3); or as it is.
 fn bend(m: Lent, bent: usize, j: usize) -> Lent {
     let mut lent = m;
     let mut rec = m.rec;
     let mut codes = rec.codes;
     if bent == 2 {
-        rec.count = rec.count % 65536 + 1;
+        if j % 16 == 1 {
+            rec.chain = 256;
+        } else {
+            rec.count = rec.count % 65536 + 1;
+        }
     }
     if bent == 3 {
         plain_search::flip(&mut codes, plain_search::wide(code(j)));
