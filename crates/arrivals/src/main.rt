@@ -1,11 +1,11 @@
-// Arrival orders (rule 9.7): two notices A and B reach three scanner lines, each with a map of its own, in eight orders. It prints each order
+// The arrival orders of the customer's first sentence: two notices A and B, three scanner lines with a map each, eight orders. It prints each order
 // with the figures of its three lines (depots open, chain, pairs), and whether the three maps are equal word for word.
 mod maps;
 
-use map::Record;
+use maps::Map;
 use maps::first_answer;
 use maps::line;
-use plain_search::bits::same_words;
+use plain_search::same_words;
 
 fn print_order(a_first: bool) {
     if a_first {
@@ -15,7 +15,8 @@ fn print_order(a_first: bool) {
     }
 }
 
-fn print_figures(rec: Record) {
+fn print_figures(m: Map) {
+    let rec = m.rec;
     io::write_all(1, b"(");
     io::print_decimal(1, rec.number as u64);
     io::write_all(1, b" ");
@@ -30,26 +31,24 @@ fn both(a: bool, b: bool) -> bool {
     if a { b } else { false }
 }
 
-// Whether two records are the same.
-fn same_record(a: Record, b: Record) -> bool {
-    let codes = a.codes;
-    let others = b.codes;
-    let figures = both(a.chain == b.chain, a.count == b.count);
-    let open = both(a.number == b.number, same_words(&codes, &others, 4));
-    both(open, figures)
-}
-
 // Whether two maps are equal: record, link table and pair table.
-fn same(
-    r: Record,
-    s: Record,
-    l: &[u64; 1024],
-    m: &[u64; 1024],
-    p: &[u64; 1024],
-    q: &[u64; 1024],
-) -> bool {
-    let tables = both(same_words(l, m, 1024), same_words(p, q, 1024));
-    both(same_record(r, s), tables)
+fn same(a: Map, b: Map) -> bool {
+    let links = a.links;
+    let pairs = a.pairs;
+    let rec = a.rec;
+    let codes = rec.codes;
+    let other_links = b.links;
+    let other_pairs = b.pairs;
+    let other = b.rec;
+    let other_codes = other.codes;
+    let linked = same_words(&links, &other_links, 1024);
+    let paired = same_words(&pairs, &other_pairs, 1024);
+    let open = same_words(&codes, &other_codes, 4);
+    let figures = both(rec.chain == other.chain, rec.count == other.count);
+    both(
+        both(linked, paired),
+        both(both(open, rec.number == other.number), figures),
+    )
 }
 
 fn print_agreement(agree: bool) {
@@ -62,24 +61,16 @@ fn print_agreement(agree: bool) {
 
 // One order of the three lines, B being beside the depot `near`.
 fn try_order(first: bool, second: bool, third: bool, near: u8) {
-    let mut l1 = [0u64; 1024];
-    let mut l2 = [0u64; 1024];
-    let mut l3 = [0u64; 1024];
-    let mut p1 = [0u64; 1024];
-    let mut p2 = [0u64; 1024];
-    let mut p3 = [0u64; 1024];
-    let r1 = line(&mut l1, &mut p1, first, near);
-    let r2 = line(&mut l2, &mut p2, second, near);
-    let r3 = line(&mut l3, &mut p3, third, near);
+    let one = line(first, near);
+    let two = line(second, near);
+    let three = line(third, near);
     print_order(first);
     print_order(second);
     print_order(third);
-    print_figures(r1);
-    print_figures(r2);
-    print_figures(r3);
-    let one = same(r1, r2, &l1, &l2, &p1, &p2);
-    let two = same(r2, r3, &l2, &l3, &p2, &p3);
-    print_agreement(both(one, two));
+    print_figures(one);
+    print_figures(two);
+    print_figures(three);
+    print_agreement(both(same(one, two), same(two, three)));
 }
 
 // The eight orders.

@@ -1,25 +1,41 @@
 // A line's map, and the notices that it takes.
 use map::Record;
-use opening::Returned;
 use outcome::Outcome;
 
+// The map, by value: both tables and the record.
+pub struct Map {
+    pub links: [u64; 1024],
+    pub pairs: [u64; 1024],
+    pub rec: Record,
+}
+
+// What an opening leaves: the map, and the number of the refusal, 0 for none.
+pub struct Taken {
+    pub map: Map,
+    pub refusal: u8,
+}
+
+// The number of the refusal, 0 for an opening that was accepted.
+fn refusal_of(o: Outcome) -> u8 {
+    match o {
+        Outcome::Accepted(_) => 0,
+        Outcome::Refused(k) => k,
+    }
+}
+
 // An opening with scratch of its own.
-fn open(
-    rec: Record,
-    links: &mut [u64; 1024],
-    pairs: &mut [u64; 1024],
-    code: u8,
-    neighbours: &[u8],
-) -> Returned {
+fn open(m: Map, code: u8, neighbours: &[u8]) -> Taken {
+    let mut links = m.links;
+    let mut pairs = m.pairs;
     let mut hops = [0u16; 256];
     let mut bounds = [0u16; 256];
     let mut skips = [0u16; 256];
     let mut even = [0u64; 4];
     let mut odd = [0u64; 4];
-    lent_opening::open_value(
-        rec,
-        links,
-        pairs,
+    let got = lent_opening::open_value(
+        m.rec,
+        &mut links,
+        &mut pairs,
         &mut hops,
         &mut bounds,
         &mut skips,
@@ -27,75 +43,58 @@ fn open(
         &mut odd,
         code,
         neighbours,
-    )
+    );
+    let report = got.report;
+    let outcome = report.outcome;
+    let rec = got.after;
+    let map = Map { links, pairs, rec };
+    let refusal = refusal_of(outcome);
+    Taken { map, refusal }
 }
 
 // An opening beside one depot.
-fn open_beside(
-    rec: Record,
-    links: &mut [u64; 1024],
-    pairs: &mut [u64; 1024],
-    code: u8,
-    near: u8,
-) -> Returned {
+fn open_beside(m: Map, code: u8, near: u8) -> Taken {
     let neighbours = [near; 1];
-    open(rec, links, pairs, code, &neighbours)
+    open(m, code, &neighbours)
 }
 
-// The record after the depots 0, 1 and 2 have opened in a path, from the empty map.
-fn begin(links: &mut [u64; 1024], pairs: &mut [u64; 1024]) -> Record {
-    let empty = Record {
+// The map after the depots 0, 1 and 2 have opened in a path.
+fn begin() -> Map {
+    let rec = Record {
         codes: [0u64; 4],
         number: 0,
         chain: 0,
         count: 0,
     };
-    let one = open(empty, links, pairs, 0, b"");
-    let two = open_beside(one.after, links, pairs, 1, 0);
-    let three = open_beside(two.after, links, pairs, 2, 1);
-    three.after
+    let links = [0u64; 1024];
+    let pairs = [0u64; 1024];
+    let one = open(Map { links, pairs, rec }, 0, b"");
+    let two = open_beside(one.map, 1, 0);
+    let three = open_beside(two.map, 2, 1);
+    three.map
 }
 
 // Notice A, 3 opens beside 2; or notice B, 4 opens beside `near`.
-fn take(
-    rec: Record,
-    links: &mut [u64; 1024],
-    pairs: &mut [u64; 1024],
-    is_a: bool,
-    near: u8,
-) -> Returned {
-    let code = if is_a { 3 } else { 4 };
-    let beside = if is_a { 2 } else { near };
-    open_beside(rec, links, pairs, code, beside)
-}
-
-// The number of the refusal, 0 for an opening that was accepted.
-fn refusal(got: Returned) -> u8 {
-    let report = got.report;
-    let outcome = report.outcome;
-    match outcome {
-        Outcome::Accepted(_) => 0,
-        Outcome::Refused(k) => k,
+fn take(m: Map, is_a: bool, near: u8) -> Taken {
+    if is_a {
+        return open_beside(m, 3, 2);
     }
+    open_beside(m, 4, near)
 }
 
 // One line's map after A and B, in one order; a B that was refused is handed in again.
-pub fn line(links: &mut [u64; 1024], pairs: &mut [u64; 1024], a_first: bool, near: u8) -> Record {
-    let rec = begin(links, pairs);
-    let first = take(rec, links, pairs, a_first, near);
-    let second = take(first.after, links, pairs, !a_first, near);
-    if refusal(first) == 0 {
-        return second.after;
+pub fn line(a_first: bool, near: u8) -> Map {
+    let first = take(begin(), a_first, near);
+    let second = take(first.map, !a_first, near);
+    if first.refusal == 0 {
+        return second.map;
     }
-    let again = take(second.after, links, pairs, false, near);
-    again.after
+    let again = take(second.map, false, near);
+    again.map
 }
 
 // What B is answered where it comes first.
 pub fn first_answer(near: u8) -> u8 {
-    let mut links = [0u64; 1024];
-    let mut pairs = [0u64; 1024];
-    let rec = begin(&mut links, &mut pairs);
-    let got = take(rec, &mut links, &mut pairs, false, near);
-    refusal(got)
+    let got = take(begin(), false, near);
+    got.refusal
 }

@@ -1,73 +1,45 @@
-// The calls, each with scratch of its own that holds 7 before it, and what they answer and leave.
+// The calls, with all that is lent to them by value; and what they answer and leave, held to the sheet.
 use crate::notices::Notice;
 use crate::tally::both;
 use map::Record;
-use opening::Returned;
 use outcome::Change;
 use outcome::Outcome;
-use plain_search::bits::numbers_are;
-use plain_search::bits::same_words;
-use plain_search::marks;
-use plain_search::sheet::DISTANCES;
-use plain_search::sheet::ECCENTRICITIES;
-use plain_search::sheet::SEVENS;
-use plain_search::sheet::SIZE;
-use plain_search::sheet::code_of_byte;
-use plain_search::sheet::read;
-use reckon::Reckoned;
+use plain_search::Sheet;
+use plain_search::bits_are;
+use plain_search::read;
+use plain_search::same_numbers;
+use plain_search::same_words;
 use reckon::Reckoning;
 use search::Found;
 
-// What a call left in its scratch: how many depots are marked as searched, whether those that are not are covered, and whether nothing was written.
-pub struct Scratch {
-    pub marked: u16,
-    pub covered: bool,
-    pub untouched: bool,
+// What is lent: the map, which is both tables and the record, and scratch.
+pub struct Lent {
+    pub links: [u64; 1024],
+    pub pairs: [u64; 1024],
+    pub rec: Record,
+    pub hops: [u16; 256],
+    pub bounds: [u16; 256],
+    pub skips: [u16; 256],
+    pub even: [u64; 4],
+    pub odd: [u64; 4],
 }
 
-// What a call answered and left: the number of its refusal, or its letter, D (done) where it has none; its searches; its scratch; and the record.
+// What a call answers and leaves. The word is the number of a refusal, or the letter of an opening, or D (done); the number is that of the searches, or the
+// eccentricity that a search answers.
 pub struct Answer {
     pub word: u8,
-    pub searches: u16,
-    pub scratch: Scratch,
-    pub after: Record,
+    pub number: u16,
+    pub left: Lent,
 }
 
-// The word of a search that found something else than the plain one, or was refused and wrote all the same.
-const WRONG: u8 = 99;
+// ---- the calls
 
-// ---- scratch
-
-// Whether hop table and layer rows are as they were.
-fn hops_untouched(hops: &[u16; 256], even: &[u64; 4], odd: &[u64; 4], sheet: &[u16; SIZE]) -> bool {
-    let sevens = [7u64; 4];
-    let rows = both(same_words(even, &sevens, 4), same_words(odd, &sevens, 4));
-    both(rows, numbers_are(hops, sheet, SEVENS, 0))
+// An answer.
+fn answered(word: u8, number: u16, left: Lent) -> Answer {
+    Answer { word, number, left }
 }
 
-// What stands in scratch after a call that left this chain.
-fn left(
-    hops: &[u16; 256],
-    bounds: &[u16; 256],
-    skips: &[u16; 256],
-    even: &[u64; 4],
-    odd: &[u64; 4],
-    sheet: &[u16; SIZE],
-    chain: u16,
-) -> Scratch {
-    let first = numbers_are(bounds, sheet, SEVENS, 0);
-    let second = numbers_are(skips, sheet, SEVENS, 0);
-    let third = hops_untouched(hops, even, odd, sheet);
-    Scratch {
-        marked: marks::count(skips),
-        covered: marks::are_covered(skips, sheet, chain),
-        untouched: both(first, both(second, third)),
-    }
-}
-
-// ---- an opening
-
-// The word of an outcome.
+// The word of an opening's outcome.
 fn word_of(o: Outcome) -> u8 {
     match o {
         Outcome::Accepted(c) => match c {
@@ -79,137 +51,219 @@ fn word_of(o: Outcome) -> u8 {
     }
 }
 
-// What an opening answered and left.
-fn opened(got: Returned, scratch: Scratch) -> Answer {
-    let report = got.report;
-    let outcome = report.outcome;
-    let after = got.after;
-    Answer {
-        word: word_of(outcome),
-        searches: report.searches,
-        scratch,
-        after,
-    }
-}
-
-// An opening. The sheet is that of the network after it.
-pub fn open(
-    rec: Record,
-    links: &mut [u64; 1024],
-    pairs: &mut [u64; 1024],
-    sheet: &[u16; SIZE],
-    n: Notice,
-    near: &[u8],
-) -> Answer {
-    let mut hops = [7u16; 256];
-    let mut bounds = [7u16; 256];
-    let mut skips = [7u16; 256];
-    let mut even = [7u64; 4];
-    let mut odd = [7u64; 4];
-    let words = n.row % 5;
+// An opening, its second layer row and its neighbours being lent apart.
+fn open_with(m: Lent, odd: &mut [u64], code: u8, near: &[u8]) -> Answer {
+    let mut left = m;
+    let mut links = m.links;
+    let mut pairs = m.pairs;
+    let mut hops = m.hops;
+    let mut bounds = m.bounds;
+    let mut skips = m.skips;
+    let mut even = m.even;
     let got = lent_opening::open_value(
-        rec,
-        links,
-        pairs,
+        m.rec,
+        &mut links,
+        &mut pairs,
         &mut hops,
         &mut bounds,
         &mut skips,
         &mut even,
-        &mut odd[..words],
-        n.code,
+        odd,
+        code,
         near,
     );
-    let after = got.after;
-    let scratch = left(&hops, &bounds, &skips, &even, &odd, sheet, after.chain);
-    opened(got, scratch)
+    let rec = got.after;
+    left.links = links;
+    left.pairs = pairs;
+    left.rec = rec;
+    left.hops = hops;
+    left.bounds = bounds;
+    left.skips = skips;
+    left.even = even;
+    let report = got.report;
+    let outcome = report.outcome;
+    answered(word_of(outcome), report.searches, left)
 }
 
-// ---- a whole reckoning
-
-// What a reckoning answered and left.
-fn reckoned(got: Reckoned, scratch: Scratch) -> Answer {
-    let answer = got.answer;
-    let after = got.after;
-    match answer {
-        Reckoning::Searches(searches) => Answer {
-            word: b'D',
-            searches,
-            scratch,
-            after,
-        },
-        Reckoning::Refused(word) => Answer {
-            word,
-            searches: 0,
-            scratch,
-            after,
-        },
+// The first so many of a list, or the whole of a shorter one.
+fn first(list: &[u8], count: usize) -> &[u8] {
+    if list.len() < count {
+        return list;
     }
+    &list[..count]
+}
+
+// An opening with a second layer row of three words, which has to keep them: else its word is 99.
+fn open_short(m: Lent, code: u8, near: &[u8]) -> Answer {
+    let mut odd = [7u64; 3];
+    let got = open_with(m, &mut odd, code, near);
+    let kept = both(odd[0] == 7, both(odd[1] == 7, odd[2] == 7));
+    let word = if kept { got.word } else { 99 };
+    answered(word, got.number, got.left)
+}
+
+// An opening.
+pub fn open(m: Lent, n: Notice) -> Answer {
+    let list = n.list;
+    let near = first(&list, n.count);
+    if n.short {
+        return open_short(m, n.code, near);
+    }
+    let mut odd = m.odd;
+    let got = open_with(m, &mut odd, n.code, near);
+    let mut left = got.left;
+    left.odd = odd;
+    answered(got.word, got.number, left)
 }
 
 // A whole reckoning.
-pub fn reckon(
-    rec: Record,
-    links: &[u64; 1024],
-    pairs: &mut [u64; 1024],
-    sheet: &[u16; SIZE],
-) -> Answer {
-    let mut hops = [7u16; 256];
-    let mut bounds = [7u16; 256];
-    let mut skips = [7u16; 256];
-    let mut even = [7u64; 4];
-    let mut odd = [7u64; 4];
+pub fn reckon(m: Lent) -> Answer {
+    let mut left = m;
+    let links = m.links;
+    let mut pairs = m.pairs;
+    let mut hops = m.hops;
+    let mut bounds = m.bounds;
+    let mut skips = m.skips;
+    let mut even = m.even;
+    let mut odd = m.odd;
     let got = reckon::reckon_all(
-        pairs,
+        &mut pairs,
         &mut hops,
         &mut bounds,
         &mut skips,
         &mut even,
         &mut odd,
-        rec,
-        links,
+        m.rec,
+        &links,
     );
-    let after = got.after;
-    let scratch = left(&hops, &bounds, &skips, &even, &odd, sheet, after.chain);
-    reckoned(got, scratch)
-}
-
-// ---- a search
-
-// Whether a search from s found the distances that the plain search found, e being the greatest.
-fn is_found(hops: &[u16; 256], sheet: &[u16; SIZE], s: u8, e: u16) -> bool {
-    let own = code_of_byte(s);
-    let farthest = e == read(sheet, ECCENTRICITIES, 0, own);
-    both(farthest, numbers_are(hops, sheet, DISTANCES, own))
-}
-
-// The number of a search's refusal, if nothing was written; D, if it found what the plain search found; else WRONG.
-fn searched(
-    found: Found,
-    hops: &[u16; 256],
-    even: &[u64; 4],
-    odd: &[u64; 4],
-    sheet: &[u16; SIZE],
-    s: u8,
-) -> u8 {
-    match found {
-        Found::Reached(e) => if is_found(hops, sheet, s, e) {
-            b'D'
-        } else {
-            WRONG
-        },
-        Found::Refused(k) => if hops_untouched(hops, even, odd, sheet) {
-            k
-        } else {
-            WRONG
-        },
+    let rec = got.after;
+    left.pairs = pairs;
+    left.rec = rec;
+    left.hops = hops;
+    left.bounds = bounds;
+    left.skips = skips;
+    left.even = even;
+    left.odd = odd;
+    let answer = got.answer;
+    match answer {
+        Reckoning::Searches(number) => answered(b'D', number, left),
+        Reckoning::Refused(word) => answered(word, 0, left),
     }
 }
 
-// A search from s.
-pub fn search(rec: Record, links: &[u64; 1024], sheet: &[u16; SIZE], s: u8) -> u8 {
-    let mut hops = [7u16; 256];
-    let mut even = [7u64; 4];
-    let mut odd = [7u64; 4];
-    let found = search::search_from(&mut hops, &mut even, &mut odd, rec, links, s);
-    searched(found, &hops, &even, &odd, sheet, s)
+// A search of the code s.
+pub fn search(m: Lent, s: u8) -> Answer {
+    let mut left = m;
+    let links = m.links;
+    let mut hops = m.hops;
+    let mut even = m.even;
+    let mut odd = m.odd;
+    let found = search::search_from(&mut hops, &mut even, &mut odd, m.rec, &links, s);
+    left.hops = hops;
+    left.even = even;
+    left.odd = odd;
+    match found {
+        Found::Reached(e) => answered(b'D', e, left),
+        Found::Refused(word) => answered(word, 0, left),
+    }
+}
+
+// ---- what they left
+
+// Whether two rows are the same.
+fn same_row(a: &[u64; 4], b: &[u64; 4]) -> bool {
+    let low = both(a[0] == b[0], a[1] == b[1]);
+    both(low, both(a[2] == b[2], a[3] == b[3]))
+}
+
+// Whether two maps are the same.
+fn same_map(a: Lent, b: Lent) -> bool {
+    let links = a.links;
+    let pairs = a.pairs;
+    let rec = a.rec;
+    let codes = rec.codes;
+    let old_links = b.links;
+    let old_pairs = b.pairs;
+    let old = b.rec;
+    let old_codes = old.codes;
+    let linked = same_words(&links, &old_links, 1024);
+    let paired = same_words(&pairs, &old_pairs, 1024);
+    let open = same_row(&codes, &old_codes);
+    let figures = both(rec.chain == old.chain, rec.count == old.count);
+    both(
+        both(linked, paired),
+        both(both(open, rec.number == old.number), figures),
+    )
+}
+
+// Whether the scratch of two is the same.
+fn same_scratch(a: Lent, b: Lent) -> bool {
+    let hops = a.hops;
+    let bounds = a.bounds;
+    let skips = a.skips;
+    let even = a.even;
+    let odd = a.odd;
+    let old_hops = b.hops;
+    let old_bounds = b.bounds;
+    let old_skips = b.skips;
+    let old_even = b.even;
+    let old_odd = b.odd;
+    let rows = both(same_row(&even, &old_even), same_row(&odd, &old_odd));
+    let marks = both(
+        same_numbers(&bounds, &old_bounds),
+        same_numbers(&skips, &old_skips),
+    );
+    both(both(rows, marks), same_numbers(&hops, &old_hops))
+}
+
+// Whether a call on m was refused with this number, with nothing changed.
+pub fn is_refused(got: Answer, m: Lent, number: u8) -> bool {
+    let refused = both(got.word == number, got.number == 0);
+    let left = got.left;
+    both(refused, both(same_map(left, m), same_scratch(left, m)))
+}
+
+// Whether an opening or a reckoning was accepted with this letter and has as many searches as marks; and, where rounds were run, every depot that was not
+// searched is covered.
+pub fn is_accepted(got: Answer, letter: u8, sheet: &Sheet) -> bool {
+    let left = got.left;
+    let skips = left.skips;
+    let rec = left.rec;
+    let counted = got.number == plain_search::searched(&skips);
+    let covered = match letter {
+        b'S' | b'D' => plain_search::are_covered(&skips, sheet, rec.chain),
+        _ => true,
+    };
+    both(got.word == letter, both(counted, covered))
+}
+
+// Whether a search of the code s found the distances and the eccentricity of the plain search.
+pub fn is_found(got: Answer, s: u8, sheet: &Sheet) -> bool {
+    let own = plain_search::wide(s);
+    let left = got.left;
+    let hops = left.hops;
+    let row = plain_search::row(plain_search::DISTANCES, own);
+    let farthest = got.number == read(sheet, plain_search::ECCENTRICITIES, own);
+    both(
+        both(got.word == b'D', farthest),
+        plain_search::numbers_are(&hops, sheet, row),
+    )
+}
+
+// Whether a map is that of the plain list, with the figures and farthest pairs of the plain search: every bit of the tables and the open set.
+pub fn is_true(m: Lent, sheet: &Sheet) -> bool {
+    let links = m.links;
+    let pairs = m.pairs;
+    let rec = m.rec;
+    let codes = rec.codes;
+    let linked = bits_are(&links, sheet, plain_search::LINKS, 65536);
+    let paired = bits_are(&pairs, sheet, plain_search::PAIRS, 65536);
+    let open = bits_are(&codes, sheet, plain_search::OPEN, 256);
+    let number = rec.number == read(sheet, plain_search::FIGURES, plain_search::NUMBER);
+    let chain = rec.chain == read(sheet, plain_search::FIGURES, plain_search::CHAIN);
+    let count = rec.count == read(sheet, plain_search::FIGURES, plain_search::COUNT) as u32;
+    both(
+        both(linked, paired),
+        both(open, both(number, both(chain, count))),
+    )
 }

@@ -1,7 +1,6 @@
-// The test program (rule 11.6): it runs openings, searches and reckonings beside a plain list and a plain search from each depot, and prints a line
+// The test program: it runs openings, searches and reckonings beside the plain list and a simple search from every depot, and prints a line
 // for each group of cases: how many were tried, and whether all came out as expected. A difference shows in the output.
 mod calls;
-mod compare;
 mod false_figures;
 mod histories;
 mod notices;
@@ -17,13 +16,13 @@ fn large() {
     print(b"256 depots in a path, chain 255, 1 pair: ", path);
     let complete = histories::ends(Kind::Complete, 1, 32640);
     print(b"256 depots, all linked, chain 1, 32640 pairs: ", complete);
-    let ring = histories::follow(tally::start(), Kind::Ring, 40, false);
+    let ring = histories::follow(tally::start(), Kind::Ring, 40);
     print(b"40 depots in a ring that closes: ", ring.tally);
 }
 
 fn main() {
     large();
-    let random = histories::follow(tally::start(), Kind::Random, 256, true);
+    let random = histories::follow(tally::start(), Kind::Random, 512);
     print(
         b"256 depots at random, refusals 1 to 8 in between: ",
         random.tally,

@@ -1,11 +1,13 @@
 // The notices of a history: depot j opens beside those of the earlier ones that its network links it to. A bent notice is one that is to be refused.
-use plain_search::sheet::code_of_byte;
+use plain_search::List;
+use plain_search::wide;
 
-// A notice: its code, how many neighbours its list has, and how many words the second layer row has that is lent with it, 3 being too few.
+// A notice: its code, its neighbours, the first so many of a list, and whether a buffer that is lent with it is short.
 pub struct Notice {
     pub code: u8,
+    pub list: List,
     pub count: usize,
-    pub row: usize,
+    pub short: bool,
 }
 
 // The networks, whose depots are numbered as they open. A ring closes with depot 39. At random, each depot is linked to one of the last four, and to
@@ -28,9 +30,9 @@ fn depot(v: usize) -> usize {
     109 * (v % 256 + 179) % 256
 }
 
-// The bit v of row u, by the codes of the depots i and j.
-pub fn place(i: usize, j: usize) -> usize {
-    256 * (code_of_byte(code(i)) % 256) + code_of_byte(code(j)) % 256
+// The place of the code v in the row of depot i.
+pub fn place(i: usize, v: u8) -> usize {
+    256 * (wide(code(i)) % 256) + wide(v) % 256
 }
 
 // A number that looks random, below 65,536.
@@ -76,24 +78,19 @@ fn joined(kind: Kind, i: usize, j: usize) -> bool {
     }
 }
 
-// Makes element i of the list v.
-fn put(list: &mut [u8], i: usize, v: u8) {
-    if i < list.len() {
-        list[i] = v;
-    }
-}
-
-// The length of the list with v behind its first n, if it is near.
-fn append(list: &mut [u8], n: usize, v: u8, near: bool) -> usize {
+// Puts v behind the first n of the list, if it is near. How many there are then.
+fn append(list: &mut List, n: usize, v: u8, near: bool) -> usize {
     if !near {
         return n;
     }
-    put(list, n, v);
-    n % 1024 + 1
+    if n < 258 {
+        list[n] = v;
+    }
+    n % 256 + 1
 }
 
-// The neighbours of depot j in rising order. How many they are.
-fn neighbours(list: &mut [u8], kind: Kind, j: usize) -> usize {
+// The neighbours of depot j in rising order, put into a list of zeros. How many they are.
+fn neighbours(list: &mut List, kind: Kind, j: usize) -> usize {
     let mut n = 0;
     let mut v: usize = 0;
     while v < 256 {
@@ -103,41 +100,32 @@ fn neighbours(list: &mut [u8], kind: Kind, j: usize) -> usize {
     n
 }
 
-// The ways to bend a call, 0 for none: each is the number that it is refused with. Of 2 (spoilt) and 3 (apart) the record is bent, of 4 (absent) the call is
-// a search: the history does that.
-pub const BENDS: usize = 8;
-
-// The number of neighbours of the bent list: none (6); one more, a 0 (7); or, alone, the next depot, which is closed, or the new one itself (8).
-fn bend(list: &mut [u8], n: usize, j: usize, bent: usize) -> usize {
-    match bent {
-        6 => 0,
-        7 => n % 1024 + 1,
-        8 => {
-            put(list, 0, code(j % 256 + (j % 2 + 1) % 2));
-            1
-        }
-        _ => n,
-    }
-}
-
-// The notice of depot j, bent. The list holds zeros.
-pub fn write(list: &mut [u8], kind: Kind, j: usize, bent: usize) -> Notice {
-    let n = neighbours(list, kind, j);
-    let count = bend(list, n, j, bent);
+// The notice of depot j. It is bent so that it is refused with the number `bent`, unless that is 0: 1, a short buffer; 5, the code of the depot before; 6, no
+// neighbours; 7, one neighbour more, a 0; 8, only one, the next depot, which is closed, or itself. Of 2 and 3 the record is bent, and 4 is a search.
+pub fn write(kind: Kind, j: usize, bent: usize) -> Notice {
+    let mut list = [0u8; 258];
+    let n = neighbours(&mut list, kind, j);
+    let short = bent == 1;
     let code = if bent == 5 {
         code(j % 256 + 255)
     } else {
         code(j)
     };
-    let row = if bent == 1 { 3 } else { 4 };
-    Notice { code, count, row }
-}
-
-// The neighbours of a notice: so many of the list as it says, the first ones.
-pub fn near(list: &[u8], n: Notice) -> &[u8] {
-    let size = n.count;
-    if list.len() < size {
-        return list;
+    let count = match bent {
+        6 => 0,
+        7 => n % 256 + 1,
+        8 => append(
+            &mut list,
+            0,
+            crate::notices::code(j % 256 + (j % 2 + 1) % 2),
+            true,
+        ),
+        _ => n,
+    };
+    Notice {
+        code,
+        list,
+        count,
+        short,
     }
-    &list[..size]
 }

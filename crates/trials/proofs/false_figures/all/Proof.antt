@@ -17,6 +17,6 @@ all-spec =
     (tie.spec
     Inv-loop
     μ-loop
-    (λ c. search needs) (λ c. search needs) (λ c. search needs) (λ c. search needs)  -- worked-requires, loop-holds, case-requires, seen-requires
+    (λ c. search needs) (λ c. search needs) (λ c. search needs) (λ c. search needs)  -- worked-requires, loop-holds, is-taken-requires, seen-requires
     (λ c. search needs) (λ c. search needs) (λ c. search needs)  -- add-k, loop-less, loop-again
     (λ c. search needs))  -- returns

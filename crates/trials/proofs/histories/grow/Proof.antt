@@ -6,10 +6,10 @@ use Rattle.trials.proofs.histories.grow.Statement.{statement}
 use Rattle.trials.proofs.histories.grow.Tie as tie
 
 abbrev Inv-loop : tie.InvT-loop
-Inv-loop links₀ pairs₀ sheet₀ kind calls mixed s₀ end c₀ links pairs sheet s c = (c ≤ end) × (end < 1024)
+Inv-loop sheet₀ kind calls s₀ end c₀ sheet s c = (c ≤ end) × (end < 1024)
 
 abbrev μ-loop : tie.MeasureT-loop
-μ-loop links₀ pairs₀ sheet₀ kind calls mixed s₀ end c₀ links pairs sheet s c = end - c
+μ-loop sheet₀ kind calls s₀ end c₀ sheet s c = end - c
 
 pub grow-spec : {M : Type 1} → statement M
 grow-spec =
@@ -17,7 +17,6 @@ grow-spec =
     (tie.spec
     Inv-loop
     μ-loop
-    (λ c. search needs) (λ c. search needs) (λ c. search needs)  -- fill-requires, with-false-figures-requires, empty-map-requires
-    (λ c. search needs) (λ c. search needs) (λ c. search needs) (λ c. search needs)  -- loop-holds, call-requires, add-c, loop-less
-    (λ c. search needs)  -- loop-again
+    (λ c. search needs) (λ c. search needs) (λ c. search needs) (λ c. search needs)  -- empty-requires, loop-holds, call-requires, add-c
+    (λ c. search needs) (λ c. search needs)  -- loop-less, loop-again
     (λ c. search needs))  -- returns

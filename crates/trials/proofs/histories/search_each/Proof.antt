@@ -6,10 +6,10 @@ use Rattle.trials.proofs.histories.search_each.Statement.{statement}
 use Rattle.trials.proofs.histories.search_each.Tie as tie
 
 abbrev Inv-loop : tie.InvT-loop
-Inv-loop links sheet t₀ rec v₀ t v = v ≤ 256
+Inv-loop sheet lent t₀ v₀ t v = v ≤ 256
 
 abbrev μ-loop : tie.MeasureT-loop
-μ-loop links sheet t₀ rec v₀ t v = 256 - v
+μ-loop sheet lent t₀ v₀ t v = 256 - v
 
 pub search-each-spec : {M : Type 1} → statement M
 search-each-spec =
@@ -17,6 +17,7 @@ search-each-spec =
     (tie.spec
     Inv-loop
     μ-loop
-    (λ c. search needs) (λ c. search needs) (λ c. search needs) (λ c. search needs)  -- loop-holds, cast-search, search-requires, search-word-requires
-    (λ c. search needs) (λ c. search needs) (λ c. search needs) (λ c. search needs)  -- seen-requires, add-v, loop-less, loop-again
+    (λ c. search needs) (λ c. search needs) (λ c. search needs)  -- is-reckoned-requires, seen-requires, loop-holds
+    (λ c. search needs) (λ c. search needs) (λ c. search needs) (λ c. search needs)  -- is-searched-requires, seen-requires-2, add-v, loop-less
+    (λ c. search needs)  -- loop-again
     (λ c. search needs))  -- returns

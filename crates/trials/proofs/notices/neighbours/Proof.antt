@@ -1,14 +1,12 @@
 -- `trials::notices::neighbours` is safe and ends: 256 turns.
 -- Assumes nothing.
 use Prim.Native.Nat.{_≤_, _-_}
-use mathlib.Core.Path.{_≡_}
-use lib.ListN.{length}
 use borrow.Author.Needs.{needs}
 use Rattle.trials.proofs.notices.neighbours.Statement.{statement}
 use Rattle.trials.proofs.notices.neighbours.Tie as tie
 
 abbrev Inv-loop : tie.InvT-loop
-Inv-loop list₀ kind j n₀ v₀ list n v = (v ≤ 256) × (length list ≡ length list₀)
+Inv-loop list₀ kind j n₀ v₀ list n v = v ≤ 256
 
 abbrev μ-loop : tie.MeasureT-loop
 μ-loop list₀ kind j n₀ v₀ list n v = 256 - v
@@ -21,5 +19,4 @@ neighbours-spec =
     μ-loop
     (λ c. search needs) (λ c. search needs) (λ c. search needs) (λ c. search needs)  -- loop-holds, cast-append, depot-requires, joined-requires
     (λ c. search needs) (λ c. search needs) (λ c. search needs) (λ c. search needs)  -- append-requires, add-v, loop-less, loop-again
-    (λ c. search needs)  -- same-length
     (λ c. search needs))  -- returns
