@@ -10,27 +10,6 @@ use borrow.Author.Needs.{needs}
 use Rattle.search.proofs.search_refusal.Statement.{statement}
 use Rattle.search.proofs.search_refusal.Tie as tie
 
-returns : tie.Need-returns
-returns c = refused-short base _ _ _ _ _ _ (room-table base _ _ _ _ (c .if1 .taken))
-
-returns-2 : tie.Need-returns-2
-returns-2 c =
-    let else1 : tie.Else1 = search in
-    refused-short base _ _ _ _ _ _ (room-hops base _ _ _ _ (else1 .if1 .left) (c .if2 .taken))
-
-returns-3 : tie.Need-returns-3
-returns-3 c =
-    let else2 : tie.Else2 = search in
-    let else1 : tie.Else1 = search in
-    refused-short base _ _ _ _ _ _ (room-even base _ _ _ _ (else1 .if1 .left) (else2 .if2 .left) (c .if3 .taken))
-
-returns-4 : tie.Need-returns-4
-returns-4 c =
-    let else3 : tie.Else3 = search in
-    let else2 : tie.Else2 = search in
-    let else1 : tie.Else1 = search in
-    refused-short base _ _ _ _ _ _ (room-odd base _ _ _ _ (else1 .if1 .left) (else2 .if2 .left) (else3 .if3 .left) (c .if4 .taken))
-
 slice-aggregate-links-are-sound : tie.Need-slice-aggregate-links-are-sound
 slice-aggregate-links-are-sound c = search needs
 
@@ -57,12 +36,7 @@ map-is-connected-requires c κs =
     let else5 : tie.Else5 = search in
     let after-links-are-sound : tie.After-links-are-sound = search in
     let else1 : tie.Else1 = search in (
-      record {
-        positive = omega arith;
-        most = omega arith;
-        rows = else1 .if1 .left;
-        row = omega (arith, slice-aggregate-map-is-connected c);
-      },
+      record { positive = omega arith; most = omega arith; rows = else1 .if1 .left; row = omega (arith, slice-aggregate-map-is-connected c) },
       sound-by _ _ _ _ (sym (after-links-are-sound .links-are-sound .ensures) ∙ not-false _ (else5 .if5 .left)),
     )
 
@@ -125,10 +99,10 @@ pub search-refusal-spec : {M : Type 1} → statement M
 search-refusal-spec =
     tie.close
     (tie.spec
-    returns
-    returns-2
-    returns-3
-    returns-4
+    (λ c. search (room-table, refused-short))  -- returns
+    (λ c. search (room-hops, refused-short))  -- returns-2
+    (λ c. search (room-even, refused-short))  -- returns-3
+    (λ c. search (room-odd, refused-short))  -- returns-4
     slice-aggregate-links-are-sound
     links-are-sound-requires
     returns-5
