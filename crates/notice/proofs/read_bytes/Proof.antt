@@ -15,9 +15,6 @@ Inv-loop digits frame₀ n i₀ frame i = (i ≤ n) × Copied (bytesOf digits) f
 abbrev μ-loop : tie.MeasureT-loop
 μ-loop digits frame₀ n i₀ frame i = n - i
 
-byte-at-requires : tie.Need-byte-at-requires Inv-loop μ-loop
-byte-at-requires c κs = search needs
-
 returns : tie.Need-returns Inv-loop μ-loop
 returns c =
     let at-loop : tie.At-loop Inv-loop μ-loop = search in
@@ -31,7 +28,7 @@ read-bytes-spec =
     Inv-loop
     μ-loop
     (λ c. search (copied-none, needs))  -- loop-holds
-    byte-at-requires
+    (λ c κs. search needs)  -- byte-at-requires
     (λ c. search needs)  -- slice-write-frame
     (λ c. search needs)  -- add-i
     (λ c. search needs)  -- loop-less
