@@ -1,22 +1,16 @@
 -- `admission::notice_refusal` meets its contract: the tests stand in the order of the refusals, and each answer is that of the first that holds.
 -- Assumes nothing.
-use native.Mathlib.Omega.{arith}
 use Rattle.lists.proofs.Tests.{test-failed, test-passed}
 use Rattle.admission.proofs.Notices.{shown, refused-taken, refused-lonely, refused-unsorted, refused-unknown, refused-never}
 use borrow.Author.Needs.{needs}
 use Rattle.admission.proofs.notice_refusal.Statement.{statement}
 use Rattle.admission.proofs.notice_refusal.Tie as tie
 
-is-open-requires : tie.Need-is-open-requires
-is-open-requires c κs =
-    let start : tie.Start = search in
-    (start .pre .2, omega (arith, start .pre .0, start .fits .code .fits))
-
 pub notice-refusal-spec : {M : Type 1} → statement M
 notice-refusal-spec =
     tie.close
     (tie.spec
-    is-open-requires
+    (λ c. search needs)  -- is-open-requires
     (λ c. search (refused-taken, shown))  -- returns
     (λ c. search needs)  -- is-lonely-requires
     (λ c. search (refused-lonely, shown))  -- returns-2
