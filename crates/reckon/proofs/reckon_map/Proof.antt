@@ -8,9 +8,6 @@ use Rattle.reckon.proofs.reckon_map.Statement.{statement}
 use Rattle.reckon.proofs.reckon_map.Tie as tie
 use Rattle.map.proofs.Theorems.{base-shape}
 
-slice-aggregate-run-rounds-3 : tie.Need-slice-aggregate-run-rounds-3
-slice-aggregate-run-rounds-3 c = search needs
-
 -- the way back, from each call to the one before it
 abbrev before-run-rounds : tie.After-run-rounds → tie.After-begin
 before-run-rounds c = search
@@ -24,19 +21,12 @@ run-rounds-requires : tie.Need-run-rounds-requires
 run-rounds-requires c κs =
     let after-begin : tie.After-begin = search back in
     let start : tie.Start = search back in
-    let pre = start .pre in
-    let k = after-begin .begin .kept in (
-      record { table = pre .0; hopPlaces = pre .2; evenRow = pre .5; oddRow = pre .6; seenRow = omega arith; nextRow = omega arith },
+    let pre = start .pre in (
+      search needs,
       begun-counted 4 257 _ _ _ _ _ _ (omega arith) (omega arith) (pre .1) (after-begin .begin .ensures .0),
-      record {
-        positive = omega arith;
-        most = omega arith;
-        boundPlaces = omega (arith, pre .3, k .1 .0);
-        skipPlaces = omega (arith, pre .4, k .1 .1 .0);
-        rankPlaces = omega (arith, slice-aggregate-run-rounds-3 c);
-      },
-      after-begin .begin .ensures .1,
-      omega arith,
+      search needs,
+      search needs,
+      search needs,
     )
 
 returns : tie.Need-returns
@@ -54,7 +44,7 @@ reckon-map-spec =
     (λ c. search needs)  -- begin-requires
     (λ c. search needs)  -- slice-aggregate-run-rounds
     (λ c. search needs)  -- slice-aggregate-run-rounds-2
-    slice-aggregate-run-rounds-3
+    (λ c. search needs)  -- slice-aggregate-run-rounds-3
     run-rounds-requires
     (λ c. search needs)  -- same-length
     (λ c. search needs)  -- same-length-2
