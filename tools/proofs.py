@@ -125,8 +125,7 @@ def one_search(par):
     match = re.search(rf'^{re.escape(name)} ([^:\n=]*) =\s+search ([\w-]+|\([\w\s,-]+\))\s*\Z', par, re.M)
     if not match:
         return None
-    rules = ' '.join(match.group(2).split())
-    return ROUTINE if rules == 'needs' else f'(λ {match.group(1)}. search {rules})'
+    return f'(λ {match.group(1)}. search {" ".join(match.group(2).split())})'
 
 
 def is_alone(par, pars):
@@ -137,7 +136,7 @@ def is_alone(par, pars):
 
 def is_routine(par):
     """an answer that says only `search needs`"""
-    return one_search(par) == ROUTINE
+    return (one_search(par) or '').endswith(' search needs)')
 
 
 def drop_routine(pars):
@@ -169,7 +168,7 @@ def packed(lines):
 
 def write_closing(pars, function, declared=()):
     """the last paragraph anew: `tie.spec` at each answer; one that is a `search` and that no other cites stands there itself, unless it is to stay
-    declared; and `search needs` where there is none"""
+    declared; and `search needs` where there is none. That enters the lifetimes by itself, but for those that are to stay declared"""
     last = max(i for i, par in enumerate(pars) if 'tie.close' in par)
     name, closing = signed(pars[last])[0], pars[last]
     searches = {}
@@ -177,9 +176,11 @@ def write_closing(pars, function, declared=()):
         match = re.match(r' +(\(λ .*\))  -- (\S+)$', line)
         if match:
             searches['Need-' + match.group(2)] = match.group(1)[:next(place for place, _, depth in walk(match.group(1)) if depth == 0) + 1]
-    for par in [par for par in pars if one_search(par) and is_alone(par, pars) and signed(par)[0] not in declared]:
-        searches[re.match(r'tie\.(\S+)', signed(par)[1]).group(1)] = one_search(par)
-        pars.remove(par)
+    for par in [par for par in pars if one_search(par) and is_alone(par, pars)]:
+        answer, type_ = signed(par)
+        if answer not in declared or is_routine(par):
+            searches[re.match(r'tie\.(\S+)', type_).group(1)] = ROUTINE if is_routine(par) and answer not in declared else one_search(par)
+            pars.remove(par)
     have, lines = answers(pars), []
     for asked in function.asked:
         if asked in have:

@@ -37,6 +37,10 @@ lonely-first W codes (x ∷ xs) n e = absurd (omega arith)
 
 -- ---- each refusal, by its test and those before it
 
+-- what a call has answered is true of what it asks
+pub shown : {r b v : Bool} → r ≡ b → r ≡ v → b ≡ v
+shown e h = sym e ∙ h
+
 module _ (W : ℕ) (codes : List ℕ) (code : ℕ) (ns : List ℕ) where
   abbrev G : Network
   G = networkOf W codes []

@@ -5,18 +5,10 @@ use borrow.Author.Needs.{needs}
 use Rattle.admission.proofs.is_lonely.Statement.{statement}
 use Rattle.admission.proofs.is_lonely.Tie as tie
 
-returns : tie.Need-returns
-returns c = lonely-named _ _ _ (c .if1 .taken)
-
-returns-2 : tie.Need-returns-2
-returns-2 c =
-    let else1 : tie.Else1 = search in
-    lonely-first _ _ _ (else1 .if1 .left) (c .is-empty .ensures)
-
 pub is-lonely-spec : {M : Type 1} → statement M
 is-lonely-spec =
     tie.close
     (tie.spec
-    returns
+    (λ c. search lonely-named)  -- returns
     (λ c. search needs)  -- is-empty-requires
-    returns-2)
+    (λ c. search lonely-first))  -- returns-2

@@ -2,7 +2,6 @@
 -- Assumes nothing.
 use mathlib.Core.Path.{sym}
 use Prim.Native.Nat.{ℕ, suc, _-_, _≤_, _<_}
-use native.Mathlib.Omega.{arith}
 use lib.ListN.{length, getD}
 use Rattle.admission.proofs.Listed.{risen-more, risen-all, fault-before}
 use borrow.Author.Needs.{needs}
@@ -15,20 +14,11 @@ Inv-loop neighbours i₀ i = (1 ≤ i) × ((k : ℕ) → suc k < i → getD neig
 abbrev μ-loop : tie.MeasureT-loop
 μ-loop neighbours i₀ i = length neighbours - i
 
-loop-holds : tie.Need-loop-holds Inv-loop μ-loop
-loop-holds c = (omega arith, λ k l. absurd (omega arith))
-
 returns : tie.Need-returns Inv-loop μ-loop
 returns c =
     let in-loop : tie.In-loop Inv-loop μ-loop = search in
     let at-loop : tie.At-loop Inv-loop μ-loop = search in
     sym (fault-before _ _ (at-loop .loop .inv .0) (in-loop .loop-test .taken) (c .if1 .taken))
-
-loop-again : tie.Need-loop-again Inv-loop μ-loop
-loop-again c =
-    let at-loop : tie.At-loop Inv-loop μ-loop = search in
-    let start : tie.Start Inv-loop μ-loop = search in
-    (omega arith, risen-more (start .args .neighbours .now) _ (at-loop .loop .inv .1) (c .if1 .left))
 
 returns-2 : tie.Need-returns-2 Inv-loop μ-loop
 returns-2 c =
@@ -41,9 +31,9 @@ is-rising-spec =
     (tie.spec
     Inv-loop
     μ-loop
-    loop-holds
-    (λ c. search needs) (λ c. search needs) (λ c. search needs)  -- shared-slice-read-if1, sub-if1, shared-slice-read-if1-2
+    (λ c. search needs) (λ c. search needs) (λ c. search needs)  -- loop-holds, shared-slice-read-if1, sub-if1
+    (λ c. search needs)  -- shared-slice-read-if1-2
     returns
     (λ c. search needs) (λ c. search needs)  -- add-i, loop-less
-    loop-again
+    (λ c. search (risen-more, needs))  -- loop-again
     returns-2)

@@ -1,6 +1,6 @@
 -- `admission::link_depot` meets its contract. The loop's invariant: the table is the old one with the links to the neighbours before place i. The
 -- measure is the places left. Assumes nothing.
-use mathlib.Core.Path.{_≡_, refl, _∙_}
+use mathlib.Core.Path.{_≡_, _∙_}
 use Prim.Native.Nat.{_-_}
 use native.Mathlib.Omega.{arith}
 use lib.ListN.{length, take}
@@ -18,8 +18,10 @@ abbrev μ-loop : tie.MeasureT-loop
 loop-holds : tie.Need-loop-holds Inv-loop μ-loop
 loop-holds c =
     let after-slice-known : tie.After-slice-known Inv-loop μ-loop = search in
-    let start : tie.Start Inv-loop μ-loop = search in
-    (refl, linked-start _ _ (start .args .neighbours .now) _ (start .pre .2) (λ i l. after-slice-known .slice-known .given i .fits))
+    let start : tie.Start Inv-loop μ-loop = search in (
+      search needs,
+      linked-start _ _ (start .args .neighbours .now) _ (start .pre .2) (λ i l. after-slice-known .slice-known .given i .fits),
+    )
 
 cast-v : tie.Need-cast-v Inv-loop μ-loop
 cast-v c =
@@ -58,10 +60,9 @@ loop-again c =
     let l = at-loop .loop in
     let there = after-row-set .row-set in
     let back = after-row-set2 .row-set2 in (
-      back .kept .0 ∙ there .kept .0 ∙ l .inv .0,
+      search needs,
       linked-turn (start .args .words) (start .args .code) (start .args .neighbours .now) (start .args .links .now) (l .i) (l .inv .1)
-          (there .ensures) (back .ensures)
-          (in-loop .loop-test .taken) (omega (arith, start .pre .0, start .fits .code .fits))
+          (there .ensures) (back .ensures) (in-loop .loop-test .taken) (omega (arith, start .pre .0, start .fits .code .fits))
           (omega (arith, start .pre .0, after-shared-slice-known2 .shared-slice-known2 .given (l .i))),
     )
 

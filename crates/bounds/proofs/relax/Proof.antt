@@ -13,9 +13,6 @@ Inv-loop bounds₀ skips₀ ranks₀ hops words r e c v₀ bounds skips ranks v 
 abbrev μ-loop : tie.MeasureT-loop
 μ-loop bounds₀ skips₀ ranks₀ hops words r e c v₀ bounds skips ranks v = 64 * words - v
 
-loop-holds : tie.Need-loop-holds Inv-loop μ-loop
-loop-holds c = relax-none _ _ _ _ _ _ _ _
-
 loop-again : tie.Need-loop-again Inv-loop μ-loop
 loop-again c =
     let after-skip-taken : tie.After-skip-taken Inv-loop μ-loop = search in
@@ -25,20 +22,13 @@ loop-again c =
     relax-more _ _ _ _ _ _ _ _ _ _ _ _ (at-loop .loop .inv) _ _ _ (after-gap .gap .ensures .0) (after-skip-taken .skip-taken .ensures)
     (c .rank-left .ensures) (in-loop .loop-test .taken) (omega arith) (omega arith) (omega arith)
 
-returns : tie.Need-returns Inv-loop μ-loop
-returns c =
-    let at-loop : tie.At-loop Inv-loop μ-loop = search in (
-      relax-end _ _ _ _ _ _ _ _ _ _ _ _ (at-loop .loop .inv) (c .loop-test .left),
-      relax-thinned _ _ _ _ _ _ _ _ _ _ _ _ (at-loop .loop .inv) (c .loop-test .left),
-    )
-
 pub relax-spec : {M : Type 1} → statement M
 relax-spec =
     tie.close
     (tie.spec
     Inv-loop
     μ-loop
-    loop-holds
+    (λ c. search relax-none)  -- loop-holds
     (λ c. search needs) (λ c. search needs) (λ c. search needs) (λ c. search needs)  -- mul-loop, mul-rank, slice-read-rank, mul-old
     (λ c. search needs) (λ c. search needs) (λ c. search needs) (λ c. search needs)  -- slice-read-old, mul-gap, shared-slice-read-gap, gap-requires
     (λ c. search needs) (λ c. search needs) (λ c. search needs) (λ c. search needs)  -- sub-b, mul-bounds, slice-write-bounds, mul-skip-taken
@@ -47,4 +37,4 @@ relax-spec =
     (λ c. search needs) (λ c. search needs) (λ c. search needs)  -- slice-write-ranks, add-v, loop-less
     loop-again
     (λ c. search needs) (λ c. search needs) (λ c. search needs)  -- same-length, same-length-2, same-length-3
-    returns)
+    (λ c. search (relax-end, relax-thinned)))  -- returns

@@ -9,11 +9,6 @@ use Rattle.reckon.proofs.reckon_all.Statement.{statement}
 use Rattle.reckon.proofs.reckon_all.Tie as tie
 use Rattle.map.proofs.Theorems.{base-shape}
 
-returns : tie.Need-returns
-returns c =
-    let after-reckon-refusal : tie.After-reckon-refusal = search in
-    refused-call base base-shape _ _ _ _ _ _ _ _ _ (after-reckon-refusal .reckon-refusal .ensures) (c .if1 .taken)
-
 slice-aggregate-reckon-map : tie.Need-slice-aggregate-reckon-map
 slice-aggregate-reckon-map c = search needs
 
@@ -47,7 +42,7 @@ reckon-all-spec =
     tie.close
     (tie.spec
     (λ c. search needs)  -- reckon-refusal-requires
-    returns
+    (λ c. search (refused-call, base-shape))  -- returns
     slice-aggregate-reckon-map
     reckon-map-requires
     (λ c. search needs) (λ c. search needs) (λ c. search needs) (λ c. search needs)  -- same-length, same-length-2, same-length-3, same-length-4

@@ -3,7 +3,6 @@
 use mathlib.Core.Path.{_≡_, sym, _∙_}
 use mathlib.Core.Bool.{true, not, _||_}
 use Prim.Native.Nat.{ℕ, _-_, _*_, _≤_, _<_}
-use native.Mathlib.Omega.{arith}
 use lib.Dec.{ltb}
 use lib.ListN.{getD}
 use borrow.Author.Tests.{not-true, not-false}
@@ -20,9 +19,6 @@ Inv-loop hops codes words v₀ v = (v ≤ 64 * words) × ((x : ℕ) → x < v �
 abbrev μ-loop : tie.MeasureT-loop
 μ-loop hops codes words v₀ v = 64 * words - v
 
-loop-holds : tie.Need-loop-holds Inv-loop μ-loop
-loop-holds c = (omega arith, all-none _)
-
 returns : tie.Need-returns Inv-loop μ-loop
 returns c =
     let after-is-reached : tie.After-is-reached Inv-loop μ-loop = search in
@@ -32,13 +28,10 @@ returns c =
 loop-again : tie.Need-loop-again Inv-loop μ-loop
 loop-again c =
     let after-is-reached : tie.After-is-reached Inv-loop μ-loop = search in
-    let at-loop : tie.At-loop Inv-loop μ-loop = search in
-    (omega arith, all-more _ _ (at-loop .loop .inv .1) (sym (after-is-reached .is-reached .ensures) ∙ not-false _ (c .if1 .left)))
-
-returns-2 : tie.Need-returns-2 Inv-loop μ-loop
-returns-2 c =
-    let at-loop : tie.At-loop Inv-loop μ-loop = search in
-    all-end _ _ _ (at-loop .loop .inv .1) (c .loop-test .left)
+    let at-loop : tie.At-loop Inv-loop μ-loop = search in (
+      search needs,
+      all-more _ _ (at-loop .loop .inv .1) (sym (after-is-reached .is-reached .ensures) ∙ not-false _ (c .if1 .left)),
+    )
 
 pub all-reached-spec : {M : Type 1} → statement M
 all-reached-spec =
@@ -46,9 +39,9 @@ all-reached-spec =
     (tie.spec
     Inv-loop
     μ-loop
-    loop-holds
+    (λ c. search (all-none, needs))  -- loop-holds
     (λ c. search needs) (λ c. search needs)  -- mul-loop, is-reached-requires
     returns
     (λ c. search needs) (λ c. search needs)  -- add-v, loop-less
     loop-again
-    returns-2)
+    (λ c. search all-end))  -- returns-2

@@ -9,11 +9,6 @@ use Rattle.search.proofs.search_from.Statement.{statement}
 use Rattle.search.proofs.search_from.Tie as tie
 use Rattle.map.proofs.Theorems.{base-shape}
 
-returns : tie.Need-returns
-returns c =
-    let after-search-refusal : tie.After-search-refusal = search in
-    refused-call base base-shape _ _ _ _ _ (after-search-refusal .search-refusal .ensures) (c .if1 .taken)
-
 search-table-requires : tie.Need-search-table-requires
 search-table-requires c κs =
     let else1 : tie.Else1 = search in
@@ -41,7 +36,7 @@ search-from-spec =
     tie.close
     (tie.spec
     (λ c. search needs)  -- search-refusal-requires
-    returns
+    (λ c. search (refused-call, base-shape))  -- returns
     (λ c. search needs) (λ c. search needs)  -- slice-aggregate-search-table, slice-aggregate-search-table-2
     search-table-requires
     (λ c. search needs) (λ c. search needs) (λ c. search needs)  -- same-length, same-length-2, same-length-3

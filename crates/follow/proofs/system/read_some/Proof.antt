@@ -1,7 +1,6 @@
 -- `follow::system::read_some` answers a count within the buffer. The measure is the tries left. Assumes nothing.
-use mathlib.Core.Path.{_≡_, refl, _∙_}
+use mathlib.Core.Path.{_≡_}
 use lib.ListN.{length}
-use native.Mathlib.Omega.{arith}
 use borrow.Author.Needs.{needs}
 use Rattle.follow.proofs.system.read_some.Statement.{statement}
 use Rattle.follow.proofs.system.read_some.Tie as tie
