@@ -1,3 +1,4 @@
+// Chain and pairs after a depot's insertion: grown, kept, or settled by rounds (rules 4.2 to 4.4), from the finished search of the new depot on.
 ghost use mathlib.Core.List.{[]};
 ghost use mathlib.Core.Path.{_≡_};
 ghost use Prim.Native.Nat.{_<_, _≤_};

@@ -1,3 +1,4 @@
+// The opening call, record in and out by value (rule 4): what refuses it, the links in place, then the figures.
 ghost use mathlib.Core.Path.{_≡_};
 ghost use mathlib.Core.Bool.{_||_};
 ghost use Prim.Native.Nat.{_≤_};

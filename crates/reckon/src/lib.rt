@@ -1,3 +1,4 @@
+// The whole reckoning (rule 5.5): what refuses it, then rounds from nothing, and the record with their figures.
 ghost use mathlib.Core.Path.{_≡_};
 ghost use Prim.Native.Nat.{_≤_};
 ghost use lib.ListN.{length};

@@ -1,3 +1,4 @@
+// Reference rounds over lent tables (rules 5.1 to 5.4), a round at a time. Rows of 1 to 512 words.
 ghost use mathlib.Core.List.{[]};
 ghost use mathlib.Core.Path.{_≡_};
 ghost use mathlib.Core.Bool.{cond};

@@ -1,3 +1,4 @@
+// The public search (rule 3), what refuses it, and whether a map hangs together.
 ghost use mathlib.Core.Path.{_≡_};
 ghost use mathlib.Core.List.{map};
 ghost use mathlib.Core.Bool.{_||_, not};
