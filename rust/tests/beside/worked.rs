@@ -32,7 +32,7 @@ fn defined(name: &str) -> u32 {
     text.parse().expect("a number")
 }
 
-/// Not document 01's, but a number too: header, archive and Rust crate are of one version.
+/// No number of the rules, but held all the same: header, archive and Rust crate are of one version.
 #[test]
 fn the_version() {
     let (major, minor) = (defined("ZORPEDI_VERSION_MAJOR"), defined("ZORPEDI_VERSION_MINOR"));
