@@ -10,11 +10,12 @@ use lib.Dec.{T, eqb, ltb}
 use lib.ListN.{length}
 use borrow.Author.Tests.{ltb-true, lt-ltb, eqb-true, eq-eqb}
 use Rattle.lists.proofs.Tests.{t→true, true→t, and-true, and-intro, same-test}
-use Rattle.graph.specs.Network.{Network, IsDist, IsGreatest, IsEcc, IsDiameter, IsFarthest}
+use Rattle.graph.specs.Network.{Network, IsDist, delivers, IsGreatest, IsEcc, IsDiameter, IsFarthest}
 use Rattle.graph.specs.Distance.{vertices, dist, connected}
 use Rattle.graph.specs.Chart.{chart, ecc, greatestEcc, diameter, Pairs, farthest}
 use Rattle.graph.specs.Correct.{IsNet}
 use Rattle.graph.proofs.Walks.{cast, walk-zero, dist-unique, dist-triangle, dist-self, dist-sym}
+use Rattle.graph.proofs.Delivers.{delivers-open}
 use Rattle.graph.proofs.Distances.{vertices-in, vertices-out, dist-is, dist-below}
 use Rattle.graph.proofs.Metric.{IsMetric, ecc-ge, ecc-at}
 use Rattle.graph.proofs.Right.{IsFar, IsRight, greatest-at, greatest-pair, right-is-greatest}
@@ -52,7 +53,7 @@ module _ (G : Network) (net : IsNet G) where
   pub chart-metric : IsMetric (chart G)
   unfolding chart
   chart-metric = record {
-    inside = λ v t. vertices-in G (net .sound) v (true→t t);
+    inside = λ v t. vertices-in G (net .sound) v (delivers-open G v (true→t t));
     symmetric = λ u v mu mv. let ou = vertices-out G (net .sound) mu in let ov = vertices-out G (net .sound) mv in chart-only u v (chart G .distance v u) ou ov (dist-sym (net .sound) (chart-dist v u ov ou));
     triangle = λ u v w mu mv mw.
         let ou = vertices-out G (net .sound) mu in let ov = vertices-out G (net .sound) mv in let ow = vertices-out G (net .sound) mw in
@@ -68,46 +69,46 @@ module _ (G : Network) (net : IsNet G) where
   -- ---- right figures are the published ones
 
   -- the chart's eccentricity is the eccentricity
-  pub chart-ecc : (u : ℕ) → T (G .isOpen u) → IsEcc G (G .isOpen) u (ecc (chart G) u)
+  pub chart-ecc : (u : ℕ) → T (G .isOpen u) → IsEcc G (delivers G) u (ecc (chart G) u)
   unfolding chart
   chart-ecc u ou = record {
-    upper = λ k x. subst (λ (n : ℕ). n ≤ ecc (chart G) u) (chart-only u (x .0) k ou (x .1) (x .2)) (ecc-ge (chart G) chart-metric u (x .0) (t→true (G .isOpen (x .0)) (x .1)));
+    upper = λ k x. subst (λ (n : ℕ). n ≤ ecc (chart G) u) (chart-only u (x .0) k ou (delivers-open G (x .0) (x .1)) (x .2)) (ecc-ge (chart G) chart-metric u (x .0) (t→true (delivers G (x .0)) (x .1)));
     attained = at (ecc-at (chart G) chart-metric u);
   }
     where
-      at : (ecc (chart G) u ≡ 0) ⊎ ((v : ℕ) × (G .isOpen v ≡ true) × (chart G .distance u v ≡ ecc (chart G) u)) → (ecc (chart G) u ≡ 0) ⊎ ((v : ℕ) × T (G .isOpen v) × IsDist G u v (ecc (chart G) u))
+      at : (ecc (chart G) u ≡ 0) ⊎ ((v : ℕ) × (delivers G v ≡ true) × (chart G .distance u v ≡ ecc (chart G) u)) → (ecc (chart G) u ≡ 0) ⊎ ((v : ℕ) × T (delivers G v) × IsDist G u v (ecc (chart G) u))
       at (inl z) = inl z
-      at (inr x) = inr (x .0, true→t (x .1), subst (λ (n : ℕ). IsDist G u (x .0) n) (x .2) (chart-dist u (x .0) ou (true→t (x .1))))
+      at (inr x) = inr (x .0, true→t (x .1), subst (λ (n : ℕ). IsDist G u (x .0) n) (x .2) (chart-dist u (x .0) ou (delivers-open G (x .0) (true→t (x .1)))))
 
   module _ (c : ℕ) (P : Pairs) (right : IsRight (chart G) c P) where
-    far-le : (u v k : ℕ) → T (G .isOpen u) → T (G .isOpen v) → IsDist G u v k → k ≤ c
+    far-le : (u v k : ℕ) → T (delivers G u) → T (delivers G v) → IsDist G u v k → k ≤ c
     unfolding chart
-    far-le u v k ou ov p = subst (λ (n : ℕ). n ≤ c) (chart-only u v k ou ov p) (right .upper u v (t→true (G .isOpen u) ou) (t→true (G .isOpen v) ov))
+    far-le u v k ou ov p = subst (λ (n : ℕ). n ≤ c) (chart-only u v k (delivers-open G u ou) (delivers-open G v ov) p) (right .upper u v (t→true (delivers G u) ou) (t→true (delivers G v) ov))
 
-    pub right-diameter : IsDiameter G (G .isOpen) c
+    pub right-diameter : IsDiameter G (delivers G) c
     unfolding chart
     right-diameter = record { upper = λ k x. up k (x .0) (x .1) (x .2 .attained); attained = at (right .attained) }
       where
-        up : (k u : ℕ) → T (G .isOpen u) → (k ≡ 0) ⊎ ((v : ℕ) × T (G .isOpen v) × IsDist G u v k) → k ≤ c
+        up : (k u : ℕ) → T (delivers G u) → (k ≡ 0) ⊎ ((v : ℕ) × T (delivers G v) × IsDist G u v k) → k ≤ c
         up k u ou (inl z) = omega arith
         up k u ou (inr x) = far-le u (x .0) k ou (x .1) (x .2)
 
-        at : (c ≡ 0) ⊎ ((u v : ℕ) × (G .isOpen u ≡ true) × (G .isOpen v ≡ true) × (chart G .distance u v ≡ c)) → (c ≡ 0) ⊎ ((u : ℕ) × T (G .isOpen u) × IsEcc G (G .isOpen) u c)
+        at : (c ≡ 0) ⊎ ((u v : ℕ) × (delivers G u ≡ true) × (delivers G v ≡ true) × (chart G .distance u v ≡ c)) → (c ≡ 0) ⊎ ((u : ℕ) × T (delivers G u) × IsEcc G (delivers G) u c)
         at (inl z) = inl z
         at (inr x) = inr (
           x .0,
           true→t (x .2),
           record {
             upper = λ k y. far-le (x .0) (y .0) k (true→t (x .2)) (y .1) (y .2);
-            attained = inr (x .1, true→t (x .3), subst (λ (n : ℕ). IsDist G (x .0) (x .1) n) (x .4) (chart-dist (x .0) (x .1) (true→t (x .2)) (true→t (x .3))));
+            attained = inr (x .1, true→t (x .3), subst (λ (n : ℕ). IsDist G (x .0) (x .1) n) (x .4) (chart-dist (x .0) (x .1) (delivers-open G (x .0) (true→t (x .2))) (delivers-open G (x .1) (true→t (x .3)))));
           },
         )
 
-    pub right-farthest : (u v : ℕ) → T (P u v) ↔ IsFarthest G (G .isOpen) u v
+    pub right-farthest : (u v : ℕ) → T (P u v) ↔ IsFarthest G (delivers G) u v
     unfolding chart
     right-farthest u v = (to, back)
       where
-        to : T (P u v) → IsFarthest G (G .isOpen) u v
+        to : T (P u v) → IsFarthest G (delivers G) u v
         to h =
             let p = right .isFar u v (t→true (P u v) h) in
             record {
@@ -116,16 +117,16 @@ module _ (G : Network) (net : IsNet G) where
               second = true→t (p .second);
               diameter = c;
               isDiameter = right-diameter;
-              isDist = subst (λ (n : ℕ). IsDist G u v n) (p .far) (chart-dist u v (true→t (p .first)) (true→t (p .second)));
+              isDist = subst (λ (n : ℕ). IsDist G u v n) (p .far) (chart-dist u v (delivers-open G u (true→t (p .first))) (delivers-open G v (true→t (p .second))));
             }
 
-        back : IsFarthest G (G .isOpen) u v → T (P u v)
+        back : IsFarthest G (delivers G) u v → T (P u v)
         back q =
             true→t (right .isPair u v record {
               before = q .before;
-              first = t→true (G .isOpen u) (q .first);
-              second = t→true (G .isOpen v) (q .second);
-              far = chart-only u v (q .diameter) (q .first) (q .second) (q .isDist) ∙ greatest-unique (q .isDiameter) right-diameter;
+              first = t→true (delivers G u) (q .first);
+              second = t→true (delivers G v) (q .second);
+              far = chart-only u v (q .diameter) (delivers-open G u (q .first)) (delivers-open G v (q .second)) (q .isDist) ∙ greatest-unique (q .isDiameter) right-diameter;
             })
 
 -- ---- the figures of a network, computed
@@ -135,11 +136,11 @@ module _ (G : Network) (net : IsNet G) where
   unfolding chart farthest diameter
   farthest-right = record {
     upper = λ u v tu tv. subst (λ (n : ℕ). chart G .distance u v ≤ n) dia (greatest-pair (chart G) M u v tu tv);
-    attained = subst (λ (n : ℕ). (n ≡ 0) ⊎ ((u v : ℕ) × (G .isOpen u ≡ true) × (G .isOpen v ≡ true) × (chart G .distance u v ≡ n))) dia (greatest-at (chart G) M);
+    attained = subst (λ (n : ℕ). (n ≡ 0) ⊎ ((u v : ℕ) × (delivers G u ≡ true) × (delivers G v ≡ true) × (chart G .distance u v ≡ n))) dia (greatest-at (chart G) M);
     isFar = λ u v h.
-        let p = and-true (ltb u v && G .isOpen u && G .isOpen v) (eqb (chart G .distance u v) (diameter G)) h in
-        let q = and-true (ltb u v && G .isOpen u) (G .isOpen v) (p .0) in
-        let r = and-true (ltb u v) (G .isOpen u) (q .0) in
+        let p = and-true (ltb u v && delivers G u && delivers G v) (eqb (chart G .distance u v) (diameter G)) h in
+        let q = and-true (ltb u v && delivers G u) (delivers G v) (p .0) in
+        let r = and-true (ltb u v) (delivers G u) (q .0) in
         record { before = ltb-true u v (r .0); first = r .1; second = q .1; far = eqb-true (chart G .distance u v) (diameter G) (p .1) };
     isPair = λ u v p. and-intro (and-intro (and-intro (lt-ltb u v (p .before)) (p .first)) (p .second)) (eq-eqb (chart G .distance u v) (diameter G) (p .far));
   }

@@ -1,4 +1,5 @@
 pub mod Walks
+pub mod Delivers
 pub mod Distances
 pub mod Layers
 pub mod Insertion
@@ -14,6 +15,7 @@ pub mod Searched
 pub mod Skipped
 pub mod Theorems
 pub mod SoundFigures
+pub mod Updates
 pub mod Rules
 pub mod Apart
 pub mod Refusals

@@ -10,10 +10,10 @@ use lib.Dec.{T, eqb, ltb}
 use lib.ListN.{length}
 use borrow.Author.Tests.{lt-ltb, eqb-true, eq-eqb, not-false}
 use Rattle.lists.specs.Lists.{allb, memb, distinct, firstOf}
-use Rattle.lists.proofs.Tests.{t→true, true→t, false→not, clash, and-true, and-intro, or-true, or-left, or-right}
+use Rattle.lists.proofs.Tests.{t→true, true→t, false→not, clash, and-true, and-intro, or-true, or-left, or-right, not→false}
 use Rattle.lists.proofs.Members.{first-zero, all-elim, memb-in, in-memb}
 use Rattle.lists.proofs.Distinct.{insert-memb, insert-distinct, insert-length}
-use Rattle.graph.specs.Network.{Network, IsSound, Walk, stay}
+use Rattle.graph.specs.Network.{Network, IsSound, Walk, stay, delivers}
 use Rattle.graph.specs.Distance.{vertices, unreached, connected}
 use Rattle.graph.specs.Chart.{chart}
 use Rattle.graph.specs.Opening.{Notice, addDepot, strictlyRising, isEmpty, noticeFaults, openFaults}
@@ -23,6 +23,7 @@ use Rattle.graph.proofs.Distances.{vertices-in}
 use Rattle.graph.proofs.Insertion.{walk-old, insertion, opened-grown}
 use Rattle.graph.proofs.OpeningCases.{IsInserted}
 use Rattle.graph.proofs.Charts.{chart-dist, chart-only}
+use Rattle.graph.proofs.Delivers.{delivers-open}
 
 -- an opening that no refusal hits, with room for one more: the code is closed, the neighbours are open, and there is one unless the map is empty
 pub record IsAdmitted (G : Network) (a : ℕ) (beside : ℕ → Bool) : Type 0 where
@@ -141,20 +142,33 @@ module _ (key : ℕ → ℕ) (G : Network) (net : IsNet G) (a : ℕ) (beside : �
       join : (u v : ℕ) → (k : ℕ) × Walk H k u a → (k : ℕ) × Walk H k v a → (k : ℕ) × Walk H k u v
       join u v p q = (p .0 + q .0, append (p .1) (reverse opened-sound (q .1)))
 
+  -- an old destination stays one; the new depot is one (decision 21), and nothing else is
+  delivers-old : (v : ℕ) → T (delivers G v) → T (delivers H v)
+  unfolding delivers
+  delivers-old v t = open-old v t
+
+  delivers-back : (v : ℕ) → T (delivers H v) → (v ≡ a) ⊎ T (delivers G v)
+  unfolding delivers
+  delivers-back v t = open-cases v t
+
+  delivers-new : T (delivers H a)
+  unfolding delivers
+  delivers-new = open-new
+
   -- the chart after is the chart before with a inserted
   pub inserted : IsInserted (chart G) (chart H) a
   unfolding chart
   inserted = record {
-    new = t→true (H .isOpen a) open-new;
-    fresh = good .fresh;
-    old = λ v t. t→true (H .isOpen v) (open-old v (true→t t));
-    back = λ v t. back v (open-cases v (true→t t));
-    through = λ u v tu tv. thru u v (true→t tu) (true→t tv);
+    new = t→true (delivers H a) delivers-new;
+    fresh = not→false (delivers G a) (λ t. not-a a (delivers-open G a t) refl);
+    old = λ v t. t→true (delivers H v) (delivers-old v (true→t t));
+    back = λ v t. back v (delivers-back v (true→t t));
+    through = λ u v tu tv. thru u v (delivers-open G u (true→t tu)) (delivers-open G v (true→t tv));
   }
     where
-      back : (v : ℕ) → (v ≡ a) ⊎ T (G .isOpen v) → (v ≡ a) ⊎ (G .isOpen v ≡ true)
+      back : (v : ℕ) → (v ≡ a) ⊎ T (delivers G v) → (v ≡ a) ⊎ (delivers G v ≡ true)
       back v (inl q) = inl q
-      back v (inr o) = inr (t→true (G .isOpen v) o)
+      back v (inr t) = inr (t→true (delivers G v) t)
 
       thru : (u v : ℕ) → T (G .isOpen u) → T (G .isOpen v) → chart H .distance u v ≡ min (chart G .distance u v) (chart H .distance a u + chart H .distance a v)
       thru u v ou ov =

@@ -11,12 +11,13 @@ use lib.ListN.{length}
 use Rattle.lists.specs.Lists.{maxOf}
 use Rattle.lists.proofs.Tests.{clash, true→t, and-true, or-true}
 use Rattle.lists.proofs.Counts.{max-le-of}
-use Rattle.graph.specs.Network.{Network, IsDist}
+use Rattle.graph.specs.Network.{Network, IsDist, delivers}
 use Rattle.graph.specs.Distance.{vertices}
 use Rattle.graph.specs.Chart.{Chart, chart, ecc, Pairs, ownPairs}
 use Rattle.graph.specs.Rounds.{State, raise, joinPairs, round, pick, remaining, orStop, rounds, start}
 use Rattle.graph.specs.Opening.{via, stayingPairs, anyPair, shrunkCandidate, searchedOnce, openCase, opening}
 use Rattle.graph.specs.Correct.{IsNet}
+use Rattle.graph.proofs.Delivers.{delivers-open}
 use Rattle.graph.proofs.Walks.{dist-self}
 use Rattle.graph.proofs.Metric.{IsMetric}
 use Rattle.graph.proofs.Round.{own-is}
@@ -27,7 +28,7 @@ abbrev pub JoinRising : Chart → Pairs → Type 0
 JoinRising C P = (u v : ℕ) → P u v ≡ true → (ltb u v ≡ true) × (C .isDestination u ≡ true) × (C .isDestination v ≡ true)
 
 -- the chain c and the pairs P are sound: c is below the limit
-pub record AreSound (C : Chart) (limit c : ℕ) (P : Pairs) : Type 0 where
+pub record SoundIn (C : Chart) (limit c : ℕ) (P : Pairs) : Type 0 where
   pub below : c < limit
   pub pairs : JoinRising C P
 
@@ -68,26 +69,26 @@ module _ (C : Chart) (metric : IsMetric C) where
         go true t = let m : ecc C r < limit = most r t in omega arith
         go false t = l
 
-    round-sound : (r : ℕ) (S : State) → AreSound C limit (S .candidate) (S .pairs) → AreSound C limit (round C r S .candidate) (round C r S .pairs)
+    round-sound : (r : ℕ) (S : State) → SoundIn C limit (S .candidate) (S .pairs) → SoundIn C limit (round C r S .candidate) (round C r S .pairs)
     unfolding round
     round-sound r S s = record {
       below = raised-below r (S .candidate) (s .below);
       pairs = joined-rising r (ecc C r) (S .candidate) (S .pairs) (s .pairs);
     }
 
-    rounds-sound : (k : ℕ) (S : State) → AreSound C limit (S .candidate) (S .pairs) → AreSound C limit (rounds C k S .candidate) (rounds C k S .pairs)
+    rounds-sound : (k : ℕ) (S : State) → SoundIn C limit (S .candidate) (S .pairs) → SoundIn C limit (rounds C k S .candidate) (rounds C k S .pairs)
     unfolding rounds orStop
     rounds-sound zero S s = s
     rounds-sound (suc k) S s = go (pick C (remaining C S)) (λ r. rounds-sound k (round C r S) (round-sound r S s))
       where
-        go : (o : Option ℕ) → ((r : ℕ) → AreSound C limit (rounds C k (round C r S) .candidate) (rounds C k (round C r S) .pairs))
-            → AreSound C limit (orStop o S (λ r. rounds C k (round C r S)) .candidate) (orStop o S (λ r. rounds C k (round C r S)) .pairs)
+        go : (o : Option ℕ) → ((r : ℕ) → SoundIn C limit (rounds C k (round C r S) .candidate) (rounds C k (round C r S) .pairs))
+            → SoundIn C limit (orStop o S (λ r. rounds C k (round C r S)) .candidate) (orStop o S (λ r. rounds C k (round C r S)) .pairs)
         go none ih = s
         go (some r) ih = ih r
 
     -- ---- AN OPENING
 
-    module _ (a : ℕ) (new : C .isDestination a ≡ true) (D : ℕ) (P : Pairs) (were : AreSound C limit D P) where
+    module _ (a : ℕ) (new : C .isDestination a ≡ true) (D : ℕ) (P : Pairs) (were : SoundIn C limit D P) where
       shrunk-below : shrunkCandidate C a D P < limit
       unfolding shrunkCandidate
       shrunk-below =
@@ -100,15 +101,15 @@ module _ (C : Chart) (metric : IsMetric C) where
           go u v false = zero-le
           go u v true = omega arith
 
-      start-sound : AreSound C limit (start (shrunkCandidate C a D P) .candidate) (start (shrunkCandidate C a D P) .pairs)
+      start-sound : SoundIn C limit (start (shrunkCandidate C a D P) .candidate) (start (shrunkCandidate C a D P) .pairs)
       unfolding start
       start-sound = record { below = shrunk-below; pairs = λ u v h. absurd (clash h refl) }
 
-      pub opening-sound : AreSound C limit (opening C a D P .final .candidate) (opening C a D P .final .pairs)
+      pub opening-sound : SoundIn C limit (opening C a D P .final .candidate) (opening C a D P .final .pairs)
       unfolding opening openCase searchedOnce
       opening-sound = go (ltb D (ecc C a)) (eqb (ecc C a) D) (anyPair (C .depots) (stayingPairs C a D P))
         where
-          go : (b s k : Bool) → AreSound C limit (openCase b s k C a D P .final .candidate) (openCase b s k C a D P .final .pairs)
+          go : (b s k : Bool) → SoundIn C limit (openCase b s k C a D P .final .candidate) (openCase b s k C a D P .final .pairs)
           go true s k = record { below = most a new; pairs = own-rising a (ecc C a) }
           go false true k = record {
             below = were .below;
@@ -122,8 +123,11 @@ module _ (C : Chart) (metric : IsMetric C) where
 -- an eccentricity is below the number of depots
 pub ecc-below : (G : Network) → IsNet G → (v : ℕ) → chart G .isDestination v ≡ true → ecc (chart G) v < length (vertices G)
 unfolding chart
-ecc-below G net v t = go (eccentricity-is G net v (true→t t) .attained)
+ecc-below G net v t = go (eccentricity-is G net v ov .attained)
   where
-    go : (ecc (chart G) v ≡ 0) ⊎ ((w : ℕ) × T (G .isOpen w) × IsDist G v w (ecc (chart G) v)) → ecc (chart G) v < length (vertices G)
-    go (inl z) = omega (arith, distance-below G net v v 0 (true→t t) dist-self)
-    go (inr x) = distance-below G net v (x .0) (ecc (chart G) v) (true→t t) (x .2)
+    ov : T (G .isOpen v)
+    ov = delivers-open G v (true→t t)
+
+    go : (ecc (chart G) v ≡ 0) ⊎ ((w : ℕ) × T (delivers G w) × IsDist G v w (ecc (chart G) v)) → ecc (chart G) v < length (vertices G)
+    go (inl z) = omega (arith, distance-below G net v v 0 ov dist-self)
+    go (inr x) = distance-below G net v (x .0) (ecc (chart G) v) ov (x .2)

@@ -10,7 +10,7 @@ use borrow.Author.Tests.{not-true}
 use Rattle.lists.specs.Lists.{countb, memb, firstOf}
 use Rattle.lists.proofs.Tests.{t→true, true→t, same-test}
 use Rattle.lists.proofs.Distinct.{counted-use}
-use Rattle.graph.specs.Network.{Network, IsDist, IsEcc, IsDiameter, IsFarthest, AreTrue}
+use Rattle.graph.specs.Network.{Network, IsDist, delivers, IsEcc, IsDiameter, IsFarthest, AreTrue}
 use Rattle.graph.specs.Distance.{vertices, unreached, dist}
 use Rattle.graph.specs.Chart.{chart, ecc, diameter, Pairs, farthest}
 use Rattle.graph.specs.Rounds.{Status, waiting, skipped, searched, State, reckon}
@@ -35,30 +35,30 @@ module _ (G : Network) (net : IsNet G) where
   pub distance-below : (u v d : ℕ) → T (G .isOpen u) → IsDist G u v d → d < length (vertices G)
   distance-below u v d ou p = dist-below G (net .sound) (net .small) u ou d v p
 
-  pub eccentricity-is : (u : ℕ) → T (G .isOpen u) → IsEcc G (G .isOpen) u (ecc (chart G) u)
+  pub eccentricity-is : (u : ℕ) → T (G .isOpen u) → IsEcc G (delivers G) u (ecc (chart G) u)
   eccentricity-is u ou = chart-ecc G net u ou
 
-  pub diameter-is : IsDiameter G (G .isOpen) (diameter G)
+  pub diameter-is : IsDiameter G (delivers G) (diameter G)
   diameter-is = right-diameter G net (diameter G) (farthest G) (farthest-right G net)
 
-  pub farthest-is : (u v : ℕ) → T (farthest G u v) ↔ IsFarthest G (G .isOpen) u v
+  pub farthest-is : (u v : ℕ) → T (farthest G u v) ↔ IsFarthest G (delivers G) u v
   farthest-is = right-farthest G net (diameter G) (farthest G) (farthest-right G net)
 
-  pub figures-are : AreTrue G (G .isOpen) (diameter G) (farthest G)
+  pub figures-are : AreTrue G (delivers G) (diameter G) (farthest G)
   figures-are = record { chain = diameter-is; pairs = farthest-is }
 
   -- true figures are one: the diameter and the farthest pairs of the network
-  pub true-chain : (D : ℕ) (P : Pairs) → AreTrue G (G .isOpen) D P → D ≡ diameter G
+  pub true-chain : (D : ℕ) (P : Pairs) → AreTrue G (delivers G) D P → D ≡ diameter G
   true-chain D P were = greatest-unique (were .chain) diameter-is
 
-  pub true-pairs : (D : ℕ) (P : Pairs) → AreTrue G (G .isOpen) D P → P ≡ farthest G
+  pub true-pairs : (D : ℕ) (P : Pairs) → AreTrue G (delivers G) D P → P ≡ farthest G
   true-pairs D P were =
       fun-ext (λ u. fun-ext (λ v. same-test (P u v) (farthest G u v)
       (λ h. t→true (farthest G u v) (farthest-is u v .1 (were .pairs u v .0 (true→t h))))
       (λ h. t→true (P u v) (were .pairs u v .1 (farthest-is u v .0 (true→t h))))))
 
   -- a search from r bounds every eccentricity: e(v) ≤ e(r) + d(r,v)
-  pub eccentricity-bound : (r v e f d : ℕ) → T (G .isOpen r) → T (G .isOpen v) → IsEcc G (G .isOpen) v e → IsEcc G (G .isOpen) r f → IsDist G r v d → e ≤ f + d
+  pub eccentricity-bound : (r v e f d : ℕ) → T (G .isOpen r) → T (G .isOpen v) → IsEcc G (delivers G) v e → IsEcc G (delivers G) r f → IsDist G r v d → e ≤ f + d
   eccentricity-bound r v e f d or ov p q w =
       let a : e ≡ ecc (chart G) v = greatest-unique p (chart-ecc G net v ov) in
       let b : f ≡ ecc (chart G) r = greatest-unique q (chart-ecc G net r or) in
@@ -86,7 +86,7 @@ module _ (G : Network) (net : IsNet G) where
       go v ov (skipped b g) f =
           let og = depot-out G net (R .inside g (f .1)) in
           (true→t (ap not (f .0)), true→t (f .1), (ecc (chart G) g, chart G .distance g v, chart-ecc G net g og, chart-dist G net g v og ov, f .2))
-      go v ov (searched e) f = (true→t (f .0), subst (λ (n : ℕ). IsEcc G (G .isOpen) v n) (sym (f .1)) (chart-ecc G net v ov))
+      go v ov (searched e) f = (true→t (f .0), subst (λ (n : ℕ). IsEcc G (delivers G) v n) (sym (f .1)) (chart-ecc G net v ov))
 
   cover-of : (S : State) → ReferencesIn (chart G) S → CoveredIn (chart G) S → AllCovered G S
   cover-of S R cover v ov n =
@@ -155,7 +155,7 @@ module _ (G : Network) (net : IsNet G) (o : Notice) (room : suc (length (vertice
         cover = λ q. cover-of H net-after (opening (chart H) a D P .final) R (opening-cover (chart H) m a new D small P q);
       }
 
-  module _ (were : AreTrue G (G .isOpen) D P) where
+  module _ (were : AreTrue G (delivers G) D P) where
     stored-right : IsRight (chart G) D P
     stored-right =
         subst (λ (c : ℕ). IsRight (chart G) c P) (sym (true-chain G net D P were))

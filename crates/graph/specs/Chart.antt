@@ -6,7 +6,7 @@ use mathlib.Core.List.{List}
 use Prim.Native.Nat.{ℕ}
 use lib.Dec.{eqb, ltb}
 use Rattle.lists.specs.Lists.{filterb, countb, sumOf, maxOf}
-use Rattle.graph.specs.Network.{Network}
+use Rattle.graph.specs.Network.{Network, delivers}
 use Rattle.graph.specs.Distance.{vertices, dist}
 
 -- open depots in their order, which of them are destinations, degrees, distances
@@ -16,10 +16,10 @@ pub record Chart : Type 0 where
   pub degree : ℕ → ℕ
   pub distance : ℕ → ℕ → ℕ
 
--- every open depot is a destination (decision 21); the degree counts every neighbour (rule 1.7)
+-- the degree counts every neighbour (rule 1.7)
 unfoldable pub chart : Network → Chart
-unfolding countb dist
-chart G = let vs = vertices G in record { depots = vs; isDestination = G .isOpen; degree = λ u. countb (G .linked u) vs; distance = dist G }
+unfolding countb dist delivers
+chart G = let vs = vertices G in record { depots = vs; isDestination = delivers G; degree = λ u. countb (G .linked u) vs; distance = dist G }
 
 unfoldable pub destinations : Chart → List ℕ
 unfolding filterb
@@ -46,8 +46,8 @@ Pairs = ℕ → ℕ → Bool
 
 -- the farthest pairs
 unfoldable pub farthest : Network → Pairs
-unfolding dist diameter
-farthest G u v = ltb u v && G .isOpen u && G .isOpen v && eqb (dist G u v) (diameter G)
+unfolding dist diameter delivers
+farthest G u v = ltb u v && delivers G u && delivers G v && eqb (dist G u v) (diameter G)
 
 -- the number of pairs among the depots vs
 unfoldable pub countPairs : List ℕ → Pairs → ℕ

@@ -1,5 +1,6 @@
 -- WHAT IS PROVED of the steps above, by the published words of Network.antt. The theorems stand in proofs/Theorems.antt:
--- `reckoning-correct`, `opening-correct` (on true stored figures), `opening-covered` and `opening-says` (on any stored figures).
+-- `reckoning-correct`, `opening-correct` (on true stored figures), `opening-covered` and `opening-says` (on any stored figures). Updates.antt joins
+-- what every kind of update owes.
 -- Assumes nothing.
 use mathlib.Core.Path.{_≡_}
 use mathlib.Core.Bool.{not}
@@ -8,8 +9,9 @@ use Prim.Native.Nat.{ℕ, _+_, _<_}
 use lib.Dec.{T}
 use lib.ListN.{length}
 use Rattle.lists.specs.Lists.{countb, memb}
-use Rattle.graph.specs.Network.{Network, IsSound, IsConnected, IsDist, IsEcc, AreTrue}
+use Rattle.graph.specs.Network.{Network, IsSound, IsConnected, IsDist, delivers, IsEcc, AreTrue}
 use Rattle.graph.specs.Distance.{vertices, unreached}
+use Rattle.graph.specs.Chart.{Pairs}
 use Rattle.graph.specs.Rounds.{Status, waiting, skipped, searched, isWaiting, State}
 use Rattle.graph.specs.Opening.{Change, grew, kept, shrank, Opened}
 
@@ -24,7 +26,7 @@ pub record IsCovered (G : Network) (references : List ℕ) (chain v : ℕ) : Typ
   pub reference : ℕ
   pub isReference : T (memb reference references)
   pub ecc : ℕ
-  pub isEcc : IsEcc G (G .isOpen) reference ecc
+  pub isEcc : IsEcc G (delivers G) reference ecc
   pub distance : ℕ
   pub isDist : IsDist G reference v distance
   pub below : ecc + distance < chain
@@ -33,8 +35,8 @@ pub record IsCovered (G : Network) (references : List ℕ) (chain v : ℕ) : Typ
 abbrev pub Stands : Network → List ℕ → ℕ → Status → Type 0
 Stands G references v (waiting b g) = T (not (memb v references))
 Stands G references v (skipped b g) =
-    T (not (memb v references)) × T (memb g references) × ((e : ℕ) × (d : ℕ) × IsEcc G (G .isOpen) g e × IsDist G g v d × (b ≡ e + d))
-Stands G references v (searched e) = T (memb v references) × IsEcc G (G .isOpen) v e
+    T (not (memb v references)) × T (memb g references) × ((e : ℕ) × (d : ℕ) × IsEcc G (delivers G) g e × IsDist G g v d × (b ≡ e + d))
+Stands G references v (searched e) = T (memb v references) × IsEcc G (delivers G) v e
 
 -- the references of a state: open depots, none twice, marked exactly as searched
 pub record AreReferences (G : Network) (S : State) : Type 0 where
@@ -50,7 +52,7 @@ AllCovered G S = (v : ℕ) → T (G .isOpen v) → T (not (memb v (S .references
 pub record IsSkipped (G : Network) (references : List ℕ) (chain v reference bound : ℕ) : Type 0 where
   pub isReference : T (memb reference references)
   pub ecc : ℕ
-  pub isEcc : IsEcc G (G .isOpen) reference ecc
+  pub isEcc : IsEcc G (delivers G) reference ecc
   pub distance : ℕ
   pub isDist : IsDist G reference v distance
   pub isBound : bound ≡ ecc + distance
@@ -69,7 +71,7 @@ pub record IsOneSearch (a : ℕ) (S : State) : Type 0 where
 
 -- a whole reckoning
 pub record IsReckoned (G : Network) (S : State) : Type 0 where
-  pub figures : AreTrue G (G .isOpen) (S .candidate) (S .pairs)
+  pub figures : AreTrue G (delivers G) (S .candidate) (S .pairs)
   pub references : AreReferences G S
   pub cover : AllCovered G S
 
@@ -79,7 +81,7 @@ Moved grew D E = D < E
 Moved kept D E = D ≡ E
 Moved shrank D E = E < D
 
--- an opening, H being the network with the new depot: its references, and the cover after a shrink (whatever figures were stored)
+-- an update, H being the network after it: its references, and the cover after a shrink (whatever figures were stored)
 pub record IsSearched (H : Network) (o : Opened) : Type 0 where
   pub references : AreReferences H (o .final)
   pub cover : o .change ≡ shrank → AllCovered H (o .final)
@@ -90,8 +92,13 @@ pub record IsSettled (H : Network) (a : ℕ) (o : Opened) : Type 0 where
   pub once : (o .change ≡ shrank → ⊥) → IsOneSearch a (o .final)
   pub skipped : o .change ≡ shrank → AllSkipped H (o .final)
 
--- an opening on a map whose chain D was true
+-- an update of a map whose chain D was true
 pub record IsOpened (H : Network) (D : ℕ) (o : Opened) : Type 0 where
-  pub figures : AreTrue H (H .isOpen) (o .final .candidate) (o .final .pairs)
+  pub figures : AreTrue H (delivers H) (o .final .candidate) (o .final .pairs)
   pub change : Moved (o .change) D (o .final .candidate)
   pub searched : IsSearched H o
+
+-- Stored figures are sound, true or not: the chain is below the limit, and every pair joins two destinations u < v.
+pub record AreSound (G : Network) (limit D : ℕ) (P : Pairs) : Type 0 where
+  pub below : D < limit
+  pub pairs : (u v : ℕ) → T (P u v) → (u < v) × T (delivers G u) × T (delivers G v)

@@ -11,9 +11,11 @@ pub mod Rounds
 pub mod Opening
 -- 6. what is proved of 2 to 5, by the words of 1. Calls on lent memory cite `IsCovered` and `IsSkipped`; nobody has to believe the others
 pub mod Correct
--- 7. the refusals that speak of the network alone, by the words of 1
+-- 7. what a call asks of the network, and what each kind of update owes
+pub mod Updates
+-- 8. the refusals that speak of the network alone, by the words of 1
 pub mod Refusals
--- 8. the worked cases of the rules, computed; crate `cases` cites their inputs (`path`, `sevenLines`) and `AnswerLine`
+-- 9. the worked cases of the rules, computed; crate `cases` cites their inputs (`path`, `sevenLines`) and `AnswerLine`
 pub mod Cases
--- 9. further cases, one for each rule that those leave open. Nobody has to believe this file
+-- 10. further cases, one for each rule that those leave open. Nobody has to believe this file
 pub mod RuleCases

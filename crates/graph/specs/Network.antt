@@ -44,7 +44,11 @@ pub record IsGreatest (P : ℕ → Type 0) (m : ℕ) : Type 0 where
   pub upper : (k : ℕ) → P k → k ≤ m
   pub attained : (m ≡ 0) ⊎ P m
 
--- Q tells the destinations: by the rules they are all open depots, `G .isOpen`.
+-- the destinations, between which chains are counted: by the rules every open depot is one (decision 21)
+unfoldable pub delivers : Network → ℕ → Bool
+delivers G v = G .isOpen v
+
+-- Q tells the destinations: of a network they are `delivers G`.
 -- The eccentricity of u is e: the greatest distance from u to a destination.
 -- (On a network in parts it is the greatest finite one; every call refuses such a network.)
 abbrev pub IsEcc : Network → (ℕ → Bool) → ℕ → ℕ → Type 0
