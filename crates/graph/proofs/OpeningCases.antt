@@ -118,7 +118,7 @@ module _ (C₀ C : Chart) (metric : IsMetric C) (a D : ℕ) (P : Pairs) (was : I
       let f : C₀ .distance u v ≡ D = p .far in
       omega arith
 
-  left→far : (u v : ℕ) → stayingPairs C a D P u v ≡ true → IsFar C D u v
+  left→far : (u v : ℕ) → stayingPairs (via C a) D P u v ≡ true → IsFar C D u v
   unfolding stayingPairs
   left→far u v h =
       let k = and-true (P u v) (not (ltb (via C a u v) D)) h in
@@ -127,7 +127,7 @@ module _ (C₀ C : Chart) (metric : IsMetric C) (a D : ℕ) (P : Pairs) (was : I
       let s : C .distance u v ≡ min D (via C a u v) = stored u v (k .0) in
       record { before = p .before; first = ins .old u (p .first); second = ins .old v (p .second); far = omega arith }
 
-  far→left : (u v : ℕ) → IsFar C D u v → C₀ .isDestination u ≡ true → C₀ .isDestination v ≡ true → stayingPairs C a D P u v ≡ true
+  far→left : (u v : ℕ) → IsFar C D u v → C₀ .isDestination u ≡ true → C₀ .isDestination v ≡ true → stayingPairs (via C a) D P u v ≡ true
   unfolding stayingPairs via
   far→left u v p tu tv =
       let t : C .distance u v ≡ min (C₀ .distance u v) (C .distance a u + C .distance a v) = ins .through u v tu tv in
@@ -170,7 +170,7 @@ module _ (C₀ C : Chart) (metric : IsMetric C) (a D : ℕ) (P : Pairs) (was : I
     right = record {
       upper = upper-by D (le-refl D) (omega arith);
       attained = at (ecc-at C metric a);
-      isFar = λ u v h. far u v (or-true (stayingPairs C a D P u v) (ownPairs C a D u v) h);
+      isFar = λ u v h. far u v (or-true (stayingPairs (via C a) D P u v) (ownPairs C a D u v) h);
       isPair = λ u v p. pair u v p (ends D u v p);
     };
     letter = refl;
@@ -180,28 +180,28 @@ module _ (C₀ C : Chart) (metric : IsMetric C) (a D : ℕ) (P : Pairs) (was : I
       at (inl z) = inl (sym q ∙ z)
       at (inr x) = inr (a, x .0, ins .new, x .1, x .2 ∙ q)
 
-      far : (u v : ℕ) → (stayingPairs C a D P u v ≡ true) ⊎ (ownPairs C a D u v ≡ true) → IsFar C D u v
+      far : (u v : ℕ) → (stayingPairs (via C a) D P u v ≡ true) ⊎ (ownPairs C a D u v ≡ true) → IsFar C D u v
       far u v (inl h) = left→far u v h
       far u v (inr h) = own→far D u v h
 
-      pair : (u v : ℕ) → IsFar C D u v → (((u ≡ a) × (C .distance a v ≡ D)) ⊎ ((v ≡ a) × (C .distance a u ≡ D))) ⊎ ((C₀ .isDestination u ≡ true) × (C₀ .isDestination v ≡ true)) → (stayingPairs C a D P u v || ownPairs C a D u v) ≡ true
-      pair u v p (inl x) = or-right (stayingPairs C a D P u v) (far→own D u v p x)
+      pair : (u v : ℕ) → IsFar C D u v → (((u ≡ a) × (C .distance a v ≡ D)) ⊎ ((v ≡ a) × (C .distance a u ≡ D))) ⊎ ((C₀ .isDestination u ≡ true) × (C₀ .isDestination v ≡ true)) → (stayingPairs (via C a) D P u v || ownPairs C a D u v) ≡ true
+      pair u v p (inl x) = or-right (stayingPairs (via C a) D P u v) (far→own D u v p x)
       pair u v p (inr x) = or-left (ownPairs C a D u v) (far→left u v p (x .0) (x .1))
 
   -- below, e < D: a has no pair at distance D
-  low-pair : e < D → (u v : ℕ) → IsFar C D u v → stayingPairs C a D P u v ≡ true
+  low-pair : e < D → (u v : ℕ) → IsFar C D u v → stayingPairs (via C a) D P u v ≡ true
   low-pair l u v p = go (ends D u v p)
     where
-      go : (((u ≡ a) × (C .distance a v ≡ D)) ⊎ ((v ≡ a) × (C .distance a u ≡ D))) ⊎ ((C₀ .isDestination u ≡ true) × (C₀ .isDestination v ≡ true)) → stayingPairs C a D P u v ≡ true
+      go : (((u ≡ a) × (C .distance a v ≡ D)) ⊎ ((v ≡ a) × (C .distance a u ≡ D))) ⊎ ((C₀ .isDestination u ≡ true) × (C₀ .isDestination v ≡ true)) → stayingPairs (via C a) D P u v ≡ true
       go (inl (inl x)) = let k : C .distance a v ≤ e = from-a v (p .second) in let f : C .distance a v ≡ D = x .1 in absurd (lt-irrefl D (omega arith))
       go (inl (inr x)) = let k : C .distance a u ≤ e = from-a u (p .first) in let f : C .distance a u ≡ D = x .1 in absurd (lt-irrefl D (omega arith))
       go (inr x) = far→left u v p (x .0) (x .1)
 
-  case-left : e < D → anyPair (C .depots) (stayingPairs C a D P) ≡ true → IsRightAfter C D (openCase false false true C a D P)
+  case-left : e < D → anyPair (C .depots) (stayingPairs (via C a) D P) ≡ true → IsRightAfter C D (openCase false false true C a D P)
   unfolding openCase searchedOnce anyPair
   case-left l h =
-      let x = any-elim (λ u. anyb (λ v. stayingPairs C a D P u v) (C .depots)) (C .depots) h in
-      let y = any-elim (λ v. stayingPairs C a D P (x .0) v) (C .depots) (x .2) in
+      let x = any-elim (λ u. anyb (λ v. stayingPairs (via C a) D P u v) (C .depots)) (C .depots) h in
+      let y = any-elim (λ v. stayingPairs (via C a) D P (x .0) v) (C .depots) (x .2) in
       let p = left→far (x .0) (y .0) (y .2) in
       record {
         right = record {
@@ -213,8 +213,8 @@ module _ (C₀ C : Chart) (metric : IsMetric C) (a D : ℕ) (P : Pairs) (was : I
         letter = refl;
       }
 
-  -- the shrunkCandidate after a shrink is a distance
-  shrunkCandidate-le : shrunkCandidate C a D P ≤ (greatestEcc C)
+  -- the candidate after a shrink is a distance
+  shrunkCandidate-le : shrunkCandidate (C .depots) (via C a) D P ≤ (greatestEcc C)
   unfolding shrunkCandidate
   shrunkCandidate-le =
       max-le-of (λ u. maxOf (λ v. cond (P u v) (min D (via C a u v)) 0) (C .depots)) (C .depots) (greatestEcc C)
@@ -229,14 +229,14 @@ module _ (C₀ C : Chart) (metric : IsMetric C) (a D : ℕ) (P : Pairs) (was : I
           omega arith
 
   pub shrunk : State
-  shrunk = rounds C (length (C .depots)) (round C a (start (shrunkCandidate C a D P)))
+  shrunk = rounds C (length (C .depots)) (round C a (start (shrunkCandidate (C .depots) (via C a) D P)))
 
   pub shrunk-settled : Invariant C metric (greatestEcc C) shrunk × (waitingCount C metric shrunk ≡ 0)
   unfolding shrunk waitingCount
   shrunk-settled =
-      let S = start (shrunkCandidate C a D P) in
-      let I = start-fine C metric (greatestEcc C) (greatest-ge C metric) (greatest-small C metric) (shrunkCandidate C a D P) shrunkCandidate-le in
-      let J = round-keeps C metric S a in-a (greatestEcc C) I (greatest-ge C metric) (greatest-small C metric) (start-free (shrunkCandidate C a D P) a) in
+      let S = start (shrunkCandidate (C .depots) (via C a) D P) in
+      let I = start-fine C metric (greatestEcc C) (greatest-ge C metric) (greatest-small C metric) (shrunkCandidate (C .depots) (via C a) D P) shrunkCandidate-le in
+      let J = round-keeps C metric S a in-a (greatestEcc C) I (greatest-ge C metric) (greatest-small C metric) (start-free (shrunkCandidate (C .depots) (via C a) D P) a) in
       rounds-right C metric (greatestEcc C) (greatest-ge C metric) (greatest-small C metric) (length (C .depots)) (round C a S) J
       (count-le-length (λ v. isWaiting (round C a S .status v)) (C .depots))
 
@@ -261,15 +261,15 @@ module _ (C₀ C : Chart) (metric : IsMetric C) (a D : ℕ) (P : Pairs) (was : I
           let k : C .distance (x .0) (x .1) ≤ D = upper-by D (le-refl D) (le-of-lt l) (x .0) (x .1) (x .2) (x .3) in
           absurd (pair (x .0) (x .1) (x .2) (x .3) (omega arith) (trichotomy (x .0) (x .1)))
 
-  no-left : e < D → anyPair (C .depots) (stayingPairs C a D P) ≡ false → (u v : ℕ) → IsFar C D u v → ⊥
+  no-left : e < D → anyPair (C .depots) (stayingPairs (via C a) D P) ≡ false → (u v : ℕ) → IsFar C D u v → ⊥
   unfolding anyPair
   no-left l h u v p =
       clash
-      (any-intro (λ u. anyb (λ v. stayingPairs C a D P u v) (C .depots)) (C .depots) (metric .inside u (p .first))
-      (any-intro (λ v. stayingPairs C a D P u v) (C .depots) (metric .inside v (p .second)) (low-pair l u v p)))
+      (any-intro (λ u. anyb (λ v. stayingPairs (via C a) D P u v) (C .depots)) (C .depots) (metric .inside u (p .first))
+      (any-intro (λ v. stayingPairs (via C a) D P u v) (C .depots) (metric .inside v (p .second)) (low-pair l u v p)))
       h
 
-  case-shrank : e < D → anyPair (C .depots) (stayingPairs C a D P) ≡ false → IsRightAfter C D (openCase false false false C a D P)
+  case-shrank : e < D → anyPair (C .depots) (stayingPairs (via C a) D P) ≡ false → IsRightAfter C D (openCase false false false C a D P)
   unfolding openCase shrunk
   case-shrank l h =
       let r = settled C metric shrunk (shrunk-settled .0) (shrunk-settled .1) in
@@ -278,9 +278,9 @@ module _ (C₀ C : Chart) (metric : IsMetric C) (a D : ℕ) (P : Pairs) (was : I
   -- THE OPENING IS RIGHT
   pub opening-right : IsRightAfter C D (opening C a D P)
   unfolding opening e
-  opening-right = go (ltb D (ecc C a)) (eqb (ecc C a) D) (anyPair (C .depots) (stayingPairs C a D P)) refl refl refl
+  opening-right = go (ltb D (ecc C a)) (eqb (ecc C a) D) (anyPair (C .depots) (stayingPairs (via C a) D P)) refl refl refl
     where
-      go : (b s k : Bool) → ltb D (ecc C a) ≡ b → eqb (ecc C a) D ≡ s → anyPair (C .depots) (stayingPairs C a D P) ≡ k → IsRightAfter C D (openCase b s k C a D P)
+      go : (b s k : Bool) → ltb D (ecc C a) ≡ b → eqb (ecc C a) D ≡ s → anyPair (C .depots) (stayingPairs (via C a) D P) ≡ k → IsRightAfter C D (openCase b s k C a D P)
       go true s k p q r = case-grew' s k (ltb-true D (ecc C a) p)
       go false true k p q r = case-same' k (eqb-true (ecc C a) D q)
       go false false true p q r = case-left (lt-of-le-ne (ltb-false D (ecc C a) p) (eqb-false (ecc C a) D q)) r

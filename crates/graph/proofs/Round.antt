@@ -192,7 +192,7 @@ module _ (C : Chart) (metric : IsMetric C) where
         omega arith
 
     module _ (top : ℕ) (I : Invariant top S) where
-      -- a destination searched before has an eccentricity of at most the shrunkCandidate
+      -- a destination searched before has an eccentricity of at most the candidate
       known : (u : ℕ) → memb u (S .references) ≡ true → C .isDestination u ≡ true → ecc C u ≤ S .candidate
       known u h t = go (S .status u) (I .fine u (I .searchedInside u h))
         where
@@ -219,7 +219,7 @@ module _ (C : Chart) (metric : IsMetric C) where
       no-own c u v t p (inl q) = clash (ap (C .isDestination) (sym q) ∙ p .first) t
       no-own c u v t p (inr q) = clash (ap (C .isDestination) (sym q) ∙ p .second) t
 
-      -- what the round makes of the pairs, and the new shrunkCandidate, by the four tests
+      -- what the round makes of the pairs, and the new candidate, by the four tests
       joined : Bool → Bool → Bool → Bool → Pairs
       joined t above same nil = cond (t && above) (ownPairs C r (ecc C r)) (cond (same && not nil) (λ u v. S .pairs u v || ownPairs C r (ecc C r) u v) (S .pairs))
 
@@ -277,7 +277,7 @@ module _ (C : Chart) (metric : IsMetric C) where
         old-in : IsPair (S .candidate) refs⁺ u v → (memb u (S .references) ≡ true) ⊎ (memb v (S .references) ≡ true) → S .pairs u v ≡ true
         old-in p h = I .pair u v (again (S .candidate) u v p h)
 
-        -- a pair at a shrunkCandidate above r's eccentricity, or where r is no destination, is an old one
+        -- a pair at a candidate above r's eccentricity, or where r is no destination, is an old one
         stays : IsPair (S .candidate) refs⁺ u v → ((u ≡ r) ⊎ (v ≡ r) → ⊥) → S .pairs u v ≡ true
         stays p no-r = go (narrow (S .candidate) u v p)
           where

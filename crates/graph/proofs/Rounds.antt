@@ -90,7 +90,7 @@ module _ (C : Chart) (metric : IsMetric C) where
     unfolding waitingCount
     ended S z v m = count-zero (λ v. isWaiting (S .status v)) (C .depots) z m
 
-    -- the shrunkCandidate is at least each destination's eccentricity
+    -- the candidate is at least each destination's eccentricity
     pub final-ge : (S : State) → Invariant C metric top S → waitingCount S ≡ 0 → (v : ℕ) → C .isDestination v ≡ true → ecc C v ≤ S .candidate
     final-ge S I z v t = go (S .status v) (ended S z v (metric .inside v t)) (I .fine v (metric .inside v t))
       where
@@ -99,7 +99,7 @@ module _ (C : Chart) (metric : IsMetric C) where
         go (skipped b g) w f = let p : ecc C v ≤ b = f .1 in let q : b < S .candidate = f .3 in omega arith
         go (searched e) w f = f .2 t
 
-    -- both ends of a pair at the shrunkCandidate's distance have been searched
+    -- both ends of a pair at the candidate's distance have been searched
     final-hit : (S : State) → Invariant C metric top S → waitingCount S ≡ 0 → (u v : ℕ) → C .isDestination u ≡ true → C .isDestination v ≡ true → C .distance u v ≡ S .candidate → memb u (S .references) ≡ true
     final-hit S I z u v tu tv q = go (S .status u) (ended S z u (metric .inside u tu)) (I .fine u (metric .inside u tu))
       where
@@ -112,7 +112,7 @@ module _ (C : Chart) (metric : IsMetric C) where
             absurd (lt-irrefl b (omega arith))
         go (searched e) w f = f .0
 
-    -- THE PAIRS ARE RIGHT: all u < v among the destinations at the shrunkCandidate's distance, if that is not 0
+    -- THE PAIRS ARE RIGHT: all u < v among the destinations at the candidate's distance, if that is not 0
     pub final-pair : (S : State) → Invariant C metric top S → waitingCount S ≡ 0 → (u v : ℕ) → u < v → C .isDestination u ≡ true → C .isDestination v ≡ true → C .distance u v ≡ S .candidate → 0 < S .candidate → S .pairs u v ≡ true
     final-pair S I z u v b tu tv q p =
         I .pair u v record { before = lt-ltb u v b; first = tu; second = tv; far = q; positive = p; hit = inl (final-hit S I z u v tu tv q) }

@@ -88,7 +88,7 @@ module _ (C : Chart) (metric : IsMetric C) where
     in-a : List·Memᴰ a (C .depots)
     in-a = metric .inside a new
 
-    candidate-small : shrunkCandidate C a D P ≤ unreached
+    candidate-small : shrunkCandidate (C .depots) (via C a) D P ≤ unreached
     unfolding shrunkCandidate
     candidate-small =
         max-le-of (λ u. maxOf (λ v. cond (P u v) (min D (via C a u v)) 0) (C .depots)) (C .depots) unreached
@@ -99,14 +99,14 @@ module _ (C : Chart) (metric : IsMetric C) where
         go u v true = omega (arith, small)
 
     shrunk : State
-    shrunk = rounds C (length (C .depots)) (round C a (start (shrunkCandidate C a D P)))
+    shrunk = rounds C (length (C .depots)) (round C a (start (shrunkCandidate (C .depots) (via C a) D P)))
 
     shrunk-settled : Invariant C metric unreached shrunk × (waitingCount C metric shrunk ≡ 0)
     unfolding shrunk waitingCount
     shrunk-settled =
-        let S = start (shrunkCandidate C a D P) in
-        let I = start-fine C metric unreached most (le-refl unreached) (shrunkCandidate C a D P) candidate-small in
-        let J = round-keeps C metric S a in-a unreached I most (le-refl unreached) (start-free (shrunkCandidate C a D P) a) in
+        let S = start (shrunkCandidate (C .depots) (via C a) D P) in
+        let I = start-fine C metric unreached most (le-refl unreached) (shrunkCandidate (C .depots) (via C a) D P) candidate-small in
+        let J = round-keeps C metric S a in-a unreached I most (le-refl unreached) (start-free (shrunkCandidate (C .depots) (via C a) D P) a) in
         rounds-right C metric unreached most (le-refl unreached) (length (C .depots)) (round C a S) J (count-le-length (λ v. isWaiting (round C a S .status v)) (C .depots))
 
     once-references : (c : ℕ) (Q : Pairs) → ReferencesIn C (searchedOnce C a c Q)
@@ -123,18 +123,18 @@ module _ (C : Chart) (metric : IsMetric C) where
 
     pub opening-references : ReferencesIn C (opening C a D P .final)
     unfolding opening openCase shrunk
-    opening-references = go (ltb D (ecc C a)) (eqb (ecc C a) D) (anyPair (C .depots) (stayingPairs C a D P))
+    opening-references = go (ltb D (ecc C a)) (eqb (ecc C a) D) (anyPair (C .depots) (stayingPairs (via C a) D P))
       where
         go : (b s k : Bool) → ReferencesIn C (openCase b s k C a D P .final)
         go true s k = once-references (ecc C a) (ownPairs C a (ecc C a))
-        go false true k = once-references D (λ u v. stayingPairs C a D P u v || ownPairs C a D u v)
-        go false false true = once-references D (stayingPairs C a D P)
+        go false true k = once-references D (λ u v. stayingPairs (via C a) D P u v || ownPairs C a D u v)
+        go false false true = once-references D (stayingPairs (via C a) D P)
         go false false false = settled-references shrunk (shrunk-settled .0)
 
     -- after a shrink the rounds have ended
     pub opening-settled : opening C a D P .change ≡ shrank → Invariant C metric unreached (opening C a D P .final) × (waitingCount C metric (opening C a D P .final) ≡ 0)
     unfolding opening openCase shrunk
-    opening-settled = go (ltb D (ecc C a)) (eqb (ecc C a) D) (anyPair (C .depots) (stayingPairs C a D P))
+    opening-settled = go (ltb D (ecc C a)) (eqb (ecc C a) D) (anyPair (C .depots) (stayingPairs (via C a) D P))
       where
         never : {A : Type 0} → _≡_ {A = ℕ} 0 1 → A
         never z = absurd (lt-irrefl 0 (omega arith))

@@ -16,7 +16,7 @@ use Rattle.graph.specs.Network.{Network}
 use Rattle.graph.specs.Distance.{vertices, unreached}
 use Rattle.graph.specs.Chart.{Chart, chart, ecc, Pairs, ownPairs}
 use Rattle.graph.specs.Rounds.{Status, waiting, skipped, searched, isWaiting, State, round, pick, remaining, orStop, rounds, start, reckon}
-use Rattle.graph.specs.Opening.{Notice, byCode, withDepot, openFaults, shrank, stayingPairs, anyPair, shrunkCandidate, searchedOnce, openCase, opening}
+use Rattle.graph.specs.Opening.{Notice, byCode, withDepot, openFaults, shrank, stayingPairs, anyPair, shrunkCandidate, searchedOnce, openCase, opening, via}
 use Rattle.graph.specs.Correct.{IsNet, IsSkipped, AllSkipped, IsOneSearch, IsSettled}
 use Rattle.graph.proofs.Round.{Fine, Invariant}
 use Rattle.graph.proofs.Rounds.{waitingCount}
@@ -76,13 +76,13 @@ module _ (C : Chart) where
   module _ (a D : ℕ) (P : Pairs) where
     opening-first : (rs : List ℕ) × (opening C a D P .final .references ≡ a ∷ rs)
     unfolding opening openCase searchedOnce round start
-    opening-first = go (ltb D (ecc C a)) (eqb (ecc C a) D) (anyPair (C .depots) (stayingPairs C a D P))
+    opening-first = go (ltb D (ecc C a)) (eqb (ecc C a) D) (anyPair (C .depots) (stayingPairs (via C a) D P))
       where
         go : (b s k : Bool) → (rs : List ℕ) × (openCase b s k C a D P .final .references ≡ a ∷ rs)
         go true s k = ([], refl)
         go false true k = ([], refl)
         go false false true = ([], refl)
-        go false false false = rounds-after (length (C .depots)) (round C a (start (shrunkCandidate C a D P)))
+        go false false false = rounds-after (length (C .depots)) (round C a (start (shrunkCandidate (C .depots) (via C a) D P)))
 
     once : (c : ℕ) (Q : Pairs) → IsOneSearch a (searchedOnce C a c Q)
     unfolding searchedOnce
@@ -90,12 +90,12 @@ module _ (C : Chart) where
 
     opening-once : (opening C a D P .change ≡ shrank → ⊥) → IsOneSearch a (opening C a D P .final)
     unfolding opening openCase
-    opening-once = go (ltb D (ecc C a)) (eqb (ecc C a) D) (anyPair (C .depots) (stayingPairs C a D P))
+    opening-once = go (ltb D (ecc C a)) (eqb (ecc C a) D) (anyPair (C .depots) (stayingPairs (via C a) D P))
       where
         go : (b s k : Bool) → (openCase b s k C a D P .change ≡ shrank → ⊥) → IsOneSearch a (openCase b s k C a D P .final)
         go true s k n = once (ecc C a) (ownPairs C a (ecc C a))
-        go false true k n = once D (λ u v. stayingPairs C a D P u v || ownPairs C a D u v)
-        go false false true n = once D (stayingPairs C a D P)
+        go false true k n = once D (λ u v. stayingPairs (via C a) D P u v || ownPairs C a D u v)
+        go false false true n = once D (stayingPairs (via C a) D P)
         go false false false n = absurd (n refl)
 
 module _ (G : Network) (net : IsNet G) (o : Notice) (room : suc (length (vertices G)) < unreached) (ok : firstOf (openFaults G o) ≡ 0) (D : ℕ) (small : D ≤ unreached) (P : Pairs) where

@@ -45,7 +45,7 @@ module _ (C : Chart) (metric : IsMetric C) where
       go (inl x) = p u v x
       go (inr x) = q u v x
 
-  staying-rising : (a D : ℕ) (P : Pairs) → JoinRising C P → JoinRising C (stayingPairs C a D P)
+  staying-rising : (a D : ℕ) (P : Pairs) → JoinRising C P → JoinRising C (stayingPairs (via C a) D P)
   unfolding stayingPairs
   staying-rising a D P p u v h = p u v (and-true (P u v) (not (ltb (via C a u v) D)) h .0)
 
@@ -89,7 +89,7 @@ module _ (C : Chart) (metric : IsMetric C) where
     -- ---- AN OPENING
 
     module _ (a : ℕ) (new : C .isDestination a ≡ true) (D : ℕ) (P : Pairs) (were : SoundIn C limit D P) where
-      shrunk-below : shrunkCandidate C a D P < limit
+      shrunk-below : shrunkCandidate (C .depots) (via C a) D P < limit
       unfolding shrunkCandidate
       shrunk-below =
           let l : maxOf (λ u. maxOf (λ v. cond (P u v) (min D (via C a u v)) 0) (C .depots)) (C .depots) ≤ D =
@@ -101,23 +101,23 @@ module _ (C : Chart) (metric : IsMetric C) where
           go u v false = zero-le
           go u v true = omega arith
 
-      start-sound : SoundIn C limit (start (shrunkCandidate C a D P) .candidate) (start (shrunkCandidate C a D P) .pairs)
+      start-sound : SoundIn C limit (start (shrunkCandidate (C .depots) (via C a) D P) .candidate) (start (shrunkCandidate (C .depots) (via C a) D P) .pairs)
       unfolding start
       start-sound = record { below = shrunk-below; pairs = λ u v h. absurd (clash h refl) }
 
       pub opening-sound : SoundIn C limit (opening C a D P .final .candidate) (opening C a D P .final .pairs)
       unfolding opening openCase searchedOnce
-      opening-sound = go (ltb D (ecc C a)) (eqb (ecc C a) D) (anyPair (C .depots) (stayingPairs C a D P))
+      opening-sound = go (ltb D (ecc C a)) (eqb (ecc C a) D) (anyPair (C .depots) (stayingPairs (via C a) D P))
         where
           go : (b s k : Bool) → SoundIn C limit (openCase b s k C a D P .final .candidate) (openCase b s k C a D P .final .pairs)
           go true s k = record { below = most a new; pairs = own-rising a (ecc C a) }
           go false true k = record {
             below = were .below;
-            pairs = or-rising (stayingPairs C a D P) (ownPairs C a D) (staying-rising a D P (were .pairs)) (own-rising a D);
+            pairs = or-rising (stayingPairs (via C a) D P) (ownPairs C a D) (staying-rising a D P (were .pairs)) (own-rising a D);
           }
           go false false true = record { below = were .below; pairs = staying-rising a D P (were .pairs) }
           go false false false =
-              let S = start (shrunkCandidate C a D P) in
+              let S = start (shrunkCandidate (C .depots) (via C a) D P) in
               rounds-sound (length (C .depots)) (round C a S) (round-sound a S start-sound)
 
 -- an eccentricity is below the number of depots

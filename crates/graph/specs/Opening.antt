@@ -77,19 +77,18 @@ pub record Opened : Type 0 where
 unfoldable pub via : Chart → ℕ → ℕ → ℕ → ℕ
 via C a u v = C .distance a u + C .distance a v
 
--- the stored pairs that stay: those whose way through a is not below D (rule 4.3)
-unfoldable pub stayingPairs : Chart → ℕ → ℕ → Pairs → Pairs
-unfolding via
-stayingPairs C a D P u v = P u v && not (ltb (via C a u v) D)
+-- the stored pairs that stay: those whose way is not below D (rule 4.3)
+unfoldable pub stayingPairs : (ℕ → ℕ → ℕ) → ℕ → Pairs → Pairs
+stayingPairs way D P u v = P u v && not (ltb (way u v) D)
 
 unfoldable pub anyPair : List ℕ → Pairs → Bool
 unfolding anyb
 anyPair vs P = anyb (λ u. anyb (λ v. P u v) vs) vs
 
--- the candidate of a shrink (rule 4.4)
-unfoldable pub shrunkCandidate : Chart → ℕ → ℕ → Pairs → ℕ
-unfolding via maxOf
-shrunkCandidate C a D P = maxOf (λ u. maxOf (λ v. cond (P u v) (min D (via C a u v)) 0) (C .depots)) (C .depots)
+-- the candidate of a shrink (rule 4.4), over the pairs of the depots vs
+unfoldable pub shrunkCandidate : List ℕ → (ℕ → ℕ → ℕ) → ℕ → Pairs → ℕ
+unfolding maxOf
+shrunkCandidate vs way D P = maxOf (λ u. maxOf (λ v. cond (P u v) (min D (way u v)) 0) vs) vs
 
 -- a call that searched from a alone, with the chain c and the pairs Q
 unfoldable pub searchedOnce : Chart → ℕ → ℕ → Pairs → State
@@ -103,13 +102,13 @@ searchedOnce C a c Q = record {
 
 -- by the three tests of rules 4.2 and 4.3: e(a) > D; e(a) = D; a stored pair stays
 unfoldable pub openCase : Bool → Bool → Bool → Chart → ℕ → ℕ → Pairs → Opened
-unfolding ecc ownPairs stayingPairs shrunkCandidate searchedOnce round rounds start
+unfolding ecc ownPairs via stayingPairs shrunkCandidate searchedOnce round rounds start
 openCase true same stays C a D P = record { change = grew; final = searchedOnce C a (ecc C a) (ownPairs C a (ecc C a)) }
-openCase false true stays C a D P = record { change = kept; final = searchedOnce C a D (λ u v. stayingPairs C a D P u v || ownPairs C a D u v) }
-openCase false false true C a D P = record { change = kept; final = searchedOnce C a D (stayingPairs C a D P) }
-openCase false false false C a D P = record { change = shrank; final = rounds C (length (C .depots)) (round C a (start (shrunkCandidate C a D P))) }
+openCase false true stays C a D P = record { change = kept; final = searchedOnce C a D (λ u v. stayingPairs (via C a) D P u v || ownPairs C a D u v) }
+openCase false false true C a D P = record { change = kept; final = searchedOnce C a D (stayingPairs (via C a) D P) }
+openCase false false false C a D P = record { change = shrank; final = rounds C (length (C .depots)) (round C a (start (shrunkCandidate (C .depots) (via C a) D P))) }
 
 -- Opening a: C is the chart with a in place, D and P the chain and the pairs that were stored.
 unfoldable pub opening : Chart → ℕ → ℕ → Pairs → Opened
-unfolding openCase anyPair stayingPairs ecc
-opening C a D P = openCase (ltb D (ecc C a)) (eqb (ecc C a) D) (anyPair (C .depots) (stayingPairs C a D P)) C a D P
+unfolding openCase anyPair via stayingPairs ecc
+opening C a D P = openCase (ltb D (ecc C a)) (eqb (ecc C a) D) (anyPair (C .depots) (stayingPairs (via C a) D P)) C a D P

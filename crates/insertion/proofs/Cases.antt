@@ -131,7 +131,7 @@ module _ (codes links : List ℕ) (B : Lent) (a e D : ℕ) (I : HoldsSearch base
   P = tableBit 4 (B .pairs)
 
   abbrev Left : Pairs
-  Left = stayingPairs (chart (networkOf 4 codes links)) a D (tableBit 4 (B .pairs))
+  Left = stayingPairs (via (chart (networkOf 4 codes links)) a) D (tableBit 4 (B .pairs))
 
   limit-is : G .limit ≡ 64 * 4
   unfolding networkOf

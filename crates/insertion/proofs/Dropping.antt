@@ -50,7 +50,7 @@ module _ (W : ℕ) (G : Network) (net : IsNet G) (limit-is : G .limit ≡ 64 * W
   hops = searchLeaves W G a T₀ .hops
 
   abbrev Left : Pairs
-  Left = stayingPairs (chart G) a D (tableBit W t)
+  Left = stayingPairs (via (chart G) a) D (tableBit W t)
 
   hop : (v : ℕ) → v < 64 * W → getD hops v 0 ≡ dist G a v
   unfolding searchLeaves
@@ -103,7 +103,7 @@ module _ (W : ℕ) (G : Network) (net : IsNet G) (limit-is : G .limit ≡ 64 * W
   among f h = max-filter (G .isOpen) f (range (64 * W)) h ∙ ap (maxOf f) depots-are
 
   -- THE GREATEST WAY IS THE CANDIDATE
-  pub way-is : greatestWay W hops D t ≡ shrunkCandidate (chart G) a D (tableBit W t)
+  pub way-is : greatestWay W hops D t ≡ shrunkCandidate (chart G .depots) (via (chart G) a) D (tableBit W t)
   unfolding greatestWay shrunkCandidate
   way-is =
       max-ext (λ u. maxOf (λ v. cond (tableBit W t u v) (min D (getD hops u 0 + getD hops v 0)) 0) (range (64 * W))) (λ u. maxOf (reach u) (chart G .depots)) (range (64 * W))
@@ -119,7 +119,7 @@ module _ (W : ℕ) (G : Network) (net : IsNet G) (limit-is : G .limit ≡ 64 * W
     unfolding dropOf
     left-is = ap (λ (x : Dropped). x .left) q ∙ tally-ext W (staying W hops D t) Left t stay
 
-    pub candidate-is : w ≡ shrunkCandidate (chart G) a D (tableBit W t)
+    pub candidate-is : w ≡ shrunkCandidate (chart G .depots) (via (chart G) a) D (tableBit W t)
     candidate-is = drop-way W hops D t q ∙ way-is
 
     count-is : n ≡ countPairs (range (64 * W)) Left

@@ -126,14 +126,14 @@ module _ (K : Shape) (G : Network) (a : ℕ) (T : Tables) (p b s : List ℕ) whe
   unfolding openCase
   case-over true y z D P = ran-over (searchedOnce (chart G) a (ecc (chart G) a) (ownPairs (chart G) a (ecc (chart G) a))) (once-over (ecc (chart G) a) (ownPairs (chart G) a (ecc (chart G) a)))
   case-over false true z D P =
-      ran-over (searchedOnce (chart G) a D (λ u v. stayingPairs (chart G) a D P u v || ownPairs (chart G) a D u v)) (once-over D (λ u v. stayingPairs (chart G) a D P u v || ownPairs (chart G) a D u v))
-  case-over false false true D P = ran-over (searchedOnce (chart G) a D (stayingPairs (chart G) a D P)) (once-over D (stayingPairs (chart G) a D P))
+      ran-over (searchedOnce (chart G) a D (λ u v. stayingPairs (via (chart G) a) D P u v || ownPairs (chart G) a D u v)) (once-over D (λ u v. stayingPairs (via (chart G) a) D P u v || ownPairs (chart G) a D u v))
+  case-over false false true D P = ran-over (searchedOnce (chart G) a D (stayingPairs (via (chart G) a) D P)) (once-over D (stayingPairs (via (chart G) a) D P))
   case-over false false false D P =
-      ran-over (rounds (chart G) (length (chart G .depots)) (round (chart G) a (start (shrunkCandidate (chart G) a D P))))
-      (rounds-over (K .words) G a T (length (chart G .depots)) a (start (shrunkCandidate (chart G) a D P)))
+      ran-over (rounds (chart G) (length (chart G .depots)) (round (chart G) a (start (shrunkCandidate (chart G .depots) (via (chart G) a) D P))))
+      (rounds-over (K .words) G a T (length (chart G .depots)) a (start (shrunkCandidate (chart G .depots) (via (chart G) a) D P)))
 
   pub figured-over : (D : ℕ) → figuredBy K G a D (lent p (searchLeaves (K .words) G a T) b s) ≡ figuredBy K G a D (lent p T b s)
   unfolding figuredBy opening
   figured-over D =
       ap (figured (changeAs (opening (chart G) a D (tableBit (K .words) p) .change)))
-      (case-over (ltb D (ecc (chart G) a)) (eqb (ecc (chart G) a) D) (anyPair (chart G .depots) (stayingPairs (chart G) a D (tableBit (K .words) p))) D (tableBit (K .words) p))
+      (case-over (ltb D (ecc (chart G) a)) (eqb (ecc (chart G) a) D) (anyPair (chart G .depots) (stayingPairs (via (chart G) a) D (tableBit (K .words) p))) D (tableBit (K .words) p))
