@@ -2,11 +2,9 @@
 use mathlib.Core.Path.{_≡_, refl, sym, ap, ap₂, _∙_}
 use mathlib.Core.Logic.{_≢_, _⊎_, inl, inr}
 use mathlib.Core.Bool.{Bool, true, false, cond, not, _&&_, _||_}
-use mathlib.Core.List.{List}
 use Prim.Native.Nat.{ℕ, _+_, _^_, _≤_, _<_, min, max}
 use native.Mathlib.Omega.{arith}
 use lib.Dec.{eqb, ltb}
-use lib.ListN.{getD}
 use borrow.Author.Tests.{eq-eqb, ne-eqb, lt-ltb, le-ltb}
 use Rattle.lists.specs.Lists.{range, maxOf}
 use Rattle.lists.proofs.Tests.{eq-or-ne}
@@ -17,13 +15,13 @@ use Rattle.words.proofs.Bits.{bit-of-zero, bit-wordOf, wordOf-ext, word-is}
 use Rattle.stale_pairs.specs.Stale.{stayingBit, greatestBit}
 use Rattle.lists.proofs.Ranges.{max-same, max-none, max-put}
 
-module _ (hops : List ℕ) (D u first x : ℕ) where
+module _ (far : ℕ → ℕ → ℕ) (D u first x : ℕ) where
   abbrev wayOf : ℕ → ℕ
-  wayOf b = min D (getD hops u 0 + getD hops (first + b) 0)
+  wayOf b = min D (far u (first + b))
 
   -- the members that are left, and those that stay; the ways of those that are not left
   unfoldable pub keptBit : ℕ → ℕ → Bool
-  keptBit left b = bit x b && (bit left b || not (ltb (getD hops u 0 + getD hops (first + b) 0) D))
+  keptBit left b = bit x b && (bit left b || not (ltb (far u (first + b)) D))
 
   unfoldable pub passedWay : ℕ → ℕ → ℕ
   passedWay left b = cond (bit x b && not (bit left b)) (wayOf b) 0
@@ -37,7 +35,7 @@ module _ (hops : List ℕ) (D u first x : ℕ) where
   unfolding keptBit passedWay
   sift-start f = record {
     inside = λ b l h. h;
-    kept = word-is 64 x (keptBit x) f (λ k l. whole (bit x k) (not (ltb (getD hops u 0 + getD hops (first + k) 0) D)));
+    kept = word-is 64 x (keptBit x) f (λ k l. whole (bit x k) (not (ltb (far u (first + k)) D)));
     greatest = sym (max-none (passedWay x) 64 (λ k l. none k (bit x k)));
   }
     where
@@ -77,7 +75,7 @@ module _ (hops : List ℕ) (D u first x : ℕ) where
 
     kept-other : (k : ℕ) → k < 64 → k ≢ b → keptBit left k ≡ keptBit y k
     unfolding keptBit
-    kept-other k m ne = ap (λ (z : Bool). bit x k && (z || not (ltb (getD hops u 0 + getD hops (first + k) 0) D))) (sym (without-other l d k m ne))
+    kept-other k m ne = ap (λ (z : Bool). bit x k && (z || not (ltb (far u (first + k)) D))) (sym (without-other l d k m ne))
 
     -- it is stale, and taken out
     pub sift-drop : {word′ e way′ : ℕ} → word′ ≡ wordOf 64 (λ k. bit word k && not (eqb k b)) → e ≡ wayOf b → way′ ≡ max way e → e < D → Sifting word′ way′ y
@@ -102,7 +100,7 @@ module _ (hops : List ℕ) (D u first x : ℕ) where
         go : (k : ℕ) → k < 64 → (k ≡ b) ⊎ (k ≢ b) → (bit word k && not (eqb k b)) ≡ keptBit y k
         go k h (inl p) =
             ap (λ (z : Bool). bit word k && not z) (eq-eqb k b p) ∙ none (bit word k)
-            ∙ sym (ap (keptBit y) p ∙ ap₂ (λ (z w : Bool). bit x b && (z || not w)) (without-here l d) (lt-ltb (getD hops u 0 + getD hops (first + b) 0) D (omega arith)) ∙ none (bit x b))
+            ∙ sym (ap (keptBit y) p ∙ ap₂ (λ (z w : Bool). bit x b && (z || not w)) (without-here l d) (lt-ltb (far u (first + b)) D (omega arith)) ∙ none (bit x b))
         go k h (inr p) = ap (λ (z : Bool). bit word k && not z) (ne-eqb k b p) ∙ all (bit word k) ∙ was k h ∙ kept-other k h p
 
     -- it stays
@@ -116,15 +114,15 @@ module _ (hops : List ℕ) (D u first x : ℕ) where
       where
         go : (k : ℕ) → k < 64 → (k ≡ b) ⊎ (k ≢ b) → keptBit left k ≡ keptBit y k
         go k h (inl p) =
-            ap (keptBit left) p ∙ ap (λ (z : Bool). bit x b && (z || not (ltb (getD hops u 0 + getD hops (first + b) 0) D))) (l .here)
-            ∙ sym (ap (keptBit y) p ∙ ap₂ (λ (z w : Bool). bit x b && (z || not w)) (without-here l d) (le-ltb (getD hops u 0 + getD hops (first + b) 0) D (omega arith)))
+            ap (keptBit left) p ∙ ap (λ (z : Bool). bit x b && (z || not (ltb (far u (first + b)) D))) (l .here)
+            ∙ sym (ap (keptBit y) p ∙ ap₂ (λ (z w : Bool). bit x b && (z || not w)) (without-here l d) (le-ltb (far u (first + b)) D (omega arith)))
         go k h (inr p) = kept-other k h p
 
   -- no member is left
-  pub sift-end : {word way left : ℕ} → Sifting word way left → left ≡ 0 → (word ≡ wordOf 64 (stayingBit hops D u first x)) × (way ≡ greatestBit hops D u first x)
+  pub sift-end : {word way left : ℕ} → Sifting word way left → left ≡ 0 → (word ≡ wordOf 64 (stayingBit far D u first x)) × (way ≡ greatestBit far D u first x)
   unfolding keptBit passedWay stayingBit greatestBit
   sift-end {word} {way} {left} i z = (
-    i .kept ∙ wordOf-ext 64 (keptBit left) (stayingBit hops D u first x) (λ k h. ap (λ (a : Bool). bit x k && (a || not (ltb (getD hops u 0 + getD hops (first + k) 0) D))) (gone k)),
+    i .kept ∙ wordOf-ext 64 (keptBit left) (stayingBit far D u first x) (λ k h. ap (λ (a : Bool). bit x k && (a || not (ltb (far u (first + k)) D))) (gone k)),
     i .greatest ∙ max-same (passedWay left) (λ b. cond (bit x b) (wayOf b) 0) 64 (λ k h. ap (λ (a : Bool). cond (bit x k && not a) (wayOf k) 0) (gone k) ∙ all k (bit x k)),
   )
     where

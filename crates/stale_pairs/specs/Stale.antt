@@ -8,20 +8,15 @@ use lib.Dec.{eqb, ltb}
 use lib.ListN.{length, getD}
 use Rattle.lists.specs.Lists.{range, countb, maxOf, overwrite}
 use Rattle.words.specs.Bits.{bit}
-use Rattle.graph.specs.Chart.{Pairs}
+use Rattle.graph.specs.Opening.{stayingPairs, shrunkCandidate}
 use Rattle.rows.specs.Rows.{tableBit, encodeTable}
 use Rattle.pairs.specs.Pairs.{Tally, tally, tallyOf}
 
--- the stored pairs that stay: those whose way by the hops of a search is not below D
-unfoldable pub staying : ℕ → List ℕ → ℕ → List ℕ → Pairs
-staying W hops D t u v = tableBit W t u v && not (ltb (getD hops u 0 + getD hops v 0) D)
+-- the way by the hops of a search: from u to where it began, and on to v
+abbrev pub wayBy : List ℕ → ℕ → ℕ → ℕ
+wayBy hops u v = getD hops u 0 + getD hops v 0
 
--- of each stored pair the lesser of D and that way, and of these the greatest (rule 4.4); 0 without pairs
-unfoldable pub greatestWay : ℕ → List ℕ → ℕ → List ℕ → ℕ
-greatestWay W hops D t =
-    maxOf (λ u. maxOf (λ v. cond (tableBit W t u v) (min D (getD hops u 0 + getD hops v 0)) 0) (range (64 * W))) (range (64 * W))
-
--- a table without its stale pairs, and that greatest
+-- a table without its stale pairs, and the greatest way that was there, none above D
 pub record Dropped : Type 0 where
   pub left : Tally
   pub way : ℕ
@@ -29,22 +24,23 @@ pub record Dropped : Type 0 where
 abbrev pub dropped : Tally → ℕ → Dropped
 dropped t w = record { left = t; way = w }
 
-unfoldable pub dropOf : ℕ → List ℕ → ℕ → List ℕ → Dropped
-dropOf W hops D t = dropped (tallyOf W (staying W hops D t) t) (greatestWay W hops D t)
+unfoldable pub dropOf : ℕ → (ℕ → ℕ → ℕ) → ℕ → List ℕ → Dropped
+dropOf W way D t = let P = tableBit W t in dropped (tallyOf W (stayingPairs way D P) t) (shrunkCandidate (range (64 * W)) way D P)
 
 -- one row of that: row u keeps its pairs that stay, the other rows are as they were; the number of those, and the row's greatest
-unfoldable pub dropRowOf : ℕ → List ℕ → ℕ → ℕ → List ℕ → Dropped
-dropRowOf W hops D u t =
+unfoldable pub dropRowOf : ℕ → (ℕ → ℕ → ℕ) → ℕ → ℕ → List ℕ → Dropped
+dropRowOf W way D u t =
+    let P = tableBit W t in
     dropped
-    (tally (overwrite (encodeTable W (λ p v. cond (eqb p u) (staying W hops D t p v) (tableBit W t p v))) t) (countb (staying W hops D t u) (range (64 * W))))
-    (maxOf (λ v. cond (tableBit W t u v) (min D (getD hops u 0 + getD hops v 0)) 0) (range (64 * W)))
+    (tally (overwrite (encodeTable W (λ p v. cond (eqb p u) (stayingPairs way D P p v) (P p v))) t) (countb (stayingPairs way D P u) (range (64 * W))))
+    (maxOf (λ v. cond (P u v) (min D (way u v)) 0) (range (64 * W)))
 
 -- one word of that row, whose bit b stands for the pair of u and first + b: its members that stay, and the greatest way of its members
-unfoldable pub stayingBit : List ℕ → ℕ → ℕ → ℕ → ℕ → ℕ → Bool
-stayingBit hops D u first x b = bit x b && not (ltb (getD hops u 0 + getD hops (first + b) 0) D)
+unfoldable pub stayingBit : (ℕ → ℕ → ℕ) → ℕ → ℕ → ℕ → ℕ → ℕ → Bool
+stayingBit way D u first x b = bit x b && not (ltb (way u (first + b)) D)
 
-unfoldable pub greatestBit : List ℕ → ℕ → ℕ → ℕ → ℕ → ℕ
-greatestBit hops D u first x = maxOf (λ b. cond (bit x b) (min D (getD hops u 0 + getD hops (first + b) 0)) 0) (range 64)
+unfoldable pub greatestBit : (ℕ → ℕ → ℕ) → ℕ → ℕ → ℕ → ℕ → ℕ
+greatestBit way D u first x = maxOf (λ b. cond (bit x b) (min D (way u (first + b))) 0) (range 64)
 
 -- k rows from u on have no pair
 pub record Bare (W : ℕ) (pairs : List ℕ) (u k : ℕ) : Type 0 where

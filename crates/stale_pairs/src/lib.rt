@@ -2,10 +2,10 @@
 // What a function ensures of table, count and way is one equation, so that callers rewrite by it.
 ghost use mathlib.Core.Path.{_≡_};
 ghost use Prim.Native.Nat.{_+_, _*_, _%_, _<_, _≤_, min, max};
-ghost use lib.ListN.{length, getD};
+ghost use lib.ListN.{length};
 ghost use Rattle.words.specs.Bits.{wordOf};
 ghost use Rattle.pairs.specs.Pairs.{tally};
-ghost use Rattle.stale_pairs.specs.Stale.{HasHops, Bare, dropped, stayingBit, greatestBit, dropRowOf, dropOf};
+ghost use Rattle.stale_pairs.specs.Stale.{HasHops, Bare, wayBy, dropped, stayingBit, greatestBit, dropRowOf, dropOf};
 
 // How many pairs stay, and the greatest way of those that were there.
 pub struct Dropping {
@@ -26,7 +26,7 @@ fn longer(a: u16, b: u16) -> u16
 // The way from u to v by the hops of a search, and no more than chain. Two hops may pass 65,535, so they are summed at 32 bits.
 fn way_by(hops: &[u16], u: usize, v: usize, chain: u16) -> u16
     requires { ⌜ (u < length (now hops)) × (v < length (now hops)) ⌝ }
-    ensures { λ r. ⌜ r ≡ min chain (getD (now (hops .entry)) u 0 + getD (now (hops .entry)) v 0) ⌝ }
+    ensures { λ r. ⌜ r ≡ min chain (wayBy (now (hops .entry)) u v) ⌝ }
 {
     let near = hops[u] as u32;
     let far = hops[v] as u32;
@@ -46,7 +46,7 @@ pub struct Sifted {
 // Takes the stale members out of x, whose bit b stands for the pair of u and first + b: those whose way is below chain.
 fn sift(x: u64, hops: &[u16], u: usize, first: usize, chain: u16) -> Sifted
     requires { ⌜ (u < length (now hops)) × (first + 64 ≤ length (now hops)) ⌝ }
-    ensures { λ r. ⌜ (r .word ≡ wordOf 64 (stayingBit (now (hops .entry)) chain u first x)) × (r .way ≡ greatestBit (now (hops .entry)) chain u first x) ⌝ }
+    ensures { λ r. ⌜ (r .word ≡ wordOf 64 (stayingBit (wayBy (now (hops .entry))) chain u first x)) × (r .way ≡ greatestBit (wayBy (now (hops .entry))) chain u first x) ⌝ }
 {
     let mut word = x;
     let mut way: u16 = 0;
@@ -71,7 +71,7 @@ fn sift(x: u64, hops: &[u16], u: usize, first: usize, chain: u16) -> Sifted
 // Drops the stale pairs of row u, a word at a time.
 fn drop_row(pairs: &mut [u64], hops: &[u16], words: usize, u: usize, chain: u16) -> Dropping
     requires { ⌜ HasHops words (now pairs) (now hops) × (u < 64 * words) ⌝ }
-    ensures { λ r. ⌜ dropped (tally (now (pairs .exit)) (r .count)) (r .way) ≡ dropRowOf words (now (hops .entry)) chain u (now (pairs .entry)) ⌝ }
+    ensures { λ r. ⌜ dropped (tally (now (pairs .exit)) (r .count)) (r .way) ≡ dropRowOf words (wayBy (now (hops .entry))) chain u (now (pairs .entry)) ⌝ }
 {
     let base = words * u;
     let mut count: u32 = 0;
@@ -127,7 +127,7 @@ fn bare_rows(pairs: &[u64], words: usize, u: usize) -> usize
 // Drops the stale pairs of the table in place, a row after the other, and answers what is left of them and the greatest way that was there.
 pub fn drop_stale(pairs: &mut [u64], hops: &[u16], words: usize, chain: u16) -> Dropping
     requires { ⌜ HasHops words (now pairs) (now hops) ⌝ }
-    ensures { λ r. ⌜ dropped (tally (now (pairs .exit)) (r .count)) (r .way) ≡ dropOf words (now (hops .entry)) chain (now (pairs .entry)) ⌝ }
+    ensures { λ r. ⌜ dropped (tally (now (pairs .exit)) (r .count)) (r .way) ≡ dropOf words (wayBy (now (hops .entry))) chain (now (pairs .entry)) ⌝ }
 {
     let mut count: u32 = 0;
     let mut way: u16 = 0;

@@ -8,9 +8,10 @@ use Rattle.stale_pairs.proofs.StaleRow.{RowDropping, row-start, row-wor
 use borrow.Author.Needs.{needs}
 use Rattle.stale_pairs.proofs.drop_row.Statement.{statement}
 use Rattle.stale_pairs.proofs.drop_row.Tie as tie
+use Rattle.stale_pairs.specs.Stale.{wayBy}
 
 abbrev Inv-loop : tie.InvT-loop
-Inv-loop pairs₀ hops words u chain base count₀ way₀ j₀ pairs count way j = RowDropping words hops chain u pairs₀ pairs count way (64 * j)
+Inv-loop pairs₀ hops words u chain base count₀ way₀ j₀ pairs count way j = RowDropping words (wayBy hops) chain u pairs₀ pairs count way (64 * j)
 
 abbrev μ-loop : tie.MeasureT-loop
 μ-loop pairs₀ hops words u chain base count₀ way₀ j₀ pairs count way j = words - j

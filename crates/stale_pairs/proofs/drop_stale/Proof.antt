@@ -7,9 +7,10 @@ use Rattle.stale_pairs.proofs.StaleTable.{TableDropping, table-start, t
 use borrow.Author.Needs.{needs}
 use Rattle.stale_pairs.proofs.drop_stale.Statement.{statement}
 use Rattle.stale_pairs.proofs.drop_stale.Tie as tie
+use Rattle.stale_pairs.specs.Stale.{wayBy}
 
 abbrev Inv-loop : tie.InvT-loop
-Inv-loop pairs₀ hops words chain count₀ way₀ u₀ pairs count way u = TableDropping words hops chain pairs₀ pairs count way u
+Inv-loop pairs₀ hops words chain count₀ way₀ u₀ pairs count way u = TableDropping words (wayBy hops) chain pairs₀ pairs count way u
 
 abbrev μ-loop : tie.MeasureT-loop
 μ-loop pairs₀ hops words chain count₀ way₀ u₀ pairs count way u = 64 * words - u
