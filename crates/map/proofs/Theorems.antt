@@ -44,7 +44,7 @@ unfolding networkOf
 network-once W codes links = distinct-filter (rowBit W codes) (range (64 * W)) (distinct-range (64 * W))
 
 -- so many are open, and no more than there are places
-pub network-length : (W : ℕ) (codes links : List ℕ) → length (vertices (networkOf W codes links)) ≡ countb (rowBit W codes) (range (64 * W))
+pub network-length : (W : ℕ) (codes links : List ℕ) → length (vertices (networkOf W codes links)) ≡ countb (networkOf W codes links .isOpen) (range (64 * W))
 unfolding networkOf
 network-length W codes links = length-count (rowBit W codes) (range (64 * W))
 
