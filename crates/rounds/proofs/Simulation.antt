@@ -30,7 +30,7 @@ use Rattle.layers.specs.Layers.{tableNetwork, Tables, searchLeaves, searchTable
 use Rattle.layers.proofs.Theorems.{table-depth, table-leaves, depth-is}
 use Rattle.map.specs.Memory.{networkOf}
 use Rattle.pairs.specs.Pairs.{Tally, tallyOf, settleOf}
-use Rattle.bounds.specs.Bounds.{pickIn}
+use Rattle.ranks.specs.Ranks.{pickIn}
 use Rattle.rounds.specs.Workspace.{Workspace, lastRow, absorbOf, roundOf, orEnd, runOf, absorbing}
 use Rattle.rounds.proofs.Holding.{Origin, Holds, waitingPlace, after-over, after-snoc}
 use Rattle.rounds.proofs.Pairing.{settle-is}
