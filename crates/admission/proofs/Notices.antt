@@ -2,37 +2,43 @@
 use mathlib.Core.Path.{_≡_, refl, sym, ap, _∙_}
 use mathlib.Core.Bool.{Bool, true, false, cond, not, _&&_, _||_}
 use mathlib.Core.List.{List, [], _∷_}
-use Prim.Native.Nat.{ℕ, _*_}
+use Prim.Native.Nat.{ℕ, suc, _*_}
 use native.Mathlib.Omega.{arith}
+use lib.Dec.{ltb}
 use lib.ListN.{length}
+use borrow.Author.Tests.{lt-ltb}
 use Rattle.lists.specs.Lists.{range, filterb, anyb, allb, firstOf}
 use Rattle.rows.specs.Rows.{rowBit}
 use Rattle.graph.specs.Network.{Network}
 use Rattle.graph.specs.Distance.{vertices}
-use Rattle.graph.specs.Opening.{Notice, strictlyRising, isEmpty, noticeFaults}
+use Rattle.graph.specs.Opening.{Notice, strictlyRising, isEmpty, noticeFaults, openFaults}
 use Rattle.map.specs.Memory.{networkOf}
 
 -- ---- refusal 6, by the two tests of `is_lonely`
 
--- the open codes are none where no bit of the row is set
-filter-empty : (p : ℕ → Bool) (xs : List ℕ) → isEmpty (filterb p xs) ≡ not (anyb p xs)
-unfolding isEmpty filterb anyb
-filter-empty p [] = refl
-filter-empty p (x ∷ xs) = go (p x) (filter-empty p xs)
+-- some code is open where a bit of the row is set
+filter-some : (p : ℕ → Bool) (xs : List ℕ) → ltb 0 (length (filterb p xs)) ≡ anyb p xs
+unfolding filterb anyb
+filter-some p [] = refl
+filter-some p (x ∷ xs) = go (p x) (filter-some p xs)
   where
-    go : (b : Bool) → isEmpty (filterb p xs) ≡ not (anyb p xs) → isEmpty (cond b (x ∷ filterb p xs) (filterb p xs)) ≡ not (b || anyb p xs)
-    go true ih = refl
+    go : (b : Bool) → ltb 0 (length (filterb p xs)) ≡ anyb p xs → ltb 0 (length (cond b (x ∷ filterb p xs) (filterb p xs))) ≡ (b || anyb p xs)
+    go true ih = lt-ltb 0 (suc (length (filterb p xs))) (omega arith)
     go false ih = ih
 
-pub lonely-named : (W : ℕ) (codes ns : List ℕ) → (length ns ≡ 0 → ⊥) → false ≡ (isEmpty ns && not (isEmpty (vertices (networkOf W codes []))))
+pub lonely-named : (W : ℕ) (codes ns : List ℕ) → (length ns ≡ 0 → ⊥) → false ≡ (isEmpty ns && ltb 0 (length (vertices (networkOf W codes []))))
 unfolding isEmpty
 lonely-named W codes [] n = absurd (n refl)
 lonely-named W codes (x ∷ xs) n = refl
 
 pub lonely-first : (W : ℕ) (codes ns : List ℕ) {r : Bool} → length ns ≡ 0 → r ≡ not (anyb (rowBit W codes) (range (64 * W)))
-    → not r ≡ (isEmpty ns && not (isEmpty (vertices (networkOf W codes []))))
-unfolding isEmpty vertices networkOf
-lonely-first W codes [] n e = ap not (e ∙ sym (filter-empty (rowBit W codes) (range (64 * W))))
+    → not r ≡ (isEmpty ns && ltb 0 (length (vertices (networkOf W codes []))))
+unfolding isEmpty networkOf
+lonely-first W codes [] n e = ap not e ∙ not-not (anyb (rowBit W codes) (range (64 * W))) ∙ sym (filter-some (rowBit W codes) (range (64 * W)))
+  where
+    not-not : (b : Bool) → not (not b) ≡ b
+    not-not true = refl
+    not-not false = refl
 lonely-first W codes (x ∷ xs) n e = absurd (omega arith)
 
 -- ---- each refusal, by its test and those before it
@@ -48,24 +54,24 @@ module _ (W : ℕ) (codes : List ℕ) (code : ℕ) (ns : List ℕ) where
   abbrev O : Notice
   O = record { code = code; neighbours = ns }
 
-  pub refused-taken : rowBit W codes code ≡ true → 5 ≡ firstOf (noticeFaults G O)
-  unfolding noticeFaults firstOf networkOf
+  pub refused-taken : rowBit W codes code ≡ true → 5 ≡ firstOf (openFaults G O)
+  unfolding openFaults noticeFaults firstOf networkOf
   refused-taken a = rw a
 
-  pub refused-lonely : rowBit W codes code ≡ false → (isEmpty ns && not (isEmpty (vertices G))) ≡ true → 6 ≡ firstOf (noticeFaults G O)
-  unfolding noticeFaults firstOf networkOf
+  pub refused-lonely : rowBit W codes code ≡ false → (isEmpty ns && ltb 0 (length (vertices G))) ≡ true → 6 ≡ firstOf (openFaults G O)
+  unfolding openFaults noticeFaults firstOf networkOf
   refused-lonely a b = rw (a, b)
 
-  pub refused-unsorted : rowBit W codes code ≡ false → (isEmpty ns && not (isEmpty (vertices G))) ≡ false → strictlyRising ns ≡ false → 7 ≡ firstOf (noticeFaults G O)
-  unfolding noticeFaults firstOf networkOf
+  pub refused-unsorted : rowBit W codes code ≡ false → (isEmpty ns && ltb 0 (length (vertices G))) ≡ false → strictlyRising ns ≡ false → 7 ≡ firstOf (openFaults G O)
+  unfolding openFaults noticeFaults firstOf networkOf
   refused-unsorted a b c = rw (a, b, c)
 
-  pub refused-unknown : rowBit W codes code ≡ false → (isEmpty ns && not (isEmpty (vertices G))) ≡ false → strictlyRising ns ≡ true → allb (rowBit W codes) ns ≡ false
-      → 8 ≡ firstOf (noticeFaults G O)
-  unfolding noticeFaults firstOf networkOf
+  pub refused-unknown : rowBit W codes code ≡ false → (isEmpty ns && ltb 0 (length (vertices G))) ≡ false → strictlyRising ns ≡ true → allb (rowBit W codes) ns ≡ false
+      → 8 ≡ firstOf (openFaults G O)
+  unfolding openFaults noticeFaults firstOf networkOf
   refused-unknown a b c d = rw (a, b, c, d)
 
-  pub refused-never : rowBit W codes code ≡ false → (isEmpty ns && not (isEmpty (vertices G))) ≡ false → strictlyRising ns ≡ true → allb (rowBit W codes) ns ≡ true
-      → 0 ≡ firstOf (noticeFaults G O)
-  unfolding noticeFaults firstOf networkOf
+  pub refused-never : rowBit W codes code ≡ false → (isEmpty ns && ltb 0 (length (vertices G))) ≡ false → strictlyRising ns ≡ true → allb (rowBit W codes) ns ≡ true
+      → 0 ≡ firstOf (openFaults G O)
+  unfolding openFaults noticeFaults firstOf networkOf
   refused-never a b c d = rw (a, b, c, d)

@@ -1,5 +1,5 @@
 -- WHAT A CALLER HAS: the refusals 5 to 8 do not look at links, and the linked table is the network with the new depot. Assumes nothing.
-use mathlib.Core.Path.{_≡_, refl, ap, ap₂, _∙_, fun-ext}
+use mathlib.Core.Path.{_≡_, refl, sym, ap, _∙_, fun-ext}
 use mathlib.Core.Logic.{_⊎_, inl, inr}
 use mathlib.Core.Bool.{Bool, true, false, _&&_, _||_}
 use mathlib.Core.List.{List, [], _∷_}
@@ -8,23 +8,23 @@ use native.Mathlib.Omega.{arith}
 use lib.Dec.{eqb}
 use lib.ListN.{length, getD}
 use borrow.Author.Tests.{ne-eqb}
-use Rattle.lists.specs.Lists.{anyb, memb, overwrite}
+use Rattle.lists.specs.Lists.{range, filterb, anyb, memb, insertBy, overwrite}
 use Rattle.lists.proofs.Tests.{lt-or-ge}
-use Rattle.graph.specs.Network.{Network}
-use Rattle.graph.specs.Opening.{Notice, noticeFaults, addDepot}
+use Rattle.lists.proofs.Distinct.{insert-filter}
+use Rattle.graph.specs.Opening.{Notice, openFaults, byCode, withDepot}
 use Rattle.rows.specs.Rows.{rowBit, tableBit, encodeTable}
 use Rattle.rows.proofs.Written.{table-agree, table-at}
 use Rattle.map.specs.Memory.{networkOf}
 
 -- `notice_refusal` is lent no links, and its answer is that of the map with any
-pub faults-any-links : (W : ℕ) (codes l k : List ℕ) (o : Notice) → noticeFaults (networkOf W codes l) o ≡ noticeFaults (networkOf W codes k) o
-unfolding noticeFaults networkOf
+pub faults-any-links : (W : ℕ) (codes l k : List ℕ) (o : Notice) → openFaults (networkOf W codes l) o ≡ openFaults (networkOf W codes k) o
+unfolding openFaults networkOf
 faults-any-links W codes l k o = refl
 
 -- what `link_depot` encodes is the links of the network with the new depot
 pub linked-is : (W : ℕ) (codes links : List ℕ) (code : ℕ) (ns : List ℕ)
-    → addDepot (networkOf W codes links) code ns .linked ≡ (λ u v. (eqb u code && memb v ns) || (eqb v code && memb u ns) || tableBit W links u v)
-unfolding addDepot networkOf
+    → withDepot (networkOf W codes links) (record { code = code; neighbours = ns }) .linked ≡ (λ u v. (eqb u code && memb v ns) || (eqb v code && memb u ns) || tableBit W links u v)
+unfolding withDepot networkOf
 linked-is W codes links code ns = refl
 
 -- ---- the network after an opening
@@ -71,13 +71,14 @@ module _ (W code : ℕ) (ns : List ℕ) (wide : 4 ≤ W) (byte : code < 256) (by
       go (inr l) m = table-agree W left links u v (λ a b. absurd (omega arith)) ∙ row-past u v (tableBit W links u v) l
 
   -- THE NEW NETWORK: an open set with the code put, and the table that `link_depot` leaves
-  pub linked-after : (codes after links left : List ℕ) → ((v : ℕ) → rowBit W after v ≡ (eqb v code || rowBit W codes v))
+  pub linked-after : (codes after links left : List ℕ) → rowBit W codes code ≡ false → ((v : ℕ) → rowBit W after v ≡ (eqb v code || rowBit W codes v))
       → left ≡ overwrite (encodeTable W (λ u v. (eqb u code && memb v ns) || (eqb v code && memb u ns) || tableBit W links u v)) links
-      → networkOf W after left ≡ addDepot (networkOf W codes links) code ns
-  unfolding addDepot networkOf
-  linked-after codes after links left h e =
-      ap₂ (λ (p : ℕ → Bool) (l : ℕ → ℕ → Bool). of p l) (fun-ext h)
-      (ap (tableBit W) e ∙ fun-ext (λ u. fun-ext (λ v. table-linked links u v)))
+      → networkOf W after left ≡ withDepot (networkOf W codes links) (record { code = code; neighbours = ns })
+  unfolding withDepot networkOf
+  linked-after codes after links left new h e = λ i. record { depots = listed i; isOpen = λ c. h c i; linked = joined i }
     where
-      of : (ℕ → Bool) → (ℕ → ℕ → Bool) → Network
-      of p l = record { limit = 64 * W; isOpen = p; linked = l }
+      listed : filterb (rowBit W after) (range (64 * W)) ≡ insertBy byCode code (filterb (rowBit W codes) (range (64 * W)))
+      listed = ap (λ (p : ℕ → Bool). filterb p (range (64 * W))) (fun-ext h) ∙ sym (insert-filter (rowBit W codes) code (64 * W) (omega arith) new)
+
+      joined : tableBit W left ≡ (λ u v. (eqb u code && memb v ns) || (eqb v code && memb u ns) || tableBit W links u v)
+      joined = ap (tableBit W) e ∙ fun-ext (λ u. fun-ext (λ v. table-linked links u v))

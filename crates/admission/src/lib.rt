@@ -2,13 +2,13 @@
 // byte, and so stands in a row.
 ghost use mathlib.Core.List.{[]};
 ghost use mathlib.Core.Path.{_≡_};
-ghost use mathlib.Core.Bool.{_&&_, _||_, not};
+ghost use mathlib.Core.Bool.{_&&_, _||_};
 ghost use Prim.Native.Nat.{_*_, _<_, _≤_};
-ghost use lib.Dec.{eqb};
+ghost use lib.Dec.{eqb, ltb};
 ghost use lib.ListN.{length};
 ghost use Rattle.lists.specs.Lists.{allb, memb, overwrite, firstOf};
 ghost use Rattle.graph.specs.Distance.{vertices};
-ghost use Rattle.graph.specs.Opening.{strictlyRising, isEmpty, noticeFaults};
+ghost use Rattle.graph.specs.Opening.{strictlyRising, isEmpty, openFaults};
 ghost use Rattle.rows.specs.Rows.{rowBit, tableBit, encodeTable};
 ghost use Rattle.map.specs.Memory.{networkOf};
 
@@ -17,7 +17,7 @@ ghost use Rattle.map.specs.Memory.{networkOf};
 // Whether no depot is named and some are open: the depot would be alone.
 fn is_lonely(codes: &[u64], words: usize, neighbours: &[u8]) -> bool
     requires { ⌜ words ≤ length (now codes) ⌝ }
-    ensures { λ r. ⌜ r ≡ (isEmpty (now (neighbours .entry)) && not (isEmpty (vertices (networkOf words (now (codes .entry)) [])))) ⌝ }
+    ensures { λ r. ⌜ r ≡ (isEmpty (now (neighbours .entry)) && ltb 0 (length (vertices (networkOf words (now (codes .entry)) [])))) ⌝ }
 {
     if neighbours.len() != 0 {
         return false;
@@ -58,7 +58,7 @@ fn all_open(codes: &[u64], words: usize, neighbours: &[u8]) -> bool
 // The first of the refusals 5 to 8 that holds, 0 for none. They ask only which codes are open, so no link is lent.
 pub fn notice_refusal(codes: &[u64], words: usize, code: u8, neighbours: &[u8]) -> u8
     requires { ⌜ (4 ≤ words) × (words < 513) × (words ≤ length (now codes)) ⌝ }
-    ensures { λ r. ⌜ r ≡ firstOf (noticeFaults (networkOf words (now (codes .entry)) []) (record { code = code; neighbours = now (neighbours .entry) })) ⌝ }
+    ensures { λ r. ⌜ r ≡ firstOf (openFaults (networkOf words (now (codes .entry)) []) (record { code = code; neighbours = now (neighbours .entry) })) ⌝ }
 {
     if map::is_open(codes, words, code as usize) {
         return 5;

@@ -50,44 +50,38 @@ module _ (codes links : List ℕ) where
   abbrev G : Network
   G = networkOf 4 codes links
 
-  few-open : countb (G .isOpen) (range (G .limit)) ≤ 256
-  unfolding networkOf
+  few-open : countb (G .isOpen) (range 256) ≤ 256
   few-open = omega (arith, count-le-length (G .isOpen) (range 256), length-range 256)
 
-  few-pairs : (P : Pairs) → countPairs (range (G .limit)) P ≤ 65536
-  unfolding networkOf
+  few-pairs : (P : Pairs) → countPairs (range 256) P ≤ 65536
   few-pairs P = pairs-few 256 P
 
-  limit-is : G .limit ≡ 256
-  unfolding networkOf
-  limit-is = refl
-
-  pub links-clamp : (n : ℕ) → soundLinks G (min n 65535) ≡ soundLinks G n
+  pub links-clamp : (n : ℕ) → soundLinks 256 G (min n 65535) ≡ soundLinks 256 G n
   unfolding soundLinks
-  links-clamp n = ap (λ (t : Bool). t && allSet (G .limit) (G .linked) (soundLink G)) (eqb-clamp n 65535 (countb (G .isOpen) (range (G .limit))) (omega (arith, few-open)))
+  links-clamp n = ap (λ (t : Bool). t && allSet 256 (G .linked) (soundLink G)) (eqb-clamp n 65535 (countb (G .isOpen) (range 256)) (omega (arith, few-open)))
 
-  pub figures-clamp : (P : Pairs) (c k : ℕ) → soundFigures G P (min c 65535) (min k 4294967295) ≡ soundFigures G P c k
+  pub figures-clamp : (P : Pairs) (c k : ℕ) → soundFigures 256 G P (min c 65535) (min k 4294967295) ≡ soundFigures 256 G P c k
   unfolding soundFigures
   figures-clamp P c k =
-      ap₂ (λ (t u : Bool). allSet (G .limit) P (soundPair G) && t && u)
-      (eqb-clamp k 4294967295 (countPairs (range (G .limit)) P) (omega (arith, few-pairs P)))
-      (ltb-clamp c 65535 (G .limit) (omega (arith, limit-is)))
+      ap₂ (λ (t u : Bool). allSet 256 P (soundPair G) && t && u)
+      (eqb-clamp k 4294967295 (countPairs (range 256) P) (omega (arith, few-pairs P)))
+      (ltb-clamp c 65535 256 (omega arith))
 
   -- a figure that passes is below the largest
-  pub number-fits : (n : ℕ) → soundLinks G n ≡ true → min n 65535 ≡ n
+  pub number-fits : (n : ℕ) → soundLinks 256 G n ≡ true → min n 65535 ≡ n
   unfolding soundLinks
   number-fits n e =
-      let q = eqb-true n (countb (G .isOpen) (range (G .limit))) (and-true (eqb n (countb (G .isOpen) (range (G .limit)))) (allSet (G .limit) (G .linked) (soundLink G)) e .0) in
+      let q = eqb-true n (countb (G .isOpen) (range 256)) (and-true (eqb n (countb (G .isOpen) (range 256))) (allSet 256 (G .linked) (soundLink G)) e .0) in
       omega (arith, q, few-open)
 
-  pub figures-fit : (P : Pairs) (c k : ℕ) → soundFigures G P c k ≡ true → (min c 65535 ≡ c) × (min k 4294967295 ≡ k)
+  pub figures-fit : (P : Pairs) (c k : ℕ) → soundFigures 256 G P c k ≡ true → (min c 65535 ≡ c) × (min k 4294967295 ≡ k)
   unfolding soundFigures
   figures-fit P c k e =
-      let a = and-true (allSet (G .limit) P (soundPair G) && eqb k (countPairs (range (G .limit)) P)) (ltb c (G .limit)) e in
-      let b = and-true (allSet (G .limit) P (soundPair G)) (eqb k (countPairs (range (G .limit)) P)) (a .0) in
-      let q = eqb-true k (countPairs (range (G .limit)) P) (b .1) in
-      let r = ltb-true c (G .limit) (a .1) in
-      (omega (arith, r, limit-is), omega (arith, q, few-pairs P))
+      let a = and-true (allSet 256 P (soundPair G) && eqb k (countPairs (range 256) P)) (ltb c 256) e in
+      let b = and-true (allSet 256 P (soundPair G)) (eqb k (countPairs (range 256) P)) (a .0) in
+      let q = eqb-true k (countPairs (range 256) P) (b .1) in
+      let r = ltb-true c 256 (a .1) in
+      (omega (arith, r), omega (arith, q, few-pairs P))
 
 -- ---- the refusals of a lent map
 
@@ -106,8 +100,8 @@ module _ (l links pairs : List ℕ) (z : Sizes) where
   clamped-is e =
       let N = networkOf 4 (take 4 l) links in
       let P = tableBit 4 pairs in
-      let a = first-zero (not (longEnough base z)) 0 ((not (soundLinks N (getD l 4 0) && soundFigures N P (getD l 5 0) (getD l 6 0)), 2) ∷ (not (connected N), 3) ∷ []) e in
-      let b = first-zero (not (soundLinks N (getD l 4 0) && soundFigures N P (getD l 5 0) (getD l 6 0))) 1 ((not (connected N), 3) ∷ []) (a .1) in
-      let c = and-true (soundLinks N (getD l 4 0)) (soundFigures N P (getD l 5 0) (getD l 6 0)) (not-false _ (b .0)) in
+      let a = first-zero (not (longEnough base z)) 0 ((not (soundLinks 256 N (getD l 4 0) && soundFigures 256 N P (getD l 5 0) (getD l 6 0)), 2) ∷ (not (connected N), 3) ∷ []) e in
+      let b = first-zero (not (soundLinks 256 N (getD l 4 0) && soundFigures 256 N P (getD l 5 0) (getD l 6 0))) 1 ((not (connected N), 3) ∷ []) (a .1) in
+      let c = and-true (soundLinks 256 N (getD l 4 0)) (soundFigures 256 N P (getD l 5 0) (getD l 6 0)) (not-false _ (b .0)) in
       let f = figures-fit (take 4 l) links P (getD l 5 0) (getD l 6 0) (c .1) in
       rw (number-fits (take 4 l) links (getD l 4 0) (c .0), f .0, f .1)

@@ -1,16 +1,17 @@
 -- THE STREAM'S OPENINGS ON LENT MEMORY: from the memory of a network, the lines of a list of calls are those of the same notices on the network.
 -- Assumes nothing.
-use mathlib.Core.Path.{_≡_, refl, sym, ap, ap₂, _∙_, subst}
+use mathlib.Core.Path.{_≡_, refl, sym, ap, ap₂, _∙_}
 use mathlib.Core.Bool.{true}
 use mathlib.Core.List.{List, [], _∷_, List·Memᴰ·head, List·Memᴰ·tail}
 use Prim.Native.Nat.{ℕ, zero, suc, _<_}
+use native.Mathlib.Omega.{arith}
 use lib.ListN.{length}
 use Rattle.lists.specs.Lists.{range, filterb, firstOf}
 use Rattle.lists.proofs.Tests.{t→true, true→t}
 use Rattle.graph.specs.Network.{Network}
-use Rattle.graph.specs.Distance.{vertices}
+use Rattle.graph.specs.Distance.{vertices, unreached}
 use Rattle.graph.specs.Chart.{chart, Pairs, diameter, farthest, countPairs}
-use Rattle.graph.specs.Opening.{Notice, Change, grew, kept, shrank, addDepot, noticeFaults, Opened, opening}
+use Rattle.graph.specs.Opening.{Notice, Change, grew, kept, shrank, withDepot, openFaults, Opened, opening}
 use Rattle.graph.specs.Cases.{pairList, AnswerLine, caseLetter, PlainMap, lineFor, followOne, followAll}
 use Rattle.graph.proofs.Theorems.{figures-are, true-chain, true-pairs, farthest-is, net-after, opening-correct}
 use Rattle.map.specs.Memory.{base}
@@ -24,7 +25,7 @@ use Rattle.plain_list.specs.PlainList.{plainNext}
 use Rattle.opening.specs.Memory.{Memory}
 use Rattle.history.specs.History.{Call, lend, lentOf, callStep, memoryAfter, feedOf}
 use Rattle.history.specs.Demand3.{IsCall, AreCalls}
-use Rattle.opening.proofs.Memories.{IsHeld, Stores, memoryFor}
+use Rattle.opening.proofs.Memories.{IsHeld, Stores, memoryFor, depots-few}
 use Rattle.opening.proofs.Grants.{held-after}
 use Rattle.history.proofs.Steps.{lent-says, refusal-is, one-step}
 use Rattle.history.proofs.Runs.{call-memory}
@@ -44,10 +45,6 @@ line-is : (l k s : ℕ) (N : Network) (D : ℕ) (P : Pairs) → lineFor l k s (r
 unfolding lineFor
 line-is l k s N D P = refl
 
-vertices-are : (N : Network) → vertices N ≡ filterb (N .isOpen) (range (N .limit))
-unfolding vertices
-vertices-are N = refl
-
 -- the figures and the line of an opening that leaves x in the network N
 abbrev figuredBy : Network → Opened → PlainMap
 figuredBy N x = record { net = N; chain = x .final .candidate; pairs = x .final .pairs }
@@ -57,8 +54,8 @@ lineBy N x = lineFor (caseLetter (x .change)) 0 (length (x .final .references)) 
 
 accepted-is : (M : PlainMap) (o : Notice)
     → followOne zero M o ≡ (
-      figuredBy (addDepot (M .net) (o .code) (o .neighbours)) (opening (chart (addDepot (M .net) (o .code) (o .neighbours))) (o .code) (M .chain) (M .pairs)),
-      lineBy (addDepot (M .net) (o .code) (o .neighbours)) (opening (chart (addDepot (M .net) (o .code) (o .neighbours))) (o .code) (M .chain) (M .pairs)),
+      figuredBy (withDepot (M .net) o) (opening (chart (withDepot (M .net) o)) (o .code) (M .chain) (M .pairs)),
+      lineBy (withDepot (M .net) o) (opening (chart (withDepot (M .net) o)) (o .code) (M .chain) (M .pairs)),
     )
 unfolding followOne
 accepted-is M o = refl
@@ -68,17 +65,17 @@ unfolding followOne
 refused-is k M o = refl
 
 follow-cons : (M : PlainMap) (o : Notice) (os : List Notice)
-    → followAll M (o ∷ os) ≡ followOne (firstOf (noticeFaults (M .net) o)) M o .1 ∷ followAll (followOne (firstOf (noticeFaults (M .net) o)) M o .0) os
+    → followAll M (o ∷ os) ≡ followOne (firstOf (openFaults (M .net) o)) M o .1 ∷ followAll (followOne (firstOf (openFaults (M .net) o)) M o .0) os
 unfolding followAll
 follow-cons M o os = refl
 
 -- ---- a line read from a memory that stores a network with figures
 
-line-read : (N : Network) (D : ℕ) (P : Pairs) → N .limit ≡ 256 → ((u v : ℕ) → P u v ≡ true → (N .isOpen u ≡ true) × (N .isOpen v ≡ true))
+line-read : (N : Network) (D : ℕ) (P : Pairs) → vertices N ≡ filterb (N .isOpen) (range 256) → ((u v : ℕ) → P u v ≡ true → (N .isOpen u ≡ true) × (N .isOpen v ≡ true))
     → (l : OpenLeft) → Stores base N D P (l .after) (l .links) (l .lent .pairs)
     → answerOf l ≡ lineFor (Outcome.letterOf (l .report .outcome)) (Outcome.refusalOf (l .report .outcome)) (l .report .searches) (record { net = N; chain = D; pairs = P })
 unfolding answerOf pairsIn
-line-read N D P limit ends l s =
+line-read N D P depots ends l s =
     (λ i. record {
       letter = Outcome.letterOf (l .report .outcome);
       refusal = Outcome.refusalOf (l .report .outcome);
@@ -90,14 +87,11 @@ line-read N D P limit ends l s =
     })
     ∙ sym (line-is (Outcome.letterOf (l .report .outcome)) (Outcome.refusalOf (l .report .outcome)) (l .report .searches) N D P)
   where
-    open-codes : filterb (N .isOpen) (range 256) ≡ vertices N
-    open-codes = ap (λ (n : ℕ). filterb (N .isOpen) (range n)) (sym limit) ∙ sym (vertices-are N)
-
     counted : countPairs (range 256) P ≡ countPairs (vertices N) P
-    counted = sym (count-open P (N .isOpen) ends (range 256)) ∙ ap (λ (vs : List ℕ). countPairs vs P) open-codes
+    counted = sym (count-open P (N .isOpen) ends (range 256)) ∙ ap (λ (vs : List ℕ). countPairs vs P) (sym depots)
 
     listed : pairList (range 256) P ≡ pairList (vertices N) P
-    listed = sym (pairs-open P (N .isOpen) ends (range 256)) ∙ ap (λ (vs : List ℕ). pairList vs P) open-codes
+    listed = sym (pairs-open P (N .isOpen) ends (range 256)) ∙ ap (λ (vs : List ℕ). pairList vs P) (sym depots)
 
 -- the letters of specs and graph are one
 letter-same : (c : Change) → Outcome.letterOf (changeOf c) ≡ caseLetter c
@@ -114,7 +108,7 @@ accepted-none shrank = refl
 
 -- an opening on memory that stores a network with figures is the network's
 opened-is : (G : Network) (D : ℕ) (P : Pairs) (rec : Record) (links stored : List ℕ) (o : Notice) → Stores base G D P rec links stored
-    → (networkAfter base rec links o ≡ addDepot G (o .code) (o .neighbours)) × (openedBy base rec links stored o ≡ opening (chart (addDepot G (o .code) (o .neighbours))) (o .code) D P)
+    → (networkAfter base rec links o ≡ withDepot G o) × (openedBy base rec links stored o ≡ opening (chart (withDepot G o)) (o .code) D P)
 unfolding networkAfter openedBy
 opened-is G D P rec links stored o s = (rw (s .network), rw (s .network, s .chain, s .pairs))
 
@@ -134,15 +128,15 @@ module _ (G : Network) (held : IsHeld base G) (c : Call) (call : IsCall base c) 
   B = lentOf (memoryFor base G) c
 
   abbrev N : Network
-  N = addDepot G (c .notice .code) (c .notice .neighbours)
+  N = withDepot G (c .notice)
 
   abbrev y : Opened
-  y = opening (chart (addDepot G (c .notice .code) (c .notice .neighbours))) (c .notice .code) (diameter G) (farthest G)
+  y = opening (chart (withDepot G (c .notice))) (c .notice .code) (diameter G) (farthest G)
 
   says : Stores base G (diameter G) (farthest G) R L (B .pairs)
   says = lent-says base base-shape G held c long
 
-  plain-is : plainRefusal base G (feedOf base c) ≡ firstOf (noticeFaults G o)
+  plain-is : plainRefusal base G (feedOf base c) ≡ firstOf (openFaults G o)
   unfolding plainRefusal feedOf firstOf
   plain-is = rw long
 
@@ -168,16 +162,16 @@ module _ (G : Network) (held : IsHeld base G) (c : Call) (call : IsCall base c) 
     accepted-line : answerOf (openGiven zero base R L B o) ≡ followOne zero (figuredFor G) o .1
     accepted-line =
         let same = opened-is G (diameter G) (farthest G) R L (B .pairs) o says in
-        line-read H (x .final .candidate) (x .final .pairs) (held-after base base-shape R L (B .pairs) (sizesOf L B) o ok (call .code) .limit) ends l (left-stores base R L B o base-shape ok (call .code))
+        line-read H (x .final .candidate) (x .final .pairs) (held-after base base-shape R L (B .pairs) (sizesOf L B) o ok (call .code) .depots) ends l (left-stores base R L B o base-shape ok (call .code))
         ∙ given-line
         ∙ ap₂ lineBy (same .0) (same .1)
         ∙ sym (ap (λ (r : PlainMap × AnswerLine). r .1) (accepted-is (figuredFor G) o))
 
-  accepted-next : firstOf (noticeFaults G o) ≡ 0 → followOne zero (figuredFor G) o .0 ≡ figuredFor N
+  accepted-next : firstOf (openFaults G o) ≡ 0 → followOne zero (figuredFor G) o .0 ≡ figuredFor N
   accepted-next ok =
-      let low = subst (λ (n : ℕ). o .code < n) (sym (held .limit)) (call .code) in
-      let net = net-after G (held .net) o low ok (diameter G) (farthest G) in
-      let figures = opening-correct G (held .net) o low ok (diameter G) (farthest G) (figures-are G (held .net)) .figures in
+      let room : suc (length (vertices G)) < unreached = omega (arith, depots-few base G held) in
+      let net = net-after G (held .net) o room ok (diameter G) (farthest G) in
+      let figures = opening-correct G (held .net) o room ok (diameter G) (farthest G) (figures-are G (held .net)) .figures in
       ap (λ (r : PlainMap × AnswerLine). r .0) (accepted-is (figuredFor G) o)
       ∙ (λ i. record {
         net = N;
@@ -193,12 +187,12 @@ module _ (G : Network) (held : IsHeld base G) (c : Call) (call : IsCall base c) 
   refused-line : (k : ℕ) → answerOf (openGiven (suc k) base R L B o) ≡ followOne (suc k) (figuredFor G) o .1
   unfolding openGiven Outcome.letterOf Outcome.refusalOf
   refused-line k =
-      line-read G (diameter G) (farthest G) (held .limit) own-ends (openGiven (suc k) base R L B o) says
+      line-read G (diameter G) (farthest G) (held .depots) own-ends (openGiven (suc k) base R L B o) says
       ∙ sym (ap (λ (r : PlainMap × AnswerLine). r .1) (refused-is k (figuredFor G) o))
 
   -- ---- either
 
-  call-line : answerOf (callStep (openCall base) (memoryFor base G) c) ≡ followOne (firstOf (noticeFaults G o)) (figuredFor G) o .1
+  call-line : answerOf (callStep (openCall base) (memoryFor base G) c) ≡ followOne (firstOf (openFaults G o)) (figuredFor G) o .1
   unfolding callStep openCall
   call-line = go (openRefusal base R L (B .pairs) (sizesOf L B) o) refl ∙ ap (λ (k : ℕ). followOne k (figuredFor G) o .1) (refusal-is base base-shape G held c ∙ plain-is)
     where
@@ -206,11 +200,11 @@ module _ (G : Network) (held : IsHeld base G) (c : Call) (call : IsCall base c) 
       go zero ok = accepted-line ok
       go (suc k) ko = refused-line k
 
-  call-next : followOne (firstOf (noticeFaults G o)) (figuredFor G) o .0 ≡ figuredFor (plainNext (firstOf (noticeFaults G o)) G o)
+  call-next : followOne (firstOf (openFaults G o)) (figuredFor G) o .0 ≡ figuredFor (plainNext (firstOf (openFaults G o)) G o)
   unfolding plainNext
-  call-next = go (firstOf (noticeFaults G o)) refl
+  call-next = go (firstOf (openFaults G o)) refl
     where
-      go : (k : ℕ) → firstOf (noticeFaults G o) ≡ k → followOne k (figuredFor G) o .0 ≡ figuredFor (plainNext k G o)
+      go : (k : ℕ) → firstOf (openFaults G o) ≡ k → followOne k (figuredFor G) o .0 ≡ figuredFor (plainNext k G o)
       go zero ok = accepted-next ok
       go (suc k) ko = ap (λ (r : PlainMap × AnswerLine). r .0) (refused-is k (figuredFor G) o)
 
@@ -236,5 +230,5 @@ lines-are G held (c ∷ cs) calls lent =
     lines-cons (memoryFor base G) c cs
     ∙ ap₂ (λ (r : AnswerLine) (M : Memory). r ∷ answersOf (openCall base) M cs) (call-line G held c call long) (call-memory base base-shape G held c call)
     ∙ ap₂ (λ (r : AnswerLine) (rs : List AnswerLine). r ∷ rs) refl (lines-are H (one-step base base-shape G held c call .isHeld) cs (λ d m. calls d (List·Memᴰ·tail m)) (λ d m. lent d (List·Memᴰ·tail m)))
-    ∙ ap (λ (M : PlainMap). followOne (firstOf (noticeFaults G (c .notice))) (figuredFor G) (c .notice) .1 ∷ followAll M (noticesOf cs)) (same ∙ sym (call-next G held c call long))
+    ∙ ap (λ (M : PlainMap). followOne (firstOf (openFaults G (c .notice))) (figuredFor G) (c .notice) .1 ∷ followAll M (noticesOf cs)) (same ∙ sym (call-next G held c call long))
     ∙ sym (follow-cons (figuredFor G) (c .notice) (noticesOf cs))

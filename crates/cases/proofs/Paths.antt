@@ -1,18 +1,23 @@
 -- THE PATHS 0-1-..-(k - 1) are networks that a map can hold, and their words mean them. Assumes nothing.
-use mathlib.Core.Path.{_≡_, refl, sym}
+use mathlib.Core.Path.{_≡_, refl, sym, _∙_}
 use mathlib.Core.Logic.{_⊎_, inl, inr}
 use mathlib.Core.Bool.{true, _&&_, _||_}
 use Prim.Native.Nat.{ℕ, zero, suc, _+_, _≤_, _<_}
 use native.Mathlib.Nat.{lt-irrefl}
 use native.Mathlib.Omega.{arith}
 use lib.Dec.{T, eqb, ltb}
-use borrow.Author.Tests.{ltb-true, lt-ltb, eqb-true, eq-eqb}
+use lib.ListN.{length}
+use borrow.Author.Tests.{ltb-true, lt-ltb, le-ltb, eqb-true, eq-eqb}
+use Rattle.lists.specs.Lists.{range, filterb, memb, distinct}
 use Rattle.lists.proofs.Tests.{t→true, true→t, and-true, and-intro, or-true, or-left, or-right}
+use Rattle.lists.proofs.Members.{filter-all, range-out, length-range}
+use Rattle.lists.proofs.Distinct.{memb-range, distinct-range}
 use Rattle.graph.specs.Network.{IsSound, Walk, stay, step}
 use Rattle.graph.specs.Correct.{IsNet}
 use Rattle.graph.specs.Cases.{path}
 use Rattle.graph.proofs.Walks.{append, reverse}
 use Rattle.map.specs.Memory.{base}
+use Rattle.bounds.proofs.Picking.{filter-skip}
 use Rattle.opening.proofs.Memories.{IsHeld}
 
 -- ---- its links
@@ -44,15 +49,33 @@ open-by : (k u : ℕ) → u < k → T (path k .isOpen u)
 unfolding path
 open-by k u l = true→t (lt-ltb u k l)
 
-limit-is : (k : ℕ) → path k .limit ≡ 256
+-- its depots are 0 to k - 1
+listed-is : (k u : ℕ) → path k .isOpen u ≡ memb u (path k .depots)
 unfolding path
-limit-is k = refl
+listed-is k u = sym (memb-range k u)
+
+once-is : (k : ℕ) → distinct (path k .depots) ≡ true
+unfolding path
+once-is k = distinct-range k
+
+number-is : (k : ℕ) → length (path k .depots) ≡ k
+unfolding path
+number-is k = length-range k
+
+rising-is : (k : ℕ) → k ≤ 256 → path k .depots ≡ filterb (path k .isOpen) (range 256)
+unfolding path
+rising-is k low =
+    sym (
+    filter-skip (λ c. ltb c k) k 256 low (λ u l m. le-ltb u k l)
+    ∙ filter-all (λ c. ltb c k) (range k) (λ u m. lt-ltb u k (range-out k m))
+    )
 
 -- ---- it is sound and connected
 
-path-sound : (k : ℕ) → k ≤ 256 → IsSound (path k)
-path-sound k low = record {
-  below = λ u o. omega (arith, open-is k u o, limit-is k);
+path-sound : (k : ℕ) → IsSound (path k)
+path-sound k = record {
+  listed = listed-is k;
+  once = once-is k;
   ends = λ u v h. open-by k v (linked-is k u v h .1);
   loopless = λ u v h q. differ u v q (linked-is k u v h .2);
   symmetric = λ u v h. let x = linked-is k u v h in linked-by k v u (x .1) (x .0) (turn u v (x .2));
@@ -73,10 +96,10 @@ to-zero k (suc u) l = step (linked-by k (suc u) u l (omega arith) (inr refl)) (t
 
 path-net : (k : ℕ) → k ≤ 256 → IsNet (path k)
 path-net k low = record {
-  sound = path-sound k low;
-  connected = λ u v ou ov. (u + v, append (to-zero k u (open-is k u ou)) (reverse (path-sound k low) (to-zero k v (open-is k v ov))));
-  small = omega (arith, limit-is k);
+  sound = path-sound k;
+  connected = λ u v ou ov. (u + v, append (to-zero k u (open-is k u ou)) (reverse (path-sound k) (to-zero k v (open-is k v ov))));
+  small = omega (arith, number-is k, low);
 }
 
 pub path-held : (k : ℕ) → k ≤ 256 → IsHeld base (path k)
-path-held k low = record { net = path-net k low; limit = limit-is k }
+path-held k low = record { net = path-net k low; depots = rising-is k low }

@@ -59,10 +59,10 @@ module _ (k number : ℕ) (low : k ≤ 256) (counts : number ≡ countb (path k 
 
   -- ---- nothing refuses it
 
-  links-pass : soundLinks (networkOf 4 (rec .codes) links) (rec .number) ≡ true
+  links-pass : soundLinks 256 (networkOf 4 (rec .codes) links) (rec .number) ≡ true
   links-pass =
       sound-links-iff 4 (rec .codes) links (rec .number) .1
-      (rw (lent .network, lent .counted) (record { isSound = held .net .sound; counted = counts ∙ ap (λ (n : ℕ). countb (path k .isOpen) (range n)) (sym (held .limit)) }))
+      (rw (lent .network, lent .counted) (record { isSound = held .net .sound; counted = counts }))
 
   connected-pass : connected (networkOf 4 (rec .codes) links) ≡ true
   connected-pass = rw (lent .network) (connected-iff (path k) (held .net .sound) (held .net .small) .1 (held .net .connected))
@@ -95,12 +95,14 @@ module _ (k number : ℕ) (low : k ≤ 256) (counts : number ≡ countb (path k 
   tests u v h = let e = ends u v (true→t h) in (t→true (path k .isOpen u) (e .0), t→true (path k .isOpen v) (e .1))
 
   pairs-are : pairsIn (overwrite (encodeTable 4 (S .pairs)) (B .pairs)) ≡ pairList (vertices (path k)) (S .pairs)
-  unfolding pairsIn vertices path
-  pairs-are = ap (pairList (range 256)) (pairs-read base (path k) held (S .pairs) ends (B .pairs)) ∙ sym (pairs-open (S .pairs) (path k .isOpen) tests (range 256))
+  unfolding pairsIn
+  pairs-are =
+      ap (pairList (range 256)) (pairs-read base (path k) held (S .pairs) ends (B .pairs))
+      ∙ sym (pairs-open (S .pairs) (path k .isOpen) tests (range 256))
+      ∙ ap (λ (vs : List ℕ). pairList vs (S .pairs)) (sym (held .depots))
 
   count-is : countPairs (range 256) (S .pairs) ≡ countPairs (vertices (path k)) (S .pairs)
-  unfolding vertices path
-  count-is = sym (count-open (S .pairs) (path k .isOpen) tests (range 256))
+  count-is = sym (count-open (S .pairs) (path k .isOpen) tests (range 256)) ∙ ap (λ (vs : List ℕ). countPairs vs (S .pairs)) (sym (held .depots))
 
   -- ---- ITS RESULT
 

@@ -10,6 +10,7 @@ use lib.ListN.{length}
 use borrow.Author.Tests.{le-ltb, le-leb, ltb-true}
 use Rattle.lists.specs.Lists.{range, allb, countb, mapl, overwrite, firstOf}
 use Rattle.lists.proofs.Tests.{true→t, and-true}
+use Rattle.lists.proofs.Members.{filter-ext, filter-none}
 use Rattle.rows.specs.Rows.{encodeRow, encodeTable}
 use Rattle.graph.specs.Chart.{chart, countPairs}
 use Rattle.graph.specs.Rounds.{reckon}
@@ -74,7 +75,7 @@ module _ (rec : Record) (links pairs : List ℕ) (l : 1024 ≤ length links) (p 
   unfolding networkOf Graph.path
   emptied-path =
       let e = emptied-is-empty base rec links pairs emptied-done in
-      (network-path refl (λ c. e .closed c ∙ sym (none c)) (λ u v. e .unlinked u v ∙ sym (ap (λ (b : Bool). b && ltb v 0 && (eqb (suc u) v || eqb u (suc v))) (none u))), e .number)
+      (network-path (filter-ext _ (λ c. false) (range 256) (λ c m. e .closed c) ∙ filter-none (range 256)) (λ c. e .closed c ∙ sym (none c)) (λ u v. e .unlinked u v ∙ sym (ap (λ (b : Bool). b && ltb v 0 && (eqb (suc u) v || eqb u (suc v))) (none u))), e .number)
     where
       none : (c : ℕ) → ltb c 0 ≡ false
       none c = le-ltb c 0 zero-le
@@ -100,9 +101,9 @@ seven-bytes : allb areBytes Graph.sevenLines ≡ true
 unfolding allb areBytes
 seven-bytes = refl
 
-start-figured : figuredFor (emptyNetwork 256) ≡ Graph.noDepot
+start-figured : figuredFor emptyNetwork ≡ Graph.noDepot
 unfolding Graph.noDepot
-start-figured = λ i. record { net = emptyNetwork 256; chain = none-diameter base base-shape i; pairs = none-farthest base base-shape i }
+start-figured = λ i. record { net = emptyNetwork; chain = none-diameter base base-shape i; pairs = none-farthest base base-shape i }
 
 -- notices opened from the empty map give the lines of the network's own openings
 pub opened-lines : (os : List Notice) → allb areBytes os ≡ true → (cs : List Call) → noticesOf cs ≡ os → AllLong cs
@@ -110,7 +111,7 @@ pub opened-lines : (os : List Notice) → allb areBytes os ≡ true → (cs : Li
 opened-lines os bytes cs e lent =
     let calls = calls-of cs (ap (allb areBytes) e ∙ bytes) in
     ap (λ (M : Memory). answersOf (openCall base) M cs) (empty-memory base base-shape)
-    ∙ lines-are (emptyNetwork 256) (empty-held base base-shape) cs calls lent
+    ∙ lines-are emptyNetwork (empty-held base base-shape) cs calls lent
     ∙ ap₂ Graph.followAll start-figured e
 
 stream-holds : (cs : List Call) → noticesOf cs ≡ Graph.sevenLines → AllLong cs → answersOf (openCall base) (emptyMemory base) cs ≡ sevenAnswers

@@ -2,16 +2,18 @@
 use mathlib.Core.Path.{_≡_, refl}
 use mathlib.Core.Bool.{Bool, true, not, _&&_}
 use mathlib.Core.List.{List, _∷_}
-use Prim.Native.Nat.{ℕ, _<_}
+use Prim.Native.Nat.{ℕ, _*_, _<_}
 use native.Mathlib.Omega.{arith}
+use lib.ListN.{length}
 use borrow.Author.Tests.{not-true, not-false}
 use Rattle.lists.proofs.Tests.{and-true}
 use Rattle.lists.proofs.Conditions.{Decides, decides-iff, decides-not, decides-nand, Tells}
 use Rattle.graph.specs.Network.{Network}
-use Rattle.graph.specs.Distance.{unreached, connected}
+use Rattle.graph.specs.Distance.{vertices, unreached, connected}
 use Rattle.graph.specs.Chart.{Pairs}
 use Rattle.graph.proofs.Apart.{apart-of, apart-not}
 use Rattle.map.specs.Memory.{networkOf}
+use Rattle.map.proofs.Theorems.{network-most}
 use Rattle.checks.specs.Sound.{soundLinks, soundFigures, AreLinksSound}
 use Rattle.checks.specs.Refusals.{IsSpoilt, IsMapSpoilt, IsSoundApart}
 use Rattle.checks.proofs.Theorems.{sound-links-iff, sound-figures-iff}
@@ -20,14 +22,13 @@ module _ (W : ℕ) (most : W < 513) (codes links : List ℕ) (number : ℕ) wher
   abbrev G : Network
   G = networkOf W codes links
 
-  small : G .limit < unreached
-  unfolding networkOf
-  small = omega (arith, most)
+  small : length (vertices G) < unreached
+  small = omega (arith, network-most W codes links, most)
 
-  decides-links : Decides (soundLinks G number) (AreLinksSound G number)
+  decides-links : Decides (soundLinks (64 * W) G number) (AreLinksSound (64 * W) G number)
   decides-links = decides-iff (sound-links-iff W codes links number)
 
-  decides-apart : soundLinks G number ≡ true → Decides (not (connected G)) (IsSoundApart G number)
+  decides-apart : soundLinks (64 * W) G number ≡ true → Decides (not (connected G)) (IsSoundApart (64 * W) G number)
   decides-apart e =
       let s = decides-links .holds e in
       record {
@@ -36,20 +37,20 @@ module _ (W : ℕ) (most : W < 513) (codes links : List ℕ) (number : ℕ) wher
       }
 
   module _ (tests : List (Bool × ℕ)) (conditions : List (Type 0 × ℕ)) (rest : Tells tests conditions) where
-    pub links-tell : Tells ((not (soundLinks (networkOf W codes links) number), 2) ∷ (not (connected (networkOf W codes links)), 3) ∷ tests)
-        ((IsSpoilt (networkOf W codes links) number, 2) ∷ (IsSoundApart (networkOf W codes links) number, 3) ∷ conditions)
+    pub links-tell : Tells ((not (soundLinks (64 * W) (networkOf W codes links) number), 2) ∷ (not (connected (networkOf W codes links)), 3) ∷ tests)
+        ((IsSpoilt (64 * W) (networkOf W codes links) number, 2) ∷ (IsSoundApart (64 * W) (networkOf W codes links) number, 3) ∷ conditions)
     links-tell =
-        let b = soundLinks G number in
+        let b = soundLinks (64 * W) G number in
         (refl, decides-not b decides-links, λ f. (refl, decides-apart (not-false b f), λ g. rest))
 
     pub map-tells : (P : Pairs) (chain count : ℕ)
         → Tells
-        ((not (soundLinks (networkOf W codes links) number && soundFigures (networkOf W codes links) P chain count), 2)
+        ((not (soundLinks (64 * W) (networkOf W codes links) number && soundFigures (64 * W) (networkOf W codes links) P chain count), 2)
         ∷ (not (connected (networkOf W codes links)), 3)
         ∷ tests)
-        ((IsMapSpoilt (networkOf W codes links) number P chain count, 2) ∷ (IsSoundApart (networkOf W codes links) number, 3) ∷ conditions)
+        ((IsMapSpoilt (64 * W) (networkOf W codes links) number P chain count, 2) ∷ (IsSoundApart (64 * W) (networkOf W codes links) number, 3) ∷ conditions)
     map-tells P chain count =
-        let a = soundLinks G number in
-        let b = soundFigures G P chain count in
-        let figures = decides-iff (sound-figures-iff G P chain count) in
+        let a = soundLinks (64 * W) G number in
+        let b = soundFigures (64 * W) G P chain count in
+        let figures = decides-iff (sound-figures-iff (64 * W) G P chain count) in
         (refl, decides-nand a b decides-links figures, λ f. (refl, decides-apart (and-true a b (not-false (a && b) f) .0), λ g. rest))

@@ -19,7 +19,7 @@ use Rattle.map.specs.Bits.{soundLink, soundPair}
 use Rattle.map.specs.Empty.{EmptyLeft, IsEmpty}
 use Rattle.lists.proofs.Ranges.{sum-none}
 use Rattle.checks.proofs.Sets.{all-set-intro, all-set-elim}
-use Rattle.map.proofs.Theorems.{network-open-below, network-linked-below}
+use Rattle.map.proofs.Theorems.{network-listed, network-once, network-linked-below}
 
 -- ---- SOUND LINKS: the test says what the words say, on any words whatever
 
@@ -27,35 +27,36 @@ module _ (W : ℕ) (codes links : List ℕ) (number : ℕ) where
   abbrev G : Network
   G = networkOf W codes links
 
-  links-sound-of : soundLinks G number ≡ true → AreLinksSound G number
+  links-sound-of : soundLinks (64 * W) G number ≡ true → AreLinksSound (64 * W) G number
   unfolding soundLinks soundLink networkOf
   links-sound-of h = record {
     isSound = record {
-      below = network-open-below W codes links;
+      listed = network-listed W codes links;
+      once = network-once W codes links;
       ends = λ u v l. true→t (parts u v l .0);
       loopless = λ u v l. eqb-false u v (not-true (eqb u v) (parts u v l .1));
       symmetric = λ u v l. true→t (parts u v l .2);
     };
-    counted = eqb-true number (countb (G .isOpen) (range (G .limit))) (both .0);
+    counted = eqb-true number (countb (G .isOpen) (range (64 * W))) (both .0);
   }
     where
-      both : (eqb number (countb (G .isOpen) (range (G .limit))) ≡ true) × (allSet (G .limit) (G .linked) (soundLink G) ≡ true)
-      both = and-true (eqb number (countb (G .isOpen) (range (G .limit)))) (allSet (G .limit) (G .linked) (soundLink G)) h
+      both : (eqb number (countb (G .isOpen) (range (64 * W))) ≡ true) × (allSet (64 * W) (G .linked) (soundLink G) ≡ true)
+      both = and-true (eqb number (countb (G .isOpen) (range (64 * W)))) (allSet (64 * W) (G .linked) (soundLink G)) h
 
       parts : (u v : ℕ) → T (G .linked u v) → (G .isOpen v ≡ true) × (not (eqb u v) ≡ true) × (G .linked v u ≡ true)
       parts u v l =
           let r = network-linked-below W codes links u v l in
-          let y : soundLink G u v ≡ true = all-set-elim (G .limit) (G .linked) (soundLink G) (both .1) u v (r .0) (r .1) (t→true (G .linked u v) l) in
+          let y : soundLink G u v ≡ true = all-set-elim (64 * W) (G .linked) (soundLink G) (both .1) u v (r .0) (r .1) (t→true (G .linked u v) l) in
           let a = and-true (G .isOpen u && G .isOpen v && not (eqb u v)) (G .linked v u) y in
           let b = and-true (G .isOpen u && G .isOpen v) (not (eqb u v)) (a .0) in
           let c = and-true (G .isOpen u) (G .isOpen v) (b .0) in
           (c .1, b .1, a .1)
 
-  links-sound-if : AreLinksSound G number → soundLinks G number ≡ true
+  links-sound-if : AreLinksSound (64 * W) G number → soundLinks (64 * W) G number ≡ true
   unfolding soundLinks soundLink
   links-sound-if s =
-      and-intro {a = eqb number (countb (G .isOpen) (range (G .limit)))} (eq-eqb number (countb (G .isOpen) (range (G .limit))) (s .counted))
-      (all-set-intro (G .limit) (G .linked) (soundLink G) (λ u v l m e. one u v e))
+      and-intro {a = eqb number (countb (G .isOpen) (range (64 * W)))} (eq-eqb number (countb (G .isOpen) (range (64 * W))) (s .counted))
+      (all-set-intro (64 * W) (G .linked) (soundLink G) (λ u v l m e. one u v e))
     where
       one : (u v : ℕ) → G .linked u v ≡ true → soundLink G u v ≡ true
       one u v e =
@@ -65,51 +66,51 @@ module _ (W : ℕ) (codes links : List ℕ) (number : ℕ) where
           let c : eqb u v ≡ false = ne-eqb u v (s .isSound .loopless u v (true→t e)) in
           rw (a, b, c) (t→true (G .linked v u) back)
 
-  pub sound-links-iff : (soundLinks G number ≡ true) ↔ AreLinksSound G number
+  pub sound-links-iff : (soundLinks (64 * W) G number ≡ true) ↔ AreLinksSound (64 * W) G number
   sound-links-iff = (links-sound-of, links-sound-if)
 
 -- ---- SOUND FIGURES: the same, and they ask nothing of the links
 
 pub figures-any-links : (W : ℕ) (codes l k : List ℕ) (P : Pairs) (chain count : ℕ)
-    → soundFigures (networkOf W codes l) P chain count ≡ soundFigures (networkOf W codes k) P chain count
+    → soundFigures (64 * W) (networkOf W codes l) P chain count ≡ soundFigures (64 * W) (networkOf W codes k) P chain count
 unfolding soundFigures soundPair networkOf
 figures-any-links W codes l k P chain count = refl
 
-module _ (G : Network) (P : Pairs) (chain count : ℕ) where
+module _ (n : ℕ) (G : Network) (P : Pairs) (chain count : ℕ) where
   abbrev counted : Bool
-  counted = eqb count (countPairs (range (G .limit)) P)
+  counted = eqb count (countPairs (range n) P)
 
-  figures-sound-of : soundFigures G P chain count ≡ true → AreFiguresSound G P chain count
+  figures-sound-of : soundFigures n G P chain count ≡ true → AreFiguresSound n G P chain count
   unfolding soundFigures soundPair
   figures-sound-of h = record {
     rising = λ u v l m p. parts u v l m p .0;
     ends = λ u v l m p. let r = parts u v l m p in (r .1, r .2);
-    counted = eqb-true count (countPairs (range (G .limit)) P) (both .1);
-    below = ltb-true chain (G .limit) (all .1);
+    counted = eqb-true count (countPairs (range n) P) (both .1);
+    below = ltb-true chain n (all .1);
   }
     where
-      all : (allSet (G .limit) P (soundPair G) && counted ≡ true) × (ltb chain (G .limit) ≡ true)
-      all = and-true (allSet (G .limit) P (soundPair G) && counted) (ltb chain (G .limit)) h
+      all : (allSet n P (soundPair G) && counted ≡ true) × (ltb chain n ≡ true)
+      all = and-true (allSet n P (soundPair G) && counted) (ltb chain n) h
 
-      both : (allSet (G .limit) P (soundPair G) ≡ true) × (counted ≡ true)
-      both = and-true (allSet (G .limit) P (soundPair G)) counted (all .0)
+      both : (allSet n P (soundPair G) ≡ true) × (counted ≡ true)
+      both = and-true (allSet n P (soundPair G)) counted (all .0)
 
-      parts : (u v : ℕ) → u < G .limit → v < G .limit → T (P u v) → (u < v) × T (G .isOpen u) × T (G .isOpen v)
+      parts : (u v : ℕ) → u < n → v < n → T (P u v) → (u < v) × T (G .isOpen u) × T (G .isOpen v)
       parts u v l m p =
-          let y : soundPair G u v ≡ true = all-set-elim (G .limit) P (soundPair G) (both .0) u v l m (t→true (P u v) p) in
+          let y : soundPair G u v ≡ true = all-set-elim n P (soundPair G) (both .0) u v l m (t→true (P u v) p) in
           let a = and-true (ltb u v && G .isOpen u) (G .isOpen v) y in
           let b = and-true (ltb u v) (G .isOpen u) (a .0) in
           (ltb-true u v (b .0), true→t (b .1), true→t (a .1))
 
-  figures-sound-if : AreFiguresSound G P chain count → soundFigures G P chain count ≡ true
+  figures-sound-if : AreFiguresSound n G P chain count → soundFigures n G P chain count ≡ true
   unfolding soundFigures soundPair
   figures-sound-if s =
-      let a : allSet (G .limit) P (soundPair G) ≡ true = all-set-intro (G .limit) P (soundPair G) (λ u v l m e. one u v l m e) in
-      let b : counted ≡ true = eq-eqb count (countPairs (range (G .limit)) P) (s .counted) in
-      let c : ltb chain (G .limit) ≡ true = lt-ltb chain (G .limit) (s .below) in
+      let a : allSet n P (soundPair G) ≡ true = all-set-intro n P (soundPair G) (λ u v l m e. one u v l m e) in
+      let b : counted ≡ true = eq-eqb count (countPairs (range n) P) (s .counted) in
+      let c : ltb chain n ≡ true = lt-ltb chain n (s .below) in
       rw (a, b, c)
     where
-      one : (u v : ℕ) → u < G .limit → v < G .limit → P u v ≡ true → soundPair G u v ≡ true
+      one : (u v : ℕ) → u < n → v < n → P u v ≡ true → soundPair G u v ≡ true
       one u v l m e =
           let o = s .ends u v l m (true→t e) in
           let a : ltb u v ≡ true = lt-ltb u v (s .rising u v l m (true→t e)) in
@@ -117,18 +118,19 @@ module _ (G : Network) (P : Pairs) (chain count : ℕ) where
           let c : G .isOpen v ≡ true = t→true _ (o .1) in
           rw (a, b, c)
 
-  pub sound-figures-iff : (soundFigures G P chain count ≡ true) ↔ AreFiguresSound G P chain count
+  pub sound-figures-iff : (soundFigures n G P chain count ≡ true) ↔ AreFiguresSound n G P chain count
   sound-figures-iff = (figures-sound-of, figures-sound-if)
 
 -- ---- AN EMPTY MAP IS SOUND
 
-pub empty-links-sound : (W : ℕ) (left : EmptyLeft) → IsEmpty W left → soundLinks (networkOf W (left .after .codes) (left .links)) (left .after .number) ≡ true
+pub empty-links-sound : (W : ℕ) (left : EmptyLeft) → IsEmpty W left → soundLinks (64 * W) (networkOf W (left .after .codes) (left .links)) (left .after .number) ≡ true
 unfolding networkOf
 empty-links-sound W left e =
     sound-links-iff W (left .after .codes) (left .links) (left .after .number) .1
     (record {
       isSound = record {
-        below = network-open-below W (left .after .codes) (left .links);
+        listed = network-listed W (left .after .codes) (left .links);
+        once = network-once W (left .after .codes) (left .links);
         ends = λ u v l. absurd (false→not (e .unlinked u v) l);
         loopless = λ u v l. absurd (false→not (e .unlinked u v) l);
         symmetric = λ u v l. absurd (false→not (e .unlinked u v) l);
@@ -137,10 +139,10 @@ empty-links-sound W left e =
     })
 
 pub empty-figures-sound : (W : ℕ) (left : EmptyLeft) → 0 < W → IsEmpty W left
-    → soundFigures (networkOf W (left .after .codes) (left .links)) (tableBit W (left .pairs)) (left .after .chain) (left .after .count) ≡ true
+    → soundFigures (64 * W) (networkOf W (left .after .codes) (left .links)) (tableBit W (left .pairs)) (left .after .chain) (left .after .count) ≡ true
 unfolding networkOf countPairs
 empty-figures-sound W left some e =
-    sound-figures-iff (networkOf W (left .after .codes) (left .links)) (tableBit W (left .pairs)) (left .after .chain) (left .after .count) .1
+    sound-figures-iff (64 * W) (networkOf W (left .after .codes) (left .links)) (tableBit W (left .pairs)) (left .after .chain) (left .after .count) .1
     (record {
       rising = λ u v l m p. absurd (false→not (e .unpaired u v) p);
       ends = λ u v l m p. absurd (false→not (e .unpaired u v) p);

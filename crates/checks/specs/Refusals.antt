@@ -8,22 +8,23 @@ use Rattle.graph.specs.Chart.{Pairs}
 use Rattle.graph.specs.Refusals.{IsApart}
 use Rattle.checks.specs.Sound.{AreLinksSound, AreFiguresSound}
 
+-- n is the number of codes, open and closed.
 -- 2, spoilt: the links are not sound
-abbrev pub IsSpoilt : Network → ℕ → Type 0
-IsSpoilt G number = AreLinksSound G number → ⊥
+abbrev pub IsSpoilt : ℕ → Network → ℕ → Type 0
+IsSpoilt n G number = AreLinksSound n G number → ⊥
 
 -- 2 for a call that changes the map: the links or the figures are not sound
-abbrev pub IsMapSpoilt : Network → ℕ → Pairs → ℕ → ℕ → Type 0
-IsMapSpoilt G number P chain count = IsSpoilt G number ⊎ (AreFiguresSound G P chain count → ⊥)
+abbrev pub IsMapSpoilt : ℕ → Network → ℕ → Pairs → ℕ → ℕ → Type 0
+IsMapSpoilt n G number P chain count = IsSpoilt n G number ⊎ (AreFiguresSound n G P chain count → ⊥)
 
 -- 3, apart: the links are sound, but no walk leads from the lowest open code to some open depot
-abbrev pub IsSoundApart : Network → ℕ → Type 0
-IsSoundApart G number = AreLinksSound G number × IsApart G
+abbrev pub IsSoundApart : ℕ → Network → ℕ → Type 0
+IsSoundApart n G number = AreLinksSound n G number × IsApart G
 
 -- the table for a call that reads the links alone
-abbrev pub linkConditions : Network → ℕ → List (Type 0 × ℕ)
-linkConditions G number = (IsSpoilt G number, 2) ∷ (IsSoundApart G number, 3) ∷ []
+abbrev pub linkConditions : ℕ → Network → ℕ → List (Type 0 × ℕ)
+linkConditions n G number = (IsSpoilt n G number, 2) ∷ (IsSoundApart n G number, 3) ∷ []
 
 -- the table for a call that changes the map
-abbrev pub mapConditions : Network → ℕ → Pairs → ℕ → ℕ → List (Type 0 × ℕ)
-mapConditions G number P chain count = (IsMapSpoilt G number P chain count, 2) ∷ (IsSoundApart G number, 3) ∷ []
+abbrev pub mapConditions : ℕ → Network → ℕ → Pairs → ℕ → ℕ → List (Type 0 × ℕ)
+mapConditions n G number P chain count = (IsMapSpoilt n G number P chain count, 2) ∷ (IsSoundApart n G number, 3) ∷ []

@@ -14,25 +14,26 @@ use Rattle.map.specs.Bits.{soundPair, soundLink}
 unfoldable pub allSet : ℕ → (ℕ → ℕ → Bool) → (ℕ → ℕ → Bool) → Bool
 allSet n bits test = allb (λ u. allb (λ v. not (bits u v) || test u v) (range n)) (range n)
 
+-- n is the number of codes, open and closed: so many rows and columns a table has.
 -- the links are sound: as many codes are open as the record says, and every bit of the link table may stand
-unfoldable pub soundLinks : Network → ℕ → Bool
-soundLinks G number = eqb number (countb (G .isOpen) (range (G .limit))) && allSet (G .limit) (G .linked) (soundLink G)
+unfoldable pub soundLinks : ℕ → Network → ℕ → Bool
+soundLinks n G number = eqb number (countb (G .isOpen) (range n)) && allSet n (G .linked) (soundLink G)
 
 -- the figures are sound: every bit of the pair table may stand, they are as many as the record says, and the chain is below the number of codes
-unfoldable pub soundFigures : Network → Pairs → ℕ → ℕ → Bool
-soundFigures G P chain count =
-    allSet (G .limit) P (soundPair G)
-    && eqb count (countPairs (range (G .limit)) P)
-    && ltb chain (G .limit)
+unfoldable pub soundFigures : ℕ → Network → Pairs → ℕ → ℕ → Bool
+soundFigures n G P chain count =
+    allSet n P (soundPair G)
+    && eqb count (countPairs (range n) P)
+    && ltb chain n
 
 -- ---- the same, in words
 
-pub record AreLinksSound (G : Network) (number : ℕ) : Type 0 where
+pub record AreLinksSound (n : ℕ) (G : Network) (number : ℕ) : Type 0 where
   pub isSound : IsSound G
-  pub counted : number ≡ countb (G .isOpen) (range (G .limit))
+  pub counted : number ≡ countb (G .isOpen) (range n)
 
-pub record AreFiguresSound (G : Network) (P : Pairs) (chain count : ℕ) : Type 0 where
-  pub rising : (u v : ℕ) → u < G .limit → v < G .limit → T (P u v) → u < v
-  pub ends : (u v : ℕ) → u < G .limit → v < G .limit → T (P u v) → T (G .isOpen u) × T (G .isOpen v)
-  pub counted : count ≡ countPairs (range (G .limit)) P
-  pub below : chain < G .limit
+pub record AreFiguresSound (n : ℕ) (G : Network) (P : Pairs) (chain count : ℕ) : Type 0 where
+  pub rising : (u v : ℕ) → u < n → v < n → T (P u v) → u < v
+  pub ends : (u v : ℕ) → u < n → v < n → T (P u v) → T (G .isOpen u) × T (G .isOpen v)
+  pub counted : count ≡ countPairs (range n) P
+  pub below : chain < n

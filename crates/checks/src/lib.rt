@@ -15,7 +15,7 @@ ghost use Rattle.checks.specs.Sound.{soundLinks, soundFigures};
 // Whether links and number open are sound. Only set bits are walked, and the walk ends at the first faulty one.
 pub fn links_are_sound(links: &[u64], codes: &[u64], words: usize, number: u16) -> bool
     requires { ⌜ IsLent words (now links) (now codes) ⌝ }
-    ensures { λ r. ⌜ r ≡ soundLinks (networkOf words (now (codes .entry)) (now (links .entry))) number ⌝ }
+    ensures { λ r. ⌜ r ≡ soundLinks (64 * words) (networkOf words (now (codes .entry)) (now (links .entry))) number ⌝ }
 {
     if rows::degree(codes, words, 0) != number as usize {
         return false;
@@ -60,7 +60,7 @@ fn count_pairs(pairs: &[u64], words: usize) -> usize
 // Whether the figures are sound. They ask only which codes are open, so no link is lent.
 pub fn figures_are_sound(pairs: &[u64], codes: &[u64], words: usize, chain: u16, count: u32) -> bool
     requires { ⌜ IsLent words (now pairs) (now codes) ⌝ }
-    ensures { λ r. ⌜ r ≡ soundFigures (networkOf words (now (codes .entry)) []) (tableBit words (now (pairs .entry))) chain count ⌝ }
+    ensures { λ r. ⌜ r ≡ soundFigures (64 * words) (networkOf words (now (codes .entry)) []) (tableBit words (now (pairs .entry))) chain count ⌝ }
 {
     if count_pairs(pairs, words) != count as usize {
         return false;

@@ -11,11 +11,11 @@ use lib.ListN.{length}
 use borrow.Author.Tests.{ltb-true, lt-ltb, eqb-true, eq-eqb}
 use Rattle.lists.proofs.Tests.{t→true, true→t, and-true, and-intro, same-test}
 use Rattle.graph.specs.Network.{Network, IsDist, IsGreatest, IsEcc, IsDiameter, IsFarthest}
-use Rattle.graph.specs.Distance.{vertices, unreached, dist, connected}
+use Rattle.graph.specs.Distance.{vertices, dist, connected}
 use Rattle.graph.specs.Chart.{chart, ecc, greatestEcc, diameter, Pairs, farthest}
 use Rattle.graph.specs.Correct.{IsNet}
 use Rattle.graph.proofs.Walks.{cast, walk-zero, dist-unique, dist-triangle, dist-self, dist-sym}
-use Rattle.graph.proofs.Distances.{vertices-in, vertices-out, vertices-length, dist-is, dist-below}
+use Rattle.graph.proofs.Distances.{vertices-in, vertices-out, dist-is, dist-below}
 use Rattle.graph.proofs.Metric.{IsMetric, ecc-ge, ecc-at}
 use Rattle.graph.proofs.Right.{IsFar, IsRight, greatest-at, greatest-pair, right-is-greatest}
 
@@ -35,9 +35,9 @@ pub depot-in : (G : Network) → IsNet G → (v : ℕ) → T (G .isOpen v) → L
 unfolding chart
 depot-in G net v o = vertices-in G (net .sound) v o
 
-pub depot-out : (G : Network) {v : ℕ} → List·Memᴰ v (chart G .depots) → T (G .isOpen v)
+pub depot-out : (G : Network) → IsNet G → {v : ℕ} → List·Memᴰ v (chart G .depots) → T (G .isOpen v)
 unfolding chart
-depot-out G m = vertices-out G m
+depot-out G net m = vertices-out G (net .sound) m
 
 module _ (G : Network) (net : IsNet G) where
   -- the chart's distances are the distances
@@ -53,18 +53,16 @@ module _ (G : Network) (net : IsNet G) where
   unfolding chart
   chart-metric = record {
     inside = λ v t. vertices-in G (net .sound) v (true→t t);
-    symmetric = λ u v mu mv. let ou = vertices-out G mu in let ov = vertices-out G mv in chart-only u v (chart G .distance v u) ou ov (dist-sym (net .sound) (chart-dist v u ov ou));
+    symmetric = λ u v mu mv. let ou = vertices-out G (net .sound) mu in let ov = vertices-out G (net .sound) mv in chart-only u v (chart G .distance v u) ou ov (dist-sym (net .sound) (chart-dist v u ov ou));
     triangle = λ u v w mu mv mw.
-        let ou = vertices-out G mu in let ov = vertices-out G mv in let ow = vertices-out G mw in
+        let ou = vertices-out G (net .sound) mu in let ov = vertices-out G (net .sound) mv in let ow = vertices-out G (net .sound) mw in
         dist-triangle (chart-dist u v ou ov) (chart-dist v w ov ow) (chart-dist u w ou ow);
     small = λ u v mu mv.
-        let ou = vertices-out G mu in let ov = vertices-out G mv in
+        let ou = vertices-out G (net .sound) mu in let ov = vertices-out G (net .sound) mv in
         let a : chart G .distance u v < length (vertices G) = dist-below G (net .sound) (net .small) u ou (chart G .distance u v) v (chart-dist u v ou ov) in
-        let b : length (vertices G) ≤ G .limit = vertices-length G in
-        let c : G .limit < unreached = net .small in
-        omega arith;
-    self = λ u mu. let ou = vertices-out G mu in chart-only u u 0 ou ou dist-self;
-    apart = λ u v mu mv z. let ou = vertices-out G mu in let ov = vertices-out G mv in walk-zero (cast z (chart-dist u v ou ov .walk));
+        omega (arith, net .small);
+    self = λ u mu. let ou = vertices-out G (net .sound) mu in chart-only u u 0 ou ou dist-self;
+    apart = λ u v mu mv z. let ou = vertices-out G (net .sound) mu in let ov = vertices-out G (net .sound) mv in walk-zero (cast z (chart-dist u v ou ov .walk));
   }
 
   -- ---- right figures are the published ones

@@ -14,10 +14,10 @@ use Rattle.graph.specs.Network.{Network, IsSound, IsConnected, Walk, sta
 use Rattle.graph.specs.Distance.{vertices, unreached, hops, dist, reachedAll, connected}
 use Rattle.graph.specs.Correct.{IsNet}
 use Rattle.graph.proofs.Walks.{append, reverse, walk-open}
-use Rattle.graph.proofs.Distances.{vertices-in, vertices-out, vertices-length, dist-is, dist-reached, dist-below}
+use Rattle.graph.proofs.Distances.{vertices-in, vertices-out, dist-is, dist-reached, dist-below}
 use Rattle.graph.proofs.Layers.{hops-range}
 
-module _ (G : Network) (sound : IsSound G) (small : G .limit < unreached) where
+module _ (G : Network) (sound : IsSound G) (small : length (vertices G) < unreached) where
   from-first : (r : ℕ) (vs : List ℕ) → T (G .isOpen r) → reachedAll G (r ∷ vs) ≡ true → (v : ℕ) → List·Memᴰ v (r ∷ vs) → (k : ℕ) × Walk G k r v
   unfolding reachedAll
   from-first r vs o h v m = go (List·Memᴰ·cases-cons m)
@@ -29,7 +29,7 @@ module _ (G : Network) (sound : IsSound G) (small : G .limit < unreached) where
   -- CONNECTED IS CONNECTED
   pub connected-of : connected G ≡ true → IsConnected G
   unfolding connected
-  connected-of h u v ou ov = go (vertices G) (λ w m. vertices-out G m) h (vertices-in G sound u ou) (vertices-in G sound v ov)
+  connected-of h u v ou ov = go (vertices G) (λ w m. vertices-out G sound m) h (vertices-in G sound u ou) (vertices-in G sound v ov)
     where
       go : (vs : List ℕ) → ((w : ℕ) → List·Memᴰ w vs → T (G .isOpen w)) → reachedAll G vs ≡ true → List·Memᴰ u vs → List·Memᴰ v vs → (k : ℕ) × Walk G k u v
       go [] all e mu mv = absurd (List·Memᴰ·not-nil mu)
@@ -40,14 +40,13 @@ module _ (G : Network) (sound : IsSound G) (small : G .limit < unreached) where
 
   pub connected-iff : (connected G ≡ true) ↔ IsConnected G
   unfolding connected reachedAll
-  connected-iff = (connected-of, λ c. go c (vertices G) (λ v m. vertices-out G m))
+  connected-iff = (connected-of, λ c. go c (vertices G) (λ v m. vertices-out G sound m))
     where
       reach : IsConnected G → (r v : ℕ) → T (G .isOpen r) → T (G .isOpen v) → ltb (dist G r v) unreached ≡ true
       reach c r v or ov =
           let w = c r v or ov in
           let a : dist G r v < length (vertices G) = dist-below G sound small r or (dist G r v) v (dist-is G sound small r or (w .0) v (w .1)) in
-          let b : length (vertices G) ≤ G .limit = vertices-length G in
-          lt-ltb (dist G r v) unreached (omega (arith, small))
+          lt-ltb (dist G r v) unreached (omega arith)
 
       go : IsConnected G → (vs : List ℕ) → ((v : ℕ) → List·Memᴰ v vs → T (G .isOpen v)) → reachedAll G vs ≡ true
       go c [] all = refl
@@ -63,8 +62,5 @@ module _ (G : Network) (net : IsNet G) (s : ℕ) (o : T (G .isOpen s)) where
   hop-closed v c = go (hops-range (vertices G) (G .linked) s (length (vertices G)) v)
     where
       go : (hops (vertices G) (G .linked) s (length (vertices G)) v ≤ length (vertices G)) ⊎ (hops (vertices G) (G .linked) s (length (vertices G)) v ≡ unreached) → hops (vertices G) (G .linked) s (length (vertices G)) v ≡ unreached
-      go (inl l) =
-          let a : length (vertices G) ≤ G .limit = vertices-length G in
-          let b : G .limit < unreached = net .small in
-          absurd (c (walk-open (net .sound) o (dist-reached G (net .sound) (net .small) s o v (lt-of-le-of-lt l (lt-of-le-of-lt a b)) .walk)))
+      go (inl l) = absurd (c (walk-open (net .sound) o (dist-reached G (net .sound) (net .small) s o v (lt-of-le-of-lt l (net .small)) .walk)))
       go (inr e) = e

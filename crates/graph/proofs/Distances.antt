@@ -4,15 +4,15 @@ use mathlib.Core.Logic.{_⊎_, inl, inr}
 use mathlib.Core.Bool.{Bool, true, false, _&&_}
 use mathlib.Core.List.{List, List·Memᴰ}
 use Prim.Native.Nat.{ℕ, zero, suc, _≤_, _<_, zero-le}
-use native.Mathlib.Nat.{le-antisymm, le-refl, le-trans, le-of-eq, lt-irrefl, lt-of-le-of-lt}
+use native.Mathlib.Nat.{le-antisymm, le-refl, le-of-eq, lt-irrefl, lt-of-le-of-lt}
 use native.Mathlib.Decide.{decLe, decLt}
 use native.Mathlib.Omega.{arith}
 use lib.Dec.{T, eqb, leb}
 use lib.ListN.{length}
 use borrow.Author.Tests.{lt-ltb, le-ltb, leb-true, le-leb, lt-leb, eqb-true, eq-eqb}
-use Rattle.lists.specs.Lists.{range, anyb, countb}
+use Rattle.lists.specs.Lists.{anyb, countb}
 use Rattle.lists.proofs.Tests.{look, t→true, true→t, clash, and-true, and-intro}
-use Rattle.lists.proofs.Members.{any-intro, any-elim, filter-in, filter-out, range-in, length-filter, length-range}
+use Rattle.lists.proofs.Members.{any-intro, any-elim, memb-in, in-memb}
 use Rattle.lists.proofs.Counts.{count-le-length, count-lt}
 use Rattle.graph.specs.Network.{Network, IsSound, Walk, IsDist}
 use Rattle.graph.specs.Distance.{vertices, unreached, nextHop, hops, dist}
@@ -190,21 +190,12 @@ module _ (G : Network) (sound : IsSound G) (vs : List ℕ) (all : (v : ℕ) → 
 -- ---- the same of a network's own list of depots
 
 pub vertices-in : (G : Network) → IsSound G → (v : ℕ) → T (G .isOpen v) → List·Memᴰ v (vertices G)
-unfolding vertices
-vertices-in G sound v o = filter-in (G .isOpen) (range (G .limit)) (range-in (G .limit) (sound .below v o)) (t→true (G .isOpen v) o)
+vertices-in G sound v o = memb-in v (vertices G) (sym (sound .listed v) ∙ t→true (G .isOpen v) o)
 
-pub vertices-out : (G : Network) {v : ℕ} → List·Memᴰ v (vertices G) → T (G .isOpen v)
-unfolding vertices
-vertices-out G m = true→t (filter-out (G .isOpen) (range (G .limit)) m .1)
+pub vertices-out : (G : Network) → IsSound G → {v : ℕ} → List·Memᴰ v (vertices G) → T (G .isOpen v)
+vertices-out G sound {v} m = true→t (sound .listed v ∙ in-memb v (vertices G) m)
 
-pub vertices-length : (G : Network) → length (vertices G) ≤ G .limit
-unfolding vertices
-vertices-length G = le-trans (length-filter (G .isOpen) (range (G .limit))) (le-of-eq (length-range (G .limit)))
-
-module _ (G : Network) (sound : IsSound G) (small : G .limit < unreached) (u : ℕ) (o : T (G .isOpen u)) where
-  few : length (vertices G) < unreached
-  few = lt-of-le-of-lt (vertices-length G) small
-
+module _ (G : Network) (sound : IsSound G) (few : length (vertices G) < unreached) (u : ℕ) (o : T (G .isOpen u)) where
   -- `dist` is the least number of links of a walk
   pub dist-is : (k v : ℕ) → Walk G k u v → IsDist G u v (dist G u v)
   unfolding dist

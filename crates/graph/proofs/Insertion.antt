@@ -1,15 +1,13 @@
 -- THE INSERTION LAW: with further links at a alone, the distance of two old depots is the lesser of the old one and the way through a. Assumes nothing.
 use mathlib.Core.Path.{_≡_, sym, ap, _∙_, subst}
 use mathlib.Core.Logic.{_⊎_, inl, inr}
-use mathlib.Core.Bool.{_&&_, _||_}
-use mathlib.Core.List.{List}
+use mathlib.Core.Bool.{Bool, _&&_, _||_}
 use Prim.Native.Nat.{ℕ, suc, _+_, _≤_, min}
 use native.Mathlib.Nat.{suc-add, min-eq-left, min-eq-right}
 use native.Mathlib.Decide.{decLe, ℕ-discrete}
 use native.Mathlib.Omega.{arith}
 use lib.Dec.{T, eqb}
 use borrow.Author.Tests.{ne-eqb}
-use Rattle.lists.specs.Lists.{memb}
 use Rattle.lists.proofs.Tests.{t→true, true→t, or-right}
 use Rattle.graph.specs.Network.{Network, Walk, stay, step, IsDist}
 use Rattle.graph.specs.Opening.{addDepot}
@@ -57,9 +55,9 @@ module _ (G G' : Network) (a : ℕ) (grown : IsGrownAt G G' a) where
           omega arith
 
 -- opening a depot
-pub opened-grown : (G : Network) (a : ℕ) (ns : List ℕ) → IsGrownAt G (addDepot G a ns) a
+pub opened-grown : (key : ℕ → ℕ) (G : Network) (a : ℕ) (beside : ℕ → Bool) → IsGrownAt G (addDepot key G a beside) a
 unfolding addDepot
-opened-grown G a ns = record {
-  more = λ u v l. true→t (or-right ((eqb u a && memb v ns) || (eqb v a && memb u ns)) (t→true (G .linked u v) l));
+opened-grown key G a beside = record {
+  more = λ u v l. true→t (or-right ((eqb u a && beside v) || (eqb v a && beside u)) (t→true (G .linked u v) l));
   only = λ u v p q l. rw (ne-eqb u a p, ne-eqb v a q) at l;
 }

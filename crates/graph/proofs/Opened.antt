@@ -1,19 +1,22 @@
 -- Opening a depot: the network stays sound and connected, and its chart is the old one with the depot inserted. Assumes nothing.
-use mathlib.Core.Path.{_≡_, refl, sym, _∙_, subst}
+use mathlib.Core.Path.{_≡_, refl, sym, ap, _∙_, subst}
 use mathlib.Core.Logic.{_⊎_, inl, inr}
-use mathlib.Core.Bool.{true, false, not, _&&_, _||_}
+use mathlib.Core.Bool.{Bool, true, false, not, _&&_, _||_}
 use mathlib.Core.List.{List, [], _∷_, List·Memᴰ, List·Memᴰ·head, List·Memᴰ·not-nil}
 use mathlib.Core.Option.{some}
 use Prim.Native.Nat.{ℕ, suc, _+_, _<_, min}
-use lib.Dec.{T, eqb}
-use borrow.Author.Tests.{eqb-true, eq-eqb, not-false}
-use Rattle.lists.specs.Lists.{allb, memb, firstOf}
+use native.Mathlib.Omega.{arith}
+use lib.Dec.{T, eqb, ltb}
+use lib.ListN.{length}
+use borrow.Author.Tests.{lt-ltb, eqb-true, eq-eqb, not-false}
+use Rattle.lists.specs.Lists.{allb, memb, distinct, firstOf}
 use Rattle.lists.proofs.Tests.{t→true, true→t, false→not, clash, and-true, and-intro, or-true, or-left, or-right}
 use Rattle.lists.proofs.Members.{first-zero, all-elim, memb-in, in-memb}
+use Rattle.lists.proofs.Distinct.{insert-memb, insert-distinct, insert-length}
 use Rattle.graph.specs.Network.{Network, IsSound, Walk, stay}
 use Rattle.graph.specs.Distance.{vertices, unreached, connected}
 use Rattle.graph.specs.Chart.{chart}
-use Rattle.graph.specs.Opening.{Notice, addDepot, strictlyRising, isEmpty, noticeFaults}
+use Rattle.graph.specs.Opening.{Notice, addDepot, strictlyRising, isEmpty, noticeFaults, openFaults}
 use Rattle.graph.specs.Correct.{IsNet}
 use Rattle.graph.proofs.Walks.{snoc, append, reverse, dist-sym}
 use Rattle.graph.proofs.Distances.{vertices-in}
@@ -21,39 +24,43 @@ use Rattle.graph.proofs.Insertion.{walk-old, insertion, opened-grown}
 use Rattle.graph.proofs.OpeningCases.{IsInserted}
 use Rattle.graph.proofs.Charts.{chart-dist, chart-only}
 
--- a notice that no refusal hits: the code is closed, the neighbours are open, and there is one unless the map is empty
-pub record IsAdmitted (G : Network) (a : ℕ) (ns : List ℕ) : Type 0 where
-  pub below : a < G .limit
+-- an opening that no refusal hits, with room for one more: the code is closed, the neighbours are open, and there is one unless the map is empty
+pub record IsAdmitted (G : Network) (a : ℕ) (beside : ℕ → Bool) : Type 0 where
+  pub room : suc (length (vertices G)) < unreached
   pub fresh : G .isOpen a ≡ false
-  pub known : (v : ℕ) → memb v ns ≡ true → T (G .isOpen v)
-  pub joined : (v : ℕ) → T (G .isOpen v) → (w : ℕ) × (memb w ns ≡ true)
+  pub known : (v : ℕ) → beside v ≡ true → T (G .isOpen v)
+  pub joined : (v : ℕ) → T (G .isOpen v) → (w : ℕ) × (beside w ≡ true)
 
-pub admitted-of : (G : Network) (net : IsNet G) (o : Notice) → o .code < G .limit → firstOf (noticeFaults G o) ≡ 0 → IsAdmitted G (o .code) (o .neighbours)
-unfolding noticeFaults
-admitted-of G net o low ok =
+pub admitted-of : (G : Network) (net : IsNet G) (o : Notice) → suc (length (vertices G)) < unreached → firstOf (openFaults G o) ≡ 0 → IsAdmitted G (o .code) (λ v. memb v (o .neighbours))
+unfolding openFaults noticeFaults
+admitted-of G net o room ok =
     let f5 = first-zero (G .isOpen (o .code)) 4 _ ok in
-    let f6 = first-zero (isEmpty (o .neighbours) && not (isEmpty (vertices G))) 5 _ (f5 .1) in
+    let f6 = first-zero (isEmpty (o .neighbours) && ltb 0 (length (vertices G))) 5 _ (f5 .1) in
     let f7 = first-zero (not (strictlyRising (o .neighbours))) 6 _ (f6 .1) in
     let f8 = first-zero (not (allb (G .isOpen) (o .neighbours))) 7 [] (f7 .1) in
     record {
-      below = low;
+      room = room;
       fresh = f5 .0;
       known = λ v m. true→t (all-elim (G .isOpen) (o .neighbours) (not-false (allb (G .isOpen) (o .neighbours)) (f8 .0)) (memb-in v (o .neighbours) m));
       joined = λ v p. some (o .neighbours) (vertices G) (vertices-in G (net .sound) v p) (f6 .0);
     }
   where
-    some : (xs vs : List ℕ) {v : ℕ} → List·Memᴰ v vs → (isEmpty xs && not (isEmpty vs)) ≡ false → (w : ℕ) × (memb w xs ≡ true)
+    some : (xs vs : List ℕ) {v : ℕ} → List·Memᴰ v vs → (isEmpty xs && ltb 0 (length vs)) ≡ false → (w : ℕ) × (memb w xs ≡ true)
     some [] [] m e = absurd (List·Memᴰ·not-nil m)
-    some [] (y ∷ ys) m e = absurd (clash refl e)
+    some [] (y ∷ ys) m e = absurd (clash (lt-ltb 0 (suc (length ys)) (omega arith)) e)
     some (x ∷ xs) vs m e = (x, in-memb x (x ∷ xs) (List·Memᴰ·head refl))
 
-module _ (G : Network) (net : IsNet G) (a : ℕ) (ns : List ℕ) (good : IsAdmitted G a ns) where
+module _ (key : ℕ → ℕ) (G : Network) (net : IsNet G) (a : ℕ) (beside : ℕ → Bool) (good : IsAdmitted G a beside) where
   abbrev H : Network
-  H = addDepot G a ns
+  H = addDepot key G a beside
 
-  limit-is : H .limit ≡ G .limit
+  new-listed : (v : ℕ) → H .isOpen v ≡ memb v (vertices H)
   unfolding addDepot
-  limit-is = refl
+  new-listed v = ap (λ (b : Bool). eqb v a || b) (net .sound .listed v) ∙ sym (insert-memb key a (vertices G) v)
+
+  new-once : distinct (vertices H) ≡ true
+  unfolding addDepot
+  new-once = insert-distinct key a (vertices G) (sym (net .sound .listed a) ∙ good .fresh) (net .sound .once)
 
   not-a : (v : ℕ) → T (G .isOpen v) → v ≡ a → ⊥
   not-a v o q = false→not (good .fresh) (subst (λ (w : ℕ). T (G .isOpen w)) q o)
@@ -74,48 +81,44 @@ module _ (G : Network) (net : IsNet G) (a : ℕ) (ns : List ℕ) (good : IsAdmit
       go (inl h) = inl (eqb-true v a h)
       go (inr h) = inr (true→t h)
 
-  link-cases : (u v : ℕ) → T (H .linked u v) → ((u ≡ a) × (memb v ns ≡ true)) ⊎ (((v ≡ a) × (memb u ns ≡ true)) ⊎ T (G .linked u v))
+  link-cases : (u v : ℕ) → T (H .linked u v) → ((u ≡ a) × (beside v ≡ true)) ⊎ (((v ≡ a) × (beside u ≡ true)) ⊎ T (G .linked u v))
   unfolding addDepot
-  link-cases u v l = go (or-true ((eqb u a && memb v ns) || (eqb v a && memb u ns)) (G .linked u v) (t→true ((eqb u a && memb v ns) || (eqb v a && memb u ns) || G .linked u v) l))
+  link-cases u v l = go (or-true ((eqb u a && beside v) || (eqb v a && beside u)) (G .linked u v) (t→true ((eqb u a && beside v) || (eqb v a && beside u) || G .linked u v) l))
     where
-      inner : ((eqb u a && memb v ns) ≡ true) ⊎ ((eqb v a && memb u ns) ≡ true) → ((u ≡ a) × (memb v ns ≡ true)) ⊎ (((v ≡ a) × (memb u ns ≡ true)) ⊎ T (G .linked u v))
-      inner (inl h) = let k = and-true (eqb u a) (memb v ns) h in inl (eqb-true u a (k .0), k .1)
-      inner (inr h) = let k = and-true (eqb v a) (memb u ns) h in inr (inl (eqb-true v a (k .0), k .1))
+      inner : ((eqb u a && beside v) ≡ true) ⊎ ((eqb v a && beside u) ≡ true) → ((u ≡ a) × (beside v ≡ true)) ⊎ (((v ≡ a) × (beside u ≡ true)) ⊎ T (G .linked u v))
+      inner (inl h) = let k = and-true (eqb u a) (beside v) h in inl (eqb-true u a (k .0), k .1)
+      inner (inr h) = let k = and-true (eqb v a) (beside u) h in inr (inl (eqb-true v a (k .0), k .1))
 
-      go : (((eqb u a && memb v ns) || (eqb v a && memb u ns)) ≡ true) ⊎ (G .linked u v ≡ true) → ((u ≡ a) × (memb v ns ≡ true)) ⊎ (((v ≡ a) × (memb u ns ≡ true)) ⊎ T (G .linked u v))
-      go (inl h) = inner (or-true (eqb u a && memb v ns) (eqb v a && memb u ns) h)
+      go : (((eqb u a && beside v) || (eqb v a && beside u)) ≡ true) ⊎ (G .linked u v ≡ true) → ((u ≡ a) × (beside v ≡ true)) ⊎ (((v ≡ a) × (beside u ≡ true)) ⊎ T (G .linked u v))
+      go (inl h) = inner (or-true (eqb u a && beside v) (eqb v a && beside u) h)
       go (inr h) = inr (inr (true→t h))
 
-  link-from : (u v : ℕ) → u ≡ a → memb v ns ≡ true → T (H .linked u v)
+  link-from : (u v : ℕ) → u ≡ a → beside v ≡ true → T (H .linked u v)
   unfolding addDepot
-  link-from u v q m = true→t (or-left (G .linked u v) (or-left (eqb v a && memb u ns) (and-intro (eq-eqb u a q) m)))
+  link-from u v q m = true→t (or-left (G .linked u v) (or-left (eqb v a && beside u) (and-intro (eq-eqb u a q) m)))
 
-  link-to : (u v : ℕ) → v ≡ a → memb u ns ≡ true → T (H .linked u v)
+  link-to : (u v : ℕ) → v ≡ a → beside u ≡ true → T (H .linked u v)
   unfolding addDepot
-  link-to u v q m = true→t (or-left (G .linked u v) (or-right (eqb u a && memb v ns) (and-intro (eq-eqb v a q) m)))
+  link-to u v q m = true→t (or-left (G .linked u v) (or-right (eqb u a && beside v) (and-intro (eq-eqb v a q) m)))
 
   link-kept : (u v : ℕ) → T (G .linked u v) → T (H .linked u v)
   unfolding addDepot
-  link-kept u v l = true→t (or-right ((eqb u a && memb v ns) || (eqb v a && memb u ns)) (t→true (G .linked u v) l))
+  link-kept u v l = true→t (or-right ((eqb u a && beside v) || (eqb v a && beside u)) (t→true (G .linked u v) l))
 
   pub opened-sound : IsSound H
-  opened-sound = record { below = λ v o. low v (open-cases v o); ends = λ u v l. end u v (link-cases u v l); loopless = λ u v l. loop u v (link-cases u v l); symmetric = λ u v l. turn u v (link-cases u v l) }
+  opened-sound = record { listed = new-listed; once = new-once; ends = λ u v l. end u v (link-cases u v l); loopless = λ u v l. loop u v (link-cases u v l); symmetric = λ u v l. turn u v (link-cases u v l) }
     where
-      low : (v : ℕ) → (v ≡ a) ⊎ T (G .isOpen v) → v < H .limit
-      low v (inl q) = subst (λ (w : ℕ). w < H .limit) (sym q) (rw limit-is (good .below))
-      low v (inr o) = rw limit-is (net .sound .below v o)
-
-      end : (u v : ℕ) → ((u ≡ a) × (memb v ns ≡ true)) ⊎ (((v ≡ a) × (memb u ns ≡ true)) ⊎ T (G .linked u v)) → T (H .isOpen v)
+      end : (u v : ℕ) → ((u ≡ a) × (beside v ≡ true)) ⊎ (((v ≡ a) × (beside u ≡ true)) ⊎ T (G .linked u v)) → T (H .isOpen v)
       end u v (inl x) = open-old v (good .known v (x .1))
       end u v (inr (inl x)) = subst (λ (w : ℕ). T (H .isOpen w)) (sym (x .0)) open-new
       end u v (inr (inr l)) = open-old v (net .sound .ends u v l)
 
-      loop : (u v : ℕ) → ((u ≡ a) × (memb v ns ≡ true)) ⊎ (((v ≡ a) × (memb u ns ≡ true)) ⊎ T (G .linked u v)) → u ≡ v → ⊥
+      loop : (u v : ℕ) → ((u ≡ a) × (beside v ≡ true)) ⊎ (((v ≡ a) × (beside u ≡ true)) ⊎ T (G .linked u v)) → u ≡ v → ⊥
       loop u v (inl x) q = not-a v (good .known v (x .1)) (sym q ∙ x .0)
       loop u v (inr (inl x)) q = not-a u (good .known u (x .1)) (q ∙ x .0)
       loop u v (inr (inr l)) q = net .sound .loopless u v l q
 
-      turn : (u v : ℕ) → ((u ≡ a) × (memb v ns ≡ true)) ⊎ (((v ≡ a) × (memb u ns ≡ true)) ⊎ T (G .linked u v)) → T (H .linked v u)
+      turn : (u v : ℕ) → ((u ≡ a) × (beside v ≡ true)) ⊎ (((v ≡ a) × (beside u ≡ true)) ⊎ T (G .linked u v)) → T (H .linked v u)
       turn u v (inl x) = link-to v u (x .0) (x .1)
       turn u v (inr (inl x)) = link-from v u (x .0) (x .1)
       turn u v (inr (inr l)) = link-kept v u (net .sound .symmetric u v l)
@@ -126,16 +129,17 @@ module _ (G : Network) (net : IsNet G) (a : ℕ) (ns : List ℕ) (good : IsAdmit
   to-a v (inr o) =
       let w = good .joined v o in
       let p = net .connected v (w .0) o (good .known (w .0) (w .1)) in
-      (suc (p .0), snoc (walk-old G H a (opened-grown G a ns) (p .1)) (link-to (w .0) a refl (w .1)))
+      (suc (p .0), snoc (walk-old G H a (opened-grown key G a beside) (p .1)) (link-to (w .0) a refl (w .1)))
+
+  opened-few : length (vertices H) < unreached
+  unfolding addDepot
+  opened-few = rw (insert-length key a (vertices G)) (good .room)
 
   pub opened-net : IsNet H
-  opened-net = record { sound = opened-sound; connected = λ u v ou ov. join u v (to-a u (open-cases u ou)) (to-a v (open-cases v ov)); small = few }
+  opened-net = record { sound = opened-sound; connected = λ u v ou ov. join u v (to-a u (open-cases u ou)) (to-a v (open-cases v ov)); small = opened-few }
     where
       join : (u v : ℕ) → (k : ℕ) × Walk H k u a → (k : ℕ) × Walk H k v a → (k : ℕ) × Walk H k u v
       join u v p q = (p .0 + q .0, append (p .1) (reverse opened-sound (q .1)))
-
-      few : H .limit < unreached
-      few = rw limit-is (net .small)
 
   -- the chart after is the chart before with a inserted
   pub inserted : IsInserted (chart G) (chart H) a
@@ -155,4 +159,4 @@ module _ (G : Network) (net : IsNet G) (a : ℕ) (ns : List ℕ) (good : IsAdmit
       thru : (u v : ℕ) → T (G .isOpen u) → T (G .isOpen v) → chart H .distance u v ≡ min (chart G .distance u v) (chart H .distance a u + chart H .distance a v)
       thru u v ou ov =
           chart-only H opened-net u v (min (chart G .distance u v) (chart H .distance a u + chart H .distance a v)) (open-old u ou) (open-old v ov)
-          (insertion G H a (opened-grown G a ns) (not-a u ou) (chart-dist G net u v ou ov) (dist-sym opened-sound (chart-dist H opened-net a u open-new (open-old u ou))) (chart-dist H opened-net a v open-new (open-old v ov)))
+          (insertion G H a (opened-grown key G a beside) (not-a u ou) (chart-dist G net u v ou ov) (dist-sym opened-sound (chart-dist H opened-net a u open-new (open-old u ou))) (chart-dist H opened-net a v open-new (open-old v ov)))

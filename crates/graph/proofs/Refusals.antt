@@ -1,22 +1,23 @@
 -- A NOTICE IS REFUSED by the first condition of rule 8.1 that holds. Assumes nothing.
-use mathlib.Core.Path.{_≡_, refl, sym, ap, subst}
+use mathlib.Core.Path.{_≡_, refl, sym, ap, _∙_}
 use mathlib.Core.Logic.{_↔_}
 use mathlib.Core.Bool.{Bool, true, false, not, _&&_}
-use mathlib.Core.List.{List, [], _∷_, List·Memᴰ, List·Memᴰ·head, List·Memᴰ·not-nil}
+use mathlib.Core.List.{List, [], _∷_, List·Memᴰ·head}
 use Prim.Native.Nat.{ℕ, zero, suc, _≤_, _<_}
 use native.Mathlib.Nat.{lt-irrefl}
 use native.Mathlib.Omega.{arith}
 use lib.Dec.{T, ltb}
 use lib.ListN.{length, getD}
-use borrow.Author.Tests.{ltb-true, ltb-false, not-true, not-false}
-use Rattle.lists.specs.Lists.{range, allb, firstOf}
+use borrow.Author.Tests.{ltb-true, lt-ltb, ltb-false, not-true, not-false}
+use Rattle.lists.specs.Lists.{allb, memb, firstOf}
 use Rattle.lists.specs.Conditions.{FirstHolds}
 use Rattle.lists.proofs.Tests.{clash, t→true, true→t, false→not}
-use Rattle.lists.proofs.Members.{filter-in, filter-out, all-elim, all-fails, range-in, range-out}
+use Rattle.lists.proofs.Members.{all-elim, all-fails, in-memb}
+use Rattle.lists.proofs.Distinct.{memb-nil}
 use Rattle.lists.proofs.Conditions.{Decides, decides-test, decides-and, Tells, tells-first}
-use Rattle.graph.specs.Network.{Network}
+use Rattle.graph.specs.Network.{Network, IsSound}
 use Rattle.graph.specs.Distance.{vertices}
-use Rattle.graph.specs.Opening.{Notice, strictlyRising, isEmpty, noticeFaults}
+use Rattle.graph.specs.Opening.{Notice, strictlyRising, isEmpty, noticeFaults, openFaults}
 use Rattle.graph.specs.Refusals.{IsUnsorted, IsUnknown, noticeConditions}
 
 -- 6: no neighbours, and some depot
@@ -25,27 +26,21 @@ unfolding isEmpty
 decides-none [] = record { holds = λ e. refl; fails = λ e q. clash refl e }
 decides-none (x ∷ xs) = record { holds = λ e. absurd (clash e refl); fails = λ e q. lt-irrefl 0 (let z : suc (length xs) ≡ 0 = ap length q in omega arith) }
 
--- a depot is in the list of depots
-depot-in : (G : Network) (u : ℕ) → u < G .limit → T (G .isOpen u) → List·Memᴰ u (vertices G)
-unfolding vertices
-depot-in G u l o = filter-in (G .isOpen) (range (G .limit)) (range-in (G .limit) l) (t→true (G .isOpen u) o)
+-- a network whose open depots are those listed
+abbrev AreListed : Network → Type 0
+AreListed G = (u : ℕ) → G .isOpen u ≡ memb u (vertices G)
 
-depot-out : (G : Network) (u : ℕ) → List·Memᴰ u (vertices G) → (u < G .limit) × T (G .isOpen u)
-unfolding vertices
-depot-out G u m = let r = filter-out (G .isOpen) (range (G .limit)) m in (range-out (G .limit) (r .0), true→t (r .1))
-
-decides-some : (G : Network) → Decides (not (isEmpty (vertices G))) ((u : ℕ) × (u < G .limit) × T (G .isOpen u))
-unfolding isEmpty
-decides-some G = go (vertices G) refl
+decides-some : (G : Network) → AreListed G → Decides (ltb 0 (length (vertices G))) ((u : ℕ) × T (G .isOpen u))
+decides-some G listed = go (vertices G) refl
   where
-    go : (vs : List ℕ) → vertices G ≡ vs → Decides (not (isEmpty vs)) ((u : ℕ) × (u < G .limit) × T (G .isOpen u))
+    go : (vs : List ℕ) → vertices G ≡ vs → Decides (ltb 0 (length vs)) ((u : ℕ) × T (G .isOpen u))
     go [] q = record {
-      holds = λ e. absurd (clash e refl);
-      fails = λ e x. List·Memᴰ·not-nil (subst (λ (vs : List ℕ). List·Memᴰ (x .0) vs) q (depot-in G (x .0) (x .1) (x .2)));
+      holds = λ e. absurd (lt-irrefl 0 (ltb-true 0 0 e));
+      fails = λ e x. clash (sym (listed (x .0)) ∙ t→true (G .isOpen (x .0)) (x .1)) (ap (memb (x .0)) q ∙ memb-nil (x .0));
     }
     go (r ∷ vs) q = record {
-      holds = λ e. let x = depot-out G r (subst (λ (vs : List ℕ). List·Memᴰ r vs) (sym q) (List·Memᴰ·head refl)) in (r, x .0, x .1);
-      fails = λ e. absurd (clash refl e);
+      holds = λ e. (r, true→t (listed r ∙ ap (memb r) q ∙ in-memb r (r ∷ vs) (List·Memᴰ·head refl)));
+      fails = λ e x. clash (lt-ltb 0 (suc (length vs)) (omega arith)) e;
     }
 
 -- 7: two neighbours side by side that do not rise
@@ -70,17 +65,17 @@ decides-unknown G ns = record {
   fails = λ e x. x .2 (true→t (all-elim (G .isOpen) ns (not-false (allb (G .isOpen) ns) e) (x .1)));
 }
 
-pub notice-tells : (G : Network) (o : Notice) → Tells (noticeFaults G o) (noticeConditions G o)
-unfolding noticeFaults
-notice-tells G o = (
+pub notice-tells : (G : Network) → AreListed G → (o : Notice) → Tells (openFaults G o) (noticeConditions G o)
+unfolding openFaults noticeFaults
+notice-tells G listed o = (
   refl,
   decides-test (G .isOpen (o .code)),
   λ f5. (
     refl,
-    decides-and (isEmpty (o .neighbours)) (decides-none (o .neighbours)) (decides-some G),
+    decides-and (isEmpty (o .neighbours)) (decides-none (o .neighbours)) (decides-some G listed),
     λ f6. (refl, decides-unsorted (o .neighbours), λ f7. (refl, decides-unknown G (o .neighbours), λ f8. tt)),
   ),
 )
 
-pub notice-refusals : (G : Network) (o : Notice) (k : ℕ) → (firstOf (noticeFaults G o) ≡ k) ↔ FirstHolds (noticeConditions G o) k
-notice-refusals G o k = tells-first (noticeFaults G o) (noticeConditions G o) (notice-tells G o) k
+pub notice-refusals : (G : Network) → IsSound G → (o : Notice) (k : ℕ) → (firstOf (openFaults G o) ≡ k) ↔ FirstHolds (noticeConditions G o) k
+notice-refusals G sound o k = tells-first (openFaults G o) (noticeConditions G o) (notice-tells G (sound .listed) o) k

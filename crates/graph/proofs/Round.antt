@@ -12,7 +12,7 @@ use borrow.Author.Tests.{ltb-true, ltb-false, eqb-true, eqb-false, eq-eqb, ne-eq
 use Rattle.lists.specs.Lists.{memb}
 use Rattle.lists.proofs.Tests.{clash, and-true, and-intro, or-true, or-left, or-right}
 use Rattle.lists.proofs.Members.{memb-snoc}
-use Rattle.lists.proofs.Counts.{IsCounted, counted-snoc}
+use Rattle.lists.proofs.Distinct.{IsCounted, counted-snoc}
 use Rattle.graph.specs.Distance.{unreached}
 use Rattle.graph.specs.Chart.{Chart, ecc, Pairs, ownPairs}
 use Rattle.graph.specs.Rounds.{Status, waiting, skipped, searched, isWaiting, State, offer, raise, joinPairs, round}

@@ -12,7 +12,8 @@ use borrow.Author.Tests.{lt-ltb}
 use Rattle.lists.specs.Lists.{anyb, countb, memb}
 use Rattle.lists.proofs.Tests.{look, clash}
 use Rattle.lists.proofs.Members.{filter-in, filter-out}
-use Rattle.lists.proofs.Counts.{count-lt, count-zero, count-none, counted-nil}
+use Rattle.lists.proofs.Counts.{count-lt, count-zero, count-none}
+use Rattle.lists.proofs.Distinct.{counted-nil}
 use Rattle.graph.specs.Distance.{unreached}
 use Rattle.graph.specs.Chart.{Chart, ecc}
 use Rattle.graph.specs.Rounds.{Status, waiting, skipped, searched, isWaiting, State, round, better, pick, remaining, orStop, rounds, start}

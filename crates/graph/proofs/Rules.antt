@@ -1,26 +1,30 @@
 -- WHAT TWO RULES COME TO: the degree, and the candidate of a shrink. Assumes nothing.
-use mathlib.Core.Path.{_≡_, refl}
+use mathlib.Core.Path.{_≡_, refl, sym, _∙_}
 use mathlib.Core.Logic.{_⊎_, inl, inr}
 use mathlib.Core.Bool.{Bool, true, false, cond}
 use mathlib.Core.List.{List, [], _∷_, List·Memᴰ, List·Memᴰ·head, List·Memᴰ·tail}
 use Prim.Native.Nat.{ℕ, _<_, min}
 use native.Mathlib.Nat.{lt-irrefl}
 use native.Mathlib.Omega.{arith}
-use lib.Dec.{eqb, ltb}
-use borrow.Author.Tests.{ltb-true, not-false}
+use lib.Dec.{T, eqb, ltb}
+use borrow.Author.Tests.{ltb-true, lt-ltb, not-false}
 use Rattle.lists.specs.Lists.{range, anyb, countb, maxOf}
 use Rattle.lists.proofs.Tests.{look, clash, t→true, true→t}
 use Rattle.lists.proofs.Members.{any-intro}
-use Rattle.lists.proofs.Counts.{count-filter}
+use Rattle.lists.proofs.Distinct.{memb-range, distinct-range, count-either}
 use Rattle.graph.specs.Network.{Network, IsSound}
 use Rattle.graph.specs.Distance.{vertices}
 use Rattle.graph.specs.Chart.{Chart, chart, ecc, Pairs}
 use Rattle.graph.specs.Opening.{shrank, via, stayingPairs, anyPair, shrunkCandidate, openCase, opening}
 
 -- rule 1.7: the degree is that of the whole row, with all neighbours, those that were searched or skipped included
-pub degree-is : (G : Network) → IsSound G → (u : ℕ) → chart G .degree u ≡ countb (G .linked u) (range (G .limit))
-unfolding chart vertices
-degree-is G sound u = count-filter (G .isOpen) (G .linked u) (range (G .limit)) (λ v h. t→true (G .isOpen v) (sound .ends u v (true→t h)))
+-- (n is a number above every open depot)
+pub degree-is : (G : Network) → IsSound G → (n : ℕ) → ((v : ℕ) → T (G .isOpen v) → v < n) → (u : ℕ) → chart G .degree u ≡ countb (G .linked u) (range n)
+unfolding chart
+degree-is G sound n below u =
+    count-either (G .linked u) (vertices G) (range n) (sound .once) (distinct-range n)
+    (λ v h. sym (sound .listed v) ∙ t→true (G .isOpen v) (sound .ends u v (true→t h)))
+    (λ v h. memb-range n v ∙ lt-ltb v n (below v (sound .ends u v (true→t h))))
 
 max-ext : (f g : ℕ → ℕ) (xs : List ℕ) → ((x : ℕ) → List·Memᴰ x xs → f x ≡ g x) → maxOf f xs ≡ maxOf g xs
 unfolding maxOf

@@ -9,7 +9,8 @@ use lib.Dec.{eqb, ltb}
 use lib.ListN.{length}
 use borrow.Author.Tests.{eqb-true}
 use Rattle.lists.specs.Lists.{anyb, maxOf, memb}
-use Rattle.lists.proofs.Counts.{max-le-of, count-le-length, IsCounted, counted-nil, counted-snoc}
+use Rattle.lists.proofs.Counts.{max-le-of, count-le-length}
+use Rattle.lists.proofs.Distinct.{IsCounted, counted-nil, counted-snoc}
 use Rattle.graph.specs.Distance.{unreached}
 use Rattle.graph.specs.Chart.{Chart, ecc, Pairs, ownPairs}
 use Rattle.graph.specs.Rounds.{Status, waiting, skipped, searched, isWaiting, State, round, rounds, start, reckon}

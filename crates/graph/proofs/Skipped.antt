@@ -13,10 +13,10 @@ use Rattle.lists.proofs.Tests.{t→true, true→t, clash}
 use Rattle.lists.proofs.Counts.{count-zero}
 use Rattle.lists.proofs.Appends.{append-none, append-append}
 use Rattle.graph.specs.Network.{Network}
-use Rattle.graph.specs.Distance.{unreached}
+use Rattle.graph.specs.Distance.{vertices, unreached}
 use Rattle.graph.specs.Chart.{Chart, chart, ecc, Pairs, ownPairs}
 use Rattle.graph.specs.Rounds.{Status, waiting, skipped, searched, isWaiting, State, round, pick, remaining, orStop, rounds, start, reckon}
-use Rattle.graph.specs.Opening.{Notice, addDepot, noticeFaults, shrank, stayingPairs, anyPair, shrunkCandidate, searchedOnce, openCase, opening}
+use Rattle.graph.specs.Opening.{Notice, byCode, withDepot, openFaults, shrank, stayingPairs, anyPair, shrunkCandidate, searchedOnce, openCase, opening}
 use Rattle.graph.specs.Correct.{IsNet, IsSkipped, AllSkipped, IsOneSearch, IsSettled}
 use Rattle.graph.proofs.Round.{Fine, Invariant}
 use Rattle.graph.proofs.Rounds.{waitingCount}
@@ -41,7 +41,7 @@ module _ (G : Network) (net : IsNet G) where
       go (waiting b g) q w f = absurd (clash refl w)
       go (searched e) q w f = absurd (clash (f .0) absent)
       go (skipped b g) q w f =
-          let og = depot-out G (I .searchedInside g (f .2 .0)) in (
+          let og = depot-out G net (I .searchedInside g (f .2 .0)) in (
             g,
             b,
             q,
@@ -98,18 +98,22 @@ module _ (C : Chart) where
         go false false true n = once D (stayingPairs C a D P)
         go false false false n = absurd (n refl)
 
-module _ (G : Network) (net : IsNet G) (o : Notice) (low : o .code < G .limit) (ok : firstOf (noticeFaults G o) ≡ 0) (D : ℕ) (small : D ≤ unreached) (P : Pairs) where
+module _ (G : Network) (net : IsNet G) (o : Notice) (room : suc (length (vertices G)) < unreached) (ok : firstOf (openFaults G o) ≡ 0) (D : ℕ) (small : D ≤ unreached) (P : Pairs) where
   abbrev H : Network
-  H = addDepot G (o .code) (o .neighbours)
+  H = withDepot G o
+
+  abbrev beside : ℕ → Bool
+  beside v = memb v (o .neighbours)
 
   pub opening-says : IsSettled H (o .code) (opening (chart H) (o .code) D P)
+  unfolding withDepot
   opening-says =
-      let good = admitted-of G net o low ok in
-      let after = opened-net G net (o .code) (o .neighbours) good in
+      let good = admitted-of G net o room ok in
+      let after = opened-net byCode G net (o .code) beside good in
       record {
         first = opening-first (chart H) (o .code) D P;
         once = opening-once (chart H) (o .code) D P;
         skipped = λ q.
-            let s = opening-settled (chart H) (chart-metric H after) (o .code) (inserted G net (o .code) (o .neighbours) good .new) D small P q in
+            let s = opening-settled (chart H) (chart-metric H after) (o .code) (inserted byCode G net (o .code) beside good .new) D small P q in
             settled-skipped H after (opening (chart H) (o .code) D P .final) (s .0) (s .1);
       }

@@ -12,11 +12,12 @@ use Rattle.lists.specs.Lists.{maxOf}
 use Rattle.lists.proofs.Tests.{clash, true→t, and-true, or-true}
 use Rattle.lists.proofs.Counts.{max-le-of}
 use Rattle.graph.specs.Network.{Network, IsDist}
+use Rattle.graph.specs.Distance.{vertices}
 use Rattle.graph.specs.Chart.{Chart, chart, ecc, Pairs, ownPairs}
 use Rattle.graph.specs.Rounds.{State, raise, joinPairs, round, pick, remaining, orStop, rounds, start}
 use Rattle.graph.specs.Opening.{via, stayingPairs, anyPair, shrunkCandidate, searchedOnce, openCase, opening}
 use Rattle.graph.specs.Correct.{IsNet}
-use Rattle.graph.proofs.Distances.{vertices-length}
+use Rattle.graph.proofs.Walks.{dist-self}
 use Rattle.graph.proofs.Metric.{IsMetric}
 use Rattle.graph.proofs.Round.{own-is}
 use Rattle.graph.proofs.Theorems.{distance-below, eccentricity-is}
@@ -118,11 +119,11 @@ module _ (C : Chart) (metric : IsMetric C) where
               let S = start (shrunkCandidate C a D P) in
               rounds-sound (length (C .depots)) (round C a S) (round-sound a S start-sound)
 
--- an eccentricity is below the limit of the network
-pub ecc-below : (G : Network) → IsNet G → (v : ℕ) → chart G .isDestination v ≡ true → ecc (chart G) v < G .limit
+-- an eccentricity is below the number of depots
+pub ecc-below : (G : Network) → IsNet G → (v : ℕ) → chart G .isDestination v ≡ true → ecc (chart G) v < length (vertices G)
 unfolding chart
 ecc-below G net v t = go (eccentricity-is G net v (true→t t) .attained)
   where
-    go : (ecc (chart G) v ≡ 0) ⊎ ((w : ℕ) × T (G .isOpen w) × IsDist G v w (ecc (chart G) v)) → ecc (chart G) v < G .limit
-    go (inl z) = let l : v < G .limit = net .sound .below v (true→t t) in omega arith
-    go (inr x) = omega (arith, distance-below G net v (x .0) (ecc (chart G) v) (true→t t) (x .2), vertices-length G)
+    go : (ecc (chart G) v ≡ 0) ⊎ ((w : ℕ) × T (G .isOpen w) × IsDist G v w (ecc (chart G) v)) → ecc (chart G) v < length (vertices G)
+    go (inl z) = omega (arith, distance-below G net v v 0 (true→t t) dist-self)
+    go (inr x) = distance-below G net v (x .0) (ecc (chart G) v) (true→t t) (x .2)

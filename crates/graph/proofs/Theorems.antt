@@ -1,26 +1,26 @@
 -- THE THEOREMS of this crate, by the published words. specs/Correct.antt has what they say. Assumes nothing.
 use mathlib.Core.Path.{_≡_, sym, ap, _∙_, subst, fun-ext}
 use mathlib.Core.Logic.{_↔_}
-use mathlib.Core.Bool.{true, not}
-use Prim.Native.Nat.{ℕ, _+_, _≤_, _<_}
+use mathlib.Core.Bool.{Bool, true, not}
+use Prim.Native.Nat.{ℕ, suc, _+_, _≤_, _<_}
 use native.Mathlib.Omega.{arith}
 use lib.Dec.{T}
 use lib.ListN.{length}
 use borrow.Author.Tests.{not-true}
-use Rattle.lists.specs.Lists.{range, countb, memb, firstOf}
+use Rattle.lists.specs.Lists.{countb, memb, firstOf}
 use Rattle.lists.proofs.Tests.{t→true, true→t, same-test}
-use Rattle.lists.proofs.Counts.{count-filter, counted-use}
+use Rattle.lists.proofs.Distinct.{counted-use}
 use Rattle.graph.specs.Network.{Network, IsDist, IsEcc, IsDiameter, IsFarthest, AreTrue}
 use Rattle.graph.specs.Distance.{vertices, unreached, dist}
 use Rattle.graph.specs.Chart.{chart, ecc, diameter, Pairs, farthest}
 use Rattle.graph.specs.Rounds.{Status, waiting, skipped, searched, State, reckon}
-use Rattle.graph.specs.Opening.{Notice, addDepot, noticeFaults, opening}
+use Rattle.graph.specs.Opening.{Notice, byCode, withDepot, openFaults, opening}
 use Rattle.graph.specs.Correct.{IsNet, Stands, AreReferences, AllCovered, IsReckoned, IsSearched, IsOpened}
 use Rattle.graph.proofs.Distances.{dist-below}
 use Rattle.graph.proofs.Connected.{hop-open}
 use Rattle.graph.proofs.Metric.{ecc-bound}
 use Rattle.graph.proofs.Right.{IsRight, greatest-small, reckon-right}
-use Rattle.graph.proofs.OpeningCases.{opening-right}
+use Rattle.graph.proofs.OpeningCases.{IsInserted, opening-right}
 use Rattle.graph.proofs.Charts.{greatest-unique, depot-in, depot-out, chart-dist, chart-only, chart-metric, chart-ecc, right-diameter, right-farthest, farthest-right}
 use Rattle.graph.proofs.Opened.{IsAdmitted, admitted-of, opened-net, inserted}
 use Rattle.graph.proofs.Searched.{StandsIn, ReferencesIn, CoveredIn, reckon-references, reckon-cover, opening-references, opening-cover}
@@ -70,32 +70,28 @@ module _ (G : Network) (net : IsNet G) where
 
 module _ (G : Network) (net : IsNet G) where
   references-of : (S : State) → ReferencesIn (chart G) S → AreReferences G S
-  unfolding vertices
   references-of S R = record {
-    inside = λ v h. depot-out G (R .inside v (t→true (memb v (S .references)) h));
+    inside = λ v h. depot-out G net (R .inside v (t→true (memb v (S .references)) h));
     distinct = counted;
     stands = λ v ov. go v ov (S .status v) (R .stands v (depot-in G net v ov));
   }
     where
-      below : (v : ℕ) → memb v (S .references) ≡ true → v < G .limit
-      below v h = net .sound .below v (depot-out G (R .inside v h))
-
       counted : length (S .references) ≡ countb (λ v. memb v (S .references)) (vertices G)
       counted =
-          sym (counted-use (S .references) (R .counted) (G .limit) below)
-          ∙ sym (count-filter (G .isOpen) (λ v. memb v (S .references)) (range (G .limit)) (λ v h. t→true (G .isOpen v) (depot-out G (R .inside v h))))
+          sym (counted-use (S .references) (R .counted) (vertices G) (net .sound .once)
+          (λ v h. sym (net .sound .listed v) ∙ t→true (G .isOpen v) (depot-out G net (R .inside v h))))
 
       go : (v : ℕ) → T (G .isOpen v) → (s : Status) → StandsIn (chart G) (S .references) v s → Stands G (S .references) v s
       go v ov (waiting b g) f = true→t (ap not f)
       go v ov (skipped b g) f =
-          let og = depot-out G (R .inside g (f .1)) in
+          let og = depot-out G net (R .inside g (f .1)) in
           (true→t (ap not (f .0)), true→t (f .1), (ecc (chart G) g, chart G .distance g v, chart-ecc G net g og, chart-dist G net g v og ov, f .2))
       go v ov (searched e) f = (true→t (f .0), subst (λ (n : ℕ). IsEcc G (G .isOpen) v n) (sym (f .1)) (chart-ecc G net v ov))
 
   cover-of : (S : State) → ReferencesIn (chart G) S → CoveredIn (chart G) S → AllCovered G S
   cover-of S R cover v ov n =
       let x = cover v (depot-in G net v ov) (not-true (memb v (S .references)) (t→true (not (memb v (S .references))) n)) in
-      let og = depot-out G (R .inside (x .0) (x .1)) in
+      let og = depot-out G net (R .inside (x .0) (x .1)) in
       record {
         reference = x .0;
         isReference = true→t (x .1);
@@ -125,21 +121,29 @@ reckoning-correct G net =
 
 -- ---- AN OPENING IS CORRECT
 
-module _ (G : Network) (net : IsNet G) (o : Notice) (low : o .code < G .limit) (ok : firstOf (noticeFaults G o) ≡ 0) (D : ℕ) (P : Pairs) where
+module _ (G : Network) (net : IsNet G) (o : Notice) (room : suc (length (vertices G)) < unreached) (ok : firstOf (openFaults G o) ≡ 0) (D : ℕ) (P : Pairs) where
   abbrev a : ℕ
   a = o .code
 
   abbrev H : Network
-  H = addDepot G (o .code) (o .neighbours)
+  H = withDepot G o
 
-  good : IsAdmitted G (o .code) (o .neighbours)
-  good = admitted-of G net o low ok
+  abbrev beside : ℕ → Bool
+  beside v = memb v (o .neighbours)
 
-  pub net-after : IsNet (addDepot G (o .code) (o .neighbours))
-  net-after = opened-net G net (o .code) (o .neighbours) good
+  good : IsAdmitted G (o .code) beside
+  good = admitted-of G net o room ok
+
+  pub net-after : IsNet (withDepot G o)
+  unfolding withDepot
+  net-after = opened-net byCode G net (o .code) beside good
+
+  inserted-a : IsInserted (chart G) (chart H) (o .code)
+  unfolding withDepot
+  inserted-a = inserted byCode G net (o .code) beside good
 
   new : chart H .isDestination (o .code) ≡ true
-  new = inserted G net (o .code) (o .neighbours) good .new
+  new = inserted-a .new
 
   -- whatever figures were stored: references, and the cover after a shrink
   pub opening-covered : D ≤ unreached → IsSearched H (opening (chart H) a D P)
@@ -163,7 +167,7 @@ module _ (G : Network) (net : IsNet G) (o : Notice) (low : o .code < G .limit) (
 
     pub opening-correct : IsOpened H D (opening (chart H) a D P)
     opening-correct =
-        let r = opening-right (chart G) (chart H) (chart-metric H net-after) a D P stored-right (inserted G net (o .code) (o .neighbours) good) in
+        let r = opening-right (chart G) (chart H) (chart-metric H net-after) a D P stored-right inserted-a in
         record {
           figures = record {
             chain = right-diameter H net-after (opening (chart H) a D P .final .candidate) (opening (chart H) a D P .final .pairs) (r .right);

@@ -1,17 +1,17 @@
--- THE WORKED CASES over networks, computed by the checker (`refl`): the empty map, the single map and the path of seven reckoned (rule 5.6), and
--- the seven stream lines (rule 10.5). Assumes nothing.
+-- THE WORKED CASES over networks, computed by the checker (`refl`): the empty map, the single map and the path of seven reckoned (rule 5.6), the
+-- order in which depots are listed, and the seven stream lines (rule 10.5). Assumes nothing.
 use mathlib.Core.Path.{_≡_, refl}
 use mathlib.Core.Bool.{false, cond, _&&_, _||_}
 use mathlib.Core.List.{List, [], _∷_, _++_}
 use Prim.Native.Nat.{ℕ, zero, suc}
 use lib.Dec.{eqb, ltb}
-use lib.ListN.{length}
-use Rattle.lists.specs.Lists.{mapl, firstOf}
+use lib.ListN.{length, getD}
+use Rattle.lists.specs.Lists.{range, mapl, firstOf}
 use Rattle.graph.specs.Network.{Network}
 use Rattle.graph.specs.Distance.{vertices}
 use Rattle.graph.specs.Chart.{chart, Pairs, countPairs}
 use Rattle.graph.specs.Rounds.{markOf, boundOf, reckon}
-use Rattle.graph.specs.Opening.{Notice, emptyNetwork, addDepot, noticeFaults, Change, grew, kept, shrank, opening}
+use Rattle.graph.specs.Opening.{Notice, emptyNetwork, addDepot, withDepot, openFaults, Change, grew, kept, shrank, opening}
 
 -- the depot u with each of the depots that P pairs it with
 unfoldable pub partners : Pairs → ℕ → List ℕ → List (ℕ × ℕ)
@@ -31,9 +31,10 @@ pairList vs P = pairsFrom P vs vs
 
 -- ---- the whole reckoning
 
--- the path 0-1-..-(k - 1), among 256 codes
+-- the path 0-1-..-(k - 1)
 unfoldable pub path : ℕ → Network
-path k = record { limit = 256; isOpen = λ c. ltb c k; linked = λ u v. ltb u k && ltb v k && (eqb (suc u) v || eqb u (suc v)) }
+unfolding range
+path k = record { depots = range k; isOpen = λ c. ltb c k; linked = λ u v. ltb u k && ltb v k && (eqb (suc u) v || eqb u (suc v)) }
 
 -- references in order; marks and bounds of the open depots; chain; pairs
 pub record ReckoningCase : Type 0 where
@@ -44,7 +45,7 @@ pub record ReckoningCase : Type 0 where
   pub pairs : List (ℕ × ℕ)
 
 unfoldable pub reckoning : Network → ReckoningCase
-unfolding chart reckon mapl pairList vertices
+unfolding chart reckon mapl pairList
 reckoning G =
     let S = reckon (chart G) in
     let vs = vertices G in
@@ -55,6 +56,20 @@ reckoning G =
       chain = S .candidate;
       pairs = pairList vs (S .pairs);
     }
+
+-- ---- the order of the depots
+
+-- rows 0, 1 and 2 opened in turn for the codes 30, 10 and 20, each beside the first, are listed by their codes
+unfoldable pub rowsByCode : Network
+unfolding emptyNetwork addDepot
+rowsByCode =
+    let code : ℕ → ℕ = λ r. getD (30 ∷ 10 ∷ 20 ∷ []) r 0 in
+    let one = addDepot code emptyNetwork 0 (λ v. false) in
+    addDepot code (addDepot code one 1 (λ v. eqb v 0)) 2 (λ v. eqb v 0)
+
+pub listing : rowsByCode .depots ≡ 1 ∷ 2 ∷ 0 ∷ []
+unfolding rowsByCode
+listing = refl
 
 -- ---- the seven stream lines
 
@@ -80,29 +95,29 @@ pub record PlainMap : Type 0 where
   pub pairs : Pairs
 
 unfoldable pub lineFor : ℕ → ℕ → ℕ → PlainMap → AnswerLine
-unfolding vertices countPairs pairList
+unfolding countPairs pairList
 lineFor l k s M =
     let vs = vertices (M .net) in
     record { letter = l; refusal = k; number = length vs; chain = M .chain; count = countPairs vs (M .pairs); searches = s; pairs = pairList vs (M .pairs) }
 
 -- the map after a notice, with its line; k is its refusal, 0 if it is accepted
 unfoldable pub followOne : ℕ → PlainMap → Notice → PlainMap × AnswerLine
-unfolding addDepot chart opening lineFor caseLetter
+unfolding withDepot chart opening lineFor caseLetter
 followOne zero M o =
-    let H = addDepot (M .net) (o .code) (o .neighbours) in
+    let H = withDepot (M .net) o in
     let x = opening (chart H) (o .code) (M .chain) (M .pairs) in
     let N : PlainMap = record { net = H; chain = x .final .candidate; pairs = x .final .pairs } in
     (N, lineFor (caseLetter (x .change)) 0 (length (x .final .references)) N)
 followOne (suc k) M o = (M, lineFor 82 (suc k) 0 M)
 
 unfoldable pub followAll : PlainMap → List Notice → List AnswerLine
-unfolding followOne firstOf noticeFaults
+unfolding followOne firstOf openFaults
 followAll M [] = []
-followAll M (o ∷ os) = let r = followOne (firstOf (noticeFaults (M .net) o)) M o in r .1 ∷ followAll (r .0) os
+followAll M (o ∷ os) = let r = followOne (firstOf (openFaults (M .net) o)) M o in r .1 ∷ followAll (r .0) os
 
 unfoldable pub noDepot : PlainMap
 unfolding emptyNetwork
-noDepot = record { net = emptyNetwork 256; chain = 0; pairs = λ u v. false }
+noDepot = record { net = emptyNetwork; chain = 0; pairs = λ u v. false }
 
 abbrev pub sevenLines : List Notice
 sevenLines =

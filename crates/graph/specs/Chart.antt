@@ -9,7 +9,7 @@ use Rattle.lists.specs.Lists.{filterb, countb, sumOf, maxOf}
 use Rattle.graph.specs.Network.{Network}
 use Rattle.graph.specs.Distance.{vertices, dist}
 
--- open depots in rising order, which of them are destinations, degrees, distances
+-- open depots in their order, which of them are destinations, degrees, distances
 pub record Chart : Type 0 where
   pub depots : List ℕ
   pub isDestination : ℕ → Bool
@@ -18,7 +18,7 @@ pub record Chart : Type 0 where
 
 -- every open depot is a destination (decision 21); the degree counts every neighbour (rule 1.7)
 unfoldable pub chart : Network → Chart
-unfolding vertices countb dist
+unfolding countb dist
 chart G = let vs = vertices G in record { depots = vs; isDestination = G .isOpen; degree = λ u. countb (G .linked u) vs; distance = dist G }
 
 unfoldable pub destinations : Chart → List ℕ

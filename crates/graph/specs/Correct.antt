@@ -13,11 +13,11 @@ use Rattle.graph.specs.Distance.{vertices, unreached}
 use Rattle.graph.specs.Rounds.{Status, waiting, skipped, searched, isWaiting, State}
 use Rattle.graph.specs.Opening.{Change, grew, kept, shrank, Opened}
 
--- A network that a map can hold. The limit keeps distances below the mark of a closed code.
+-- A network that a map can hold. It has so few depots that every distance is below the mark of a closed code.
 pub record IsNet (G : Network) : Type 0 where
   pub sound : IsSound G
   pub connected : IsConnected G
-  pub small : G .limit < unreached
+  pub small : length (vertices G) < unreached
 
 -- v is covered (rule 9.6): from some searched depot, eccentricity and distance to v add up to less than the chain
 pub record IsCovered (G : Network) (references : List ℕ) (chain v : ℕ) : Type 0 where

@@ -5,13 +5,12 @@ use mathlib.Core.List.{List, [], _∷_}
 use Prim.Native.Nat.{ℕ, zero, suc}
 use lib.Dec.{eqb, ltb}
 use lib.ListN.{length}
-use Rattle.lists.specs.Lists.{range, filterb, anyb, allb}
+use Rattle.lists.specs.Lists.{anyb, allb}
 use Rattle.graph.specs.Network.{Network}
 
--- the open depots, rising
-unfoldable pub vertices : Network → List ℕ
-unfolding filterb range
-vertices G = filterb (G .isOpen) (range (G .limit))
+-- the open depots, in their order
+abbrev pub vertices : Network → List ℕ
+vertices G = G .depots
 
 -- the hop table's mark of a closed code, and of what no walk reaches
 abbrev pub unreached : ℕ
@@ -30,15 +29,15 @@ hops vs adjacent u (suc k) = nextHop vs adjacent k (hops vs adjacent u k)
 
 -- the distance from u to v, `unreached` if no walk joins them; as many layers as depots are enough (`dist-below`)
 unfoldable pub dist : Network → ℕ → ℕ → ℕ
-unfolding vertices hops
+unfolding hops
 dist G u = let vs = vertices G in hops vs (G .linked) u (length vs)
 
--- every open depot is reached from the lowest one
+-- every open depot is reached from the first one
 unfoldable pub reachedAll : Network → List ℕ → Bool
 unfolding dist allb
 reachedAll G [] = true
 reachedAll G (r ∷ vs) = allb (λ v. ltb (dist G r v) unreached) vs
 
 unfoldable pub connected : Network → Bool
-unfolding vertices reachedAll
+unfolding reachedAll
 connected G = reachedAll G (vertices G)

@@ -3,19 +3,24 @@
 -- Assumes nothing.
 use mathlib.Core.Path.{_≡_}
 use mathlib.Core.Logic.{_⊎_, _↔_}
-use mathlib.Core.Bool.{Bool}
+use mathlib.Core.Bool.{Bool, true}
+use mathlib.Core.List.{List}
 use Prim.Native.Nat.{ℕ, zero, suc, _≤_, _<_}
 use lib.Dec.{T}
+use Rattle.lists.specs.Lists.{memb, distinct}
 
--- An undirected, unweighted network: which of the codes below `limit` are open, and which two are linked (adjacent).
+-- An undirected, unweighted network: its open depots, listed in the order in which ties are settled (the earlier one wins); which depots are open,
+-- and which two are linked (adjacent).
 pub record Network : Type 0 where
-  pub limit : ℕ
+  pub depots : List ℕ
   pub isOpen : ℕ → Bool
   pub linked : ℕ → ℕ → Bool
 
--- A sound network is a simple graph: open codes lie below the limit; links join two different open depots, both ways round.
+-- A sound network is a simple graph: the open depots are those listed, each once; links join two different open depots, both ways round.
+-- Of the order nothing is asked: no figure depends on it.
 pub record IsSound (G : Network) : Type 0 where
-  pub below : (u : ℕ) → T (G .isOpen u) → u < G .limit
+  pub listed : (u : ℕ) → G .isOpen u ≡ memb u (G .depots)
+  pub once : distinct (G .depots) ≡ true
   pub ends : (u v : ℕ) → T (G .linked u v) → T (G .isOpen v)
   pub loopless : (u v : ℕ) → T (G .linked u v) → u ≡ v → ⊥
   pub symmetric : (u v : ℕ) → T (G .linked u v) → T (G .linked v u)

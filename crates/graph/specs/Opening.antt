@@ -5,7 +5,7 @@ use mathlib.Core.List.{List, [], _∷_}
 use Prim.Native.Nat.{ℕ, _+_, min}
 use lib.Dec.{eqb, ltb}
 use lib.ListN.{length}
-use Rattle.lists.specs.Lists.{anyb, allb, maxOf, memb}
+use Rattle.lists.specs.Lists.{anyb, allb, maxOf, memb, insertBy}
 use Rattle.graph.specs.Network.{Network}
 use Rattle.graph.specs.Distance.{vertices, unreached}
 use Rattle.graph.specs.Chart.{Chart, ecc, Pairs, ownPairs}
@@ -17,17 +17,26 @@ pub record Notice : Type 0 where
   pub code : ℕ
   pub neighbours : List ℕ
 
-unfoldable pub emptyNetwork : ℕ → Network
-emptyNetwork n = record { limit = n; isOpen = λ c. false; linked = λ u v. false }
+unfoldable pub emptyNetwork : Network
+emptyNetwork = record { depots = []; isOpen = λ c. false; linked = λ u v. false }
 
--- the network with the depot a and its links to ns
-unfoldable pub addDepot : Network → ℕ → List ℕ → Network
-unfolding memb
-addDepot G a ns = record {
-  limit = G .limit;
+-- the network with the depot a, linked to those that `beside` tells and listed by its key
+unfoldable pub addDepot : (ℕ → ℕ) → Network → ℕ → (ℕ → Bool) → Network
+unfolding insertBy
+addDepot key G a beside = record {
+  depots = insertBy key a (G .depots);
   isOpen = λ c. eqb c a || G .isOpen c;
-  linked = λ u v. (eqb u a && memb v ns) || (eqb v a && memb u ns) || G .linked u v;
+  linked = λ u v. (eqb u a && beside v) || (eqb v a && beside u) || G .linked u v;
 }
+
+-- where depots are told by their codes, ties go to the lowest code: the code itself is the key
+abbrev pub byCode : ℕ → ℕ
+byCode c = c
+
+-- the network with the depot of a notice
+unfoldable pub withDepot : Network → Notice → Network
+unfolding addDepot memb
+withDepot G o = addDepot byCode G (o .code) (λ v. memb v (o .neighbours))
 
 unfoldable pub strictlyRising : List ℕ → Bool
 strictlyRising [] = true
@@ -38,15 +47,20 @@ unfoldable pub isEmpty : List ℕ → Bool
 isEmpty [] = true
 isEmpty (x ∷ xs) = false
 
--- the conditions 5 to 8 of rule 8.1 as tests, each with its number: taken, lonely, unsorted, unknown
-unfoldable pub noticeFaults : Network → Notice → List (Bool × ℕ)
-unfolding isEmpty vertices strictlyRising allb
-noticeFaults G o =
-    (G .isOpen (o .code), 5)
-    ∷ (isEmpty (o .neighbours) && not (isEmpty (vertices G)), 6)
+-- the conditions 5 to 8 of rule 8.1 as tests, each with its number: taken, lonely, unsorted, unknown; `known` tells the open codes, n counts them
+unfoldable pub noticeFaults : (ℕ → Bool) → ℕ → Notice → List (Bool × ℕ)
+unfolding isEmpty strictlyRising allb
+noticeFaults known n o =
+    (known (o .code), 5)
+    ∷ (isEmpty (o .neighbours) && ltb 0 n, 6)
     ∷ (not (strictlyRising (o .neighbours)), 7)
-    ∷ (not (allb (G .isOpen) (o .neighbours)), 8)
+    ∷ (not (allb known (o .neighbours)), 8)
     ∷ []
+
+-- the same on a network whose depots are codes
+unfoldable pub openFaults : Network → Notice → List (Bool × ℕ)
+unfolding noticeFaults
+openFaults G o = noticeFaults (G .isOpen) (length (vertices G)) o
 
 -- ---- what an accepted opening does
 

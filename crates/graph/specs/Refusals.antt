@@ -1,5 +1,5 @@
 -- THE CONDITIONS OF RULE 8.1 that speak of the network and a notice, 3 to 8, in the published words.
--- `notice-refusals` (proofs/Refusals) says that `noticeFaults` gives the first of 5 to 8 that holds, and 0 exactly if none does.
+-- `notice-refusals` (proofs/Refusals) says that `openFaults` gives the first of 5 to 8 that holds, and 0 exactly if none does.
 -- Assumes nothing.
 use mathlib.Core.Path.{_≡_}
 use mathlib.Core.List.{List, [], _∷_, List·Memᴰ}
@@ -28,7 +28,7 @@ IsTaken G code = T (G .isOpen code)
 
 -- 6, lonely: no neighbours, though a depot is open
 abbrev pub IsLonely : Network → List ℕ → Type 0
-IsLonely G ns = (ns ≡ []) × ((u : ℕ) × (u < G .limit) × T (G .isOpen u))
+IsLonely G ns = (ns ≡ []) × ((u : ℕ) × T (G .isOpen u))
 
 -- 7, unsorted: some neighbour is not above the one before it
 abbrev pub IsUnsorted : List ℕ → Type 0

@@ -10,7 +10,7 @@ use Rattle.graph.specs.Network.{Network}
 use Rattle.graph.specs.Distance.{vertices}
 use Rattle.graph.specs.Chart.{chart, Pairs}
 use Rattle.graph.specs.Rounds.{State, markOf, boundOf}
-use Rattle.graph.specs.Opening.{addDepot, opening}
+use Rattle.graph.specs.Opening.{withDepot, opening}
 use Rattle.graph.specs.Cases.{pairList, path, ReckoningCase, reckoning, caseLetter}
 
 -- the pairs of a list
@@ -18,14 +18,14 @@ unfoldable pub listed : List (ℕ × ℕ) → Pairs
 unfolding anyb
 listed ps u v = anyb (λ p. eqb u (p .0) && eqb v (p .1)) ps
 
--- the network of the depots vs with the links ls, among 256 codes
+-- the network of the depots vs with the links ls
 unfoldable pub linkedBy : List ℕ → List (ℕ × ℕ) → Network
 unfolding memb listed
-linkedBy vs ls = record { limit = 256; isOpen = λ c. memb c vs; linked = λ u v. listed ls u v || listed ls v u }
+linkedBy vs ls = record { depots = vs; isOpen = λ c. memb c vs; linked = λ u v. listed ls u v || listed ls v u }
 
 -- what an opening's state says of the depots of G
 unfoldable pub readState : Network → State → ReckoningCase
-unfolding vertices mapl pairList
+unfolding mapl pairList
 readState G S =
     let vs = vertices G in
     record {
@@ -43,9 +43,9 @@ pub record Opening : Type 0 where
 
 -- a opened beside ns in G, with the stored chain D and the stored pairs ps
 unfoldable pub opened : Network → ℕ → List ℕ → ℕ → List (ℕ × ℕ) → Opening
-unfolding addDepot chart listed opening caseLetter readState
+unfolding withDepot chart listed opening caseLetter readState
 opened G a ns D ps =
-    let H = addDepot G a ns in
+    let H = withDepot G (record { code = a; neighbours = ns }) in
     let x = opening (chart H) a D (listed ps) in
     record { letter = caseLetter (x .change); final = readState H (x .final) }
 

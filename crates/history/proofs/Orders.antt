@@ -1,25 +1,25 @@
 -- ARRIVAL ORDER: the plain list's network depends on the set of accepted notices alone (D). Assumes nothing.
-use mathlib.Core.Path.{_≡_, refl, sym, ap, _∙_}
+use mathlib.Core.Path.{_≡_, refl, sym, ap, _∙_, fun-ext}
 use mathlib.Core.Logic.{_↔_}
 use mathlib.Core.Bool.{Bool, true, false, _&&_, _||_}
 use mathlib.Core.List.{List, [], _∷_, List·Memᴰ}
 use Prim.Native.Nat.{ℕ, zero, suc}
 use lib.Dec.{eqb}
-use Rattle.lists.specs.Lists.{anyb, memb}
+use Rattle.lists.specs.Lists.{range, filterb, anyb, memb}
 use Rattle.lists.proofs.Tests.{same-test}
 use Rattle.lists.proofs.Members.{any-intro, any-elim}
 use Rattle.graph.specs.Network.{Network}
-use Rattle.graph.specs.Opening.{Notice, addDepot}
-use Rattle.map.specs.Memory.{Shape}
+use Rattle.graph.specs.Opening.{Notice, withDepot}
+use Rattle.map.specs.Memory.{Shape, places}
 use Rattle.history.specs.PlainRun.{Feed, plainRefusal, noticed, plainRun}
 use Rattle.plain_list.specs.PlainList.{plainNext}
-use Rattle.opening.proofs.Memories.{network-path}
+use Rattle.opening.proofs.Memories.{IsHeld, network-path}
 
 -- ---- the network with the notices of a list added, one after the other
 
 addAll : Network → List Notice → Network
 addAll G [] = G
-addAll G (o ∷ os) = addAll (addDepot G (o .code) (o .neighbours)) os
+addAll G (o ∷ os) = addAll (withDepot G o) os
 
 -- the plain list's network is that of its accepted notices
 plain-added : (K : Shape) (G : Network) (fs : List Feed) → plainRun K G fs .network ≡ addAll G (plainRun K G fs .notices)
@@ -29,7 +29,7 @@ plain-added K G (f ∷ fs) = go (plainRefusal K G f) (λ H. plain-added K H fs)
   where
     go : (k : ℕ) → ((H : Network) → plainRun K H fs .network ≡ addAll H (plainRun K H fs .notices))
         → plainRun K (plainNext k G (f .notice)) fs .network ≡ addAll G (noticed k (f .notice) (plainRun K (plainNext k G (f .notice)) fs .notices))
-    go zero ih = ih (addDepot G (f .notice .code) (f .notice .neighbours))
+    go zero ih = ih (withDepot G (f .notice))
     go (suc k) ih = ih G
 
 -- ---- its codes and links are those of any of the notices
@@ -50,21 +50,16 @@ or-false : (b : Bool) → b ≡ (b || false)
 or-false true = refl
 or-false false = refl
 
-added-limit : (G : Network) (os : List Notice) → addAll G os .limit ≡ G .limit
-unfolding addAll addDepot
-added-limit G [] = refl
-added-limit G (o ∷ os) = added-limit (addDepot G (o .code) (o .neighbours)) os
-
 added-open : (G : Network) (os : List Notice) (v : ℕ) → addAll G os .isOpen v ≡ (G .isOpen v || anyb (opens v) os)
-unfolding addAll addDepot anyb opens
+unfolding addAll withDepot anyb opens
 added-open G [] v = or-false (G .isOpen v)
-added-open G (o ∷ os) v = added-open (addDepot G (o .code) (o .neighbours)) os v ∙ or-swap (eqb v (o .code)) (G .isOpen v) (anyb (opens v) os)
+added-open G (o ∷ os) v = added-open (withDepot G o) os v ∙ or-swap (eqb v (o .code)) (G .isOpen v) (anyb (opens v) os)
 
 added-linked : (G : Network) (os : List Notice) (u v : ℕ) → addAll G os .linked u v ≡ (G .linked u v || anyb (links u v) os)
-unfolding addAll addDepot anyb links
+unfolding addAll withDepot anyb links
 added-linked G [] u v = or-false (G .linked u v)
 added-linked G (o ∷ os) u v =
-    added-linked (addDepot G (o .code) (o .neighbours)) os u v
+    added-linked (withDepot G o) os u v
     ∙ or-swap ((eqb u (o .code) && memb v (o .neighbours)) || (eqb v (o .code) && memb u (o .neighbours))) (G .linked u v) (anyb (links u v) os)
 
 any-same : (p : Notice → Bool) (os qs : List Notice) → ((o : Notice) → List·Memᴰ o os ↔ List·Memᴰ o qs) → anyb p os ≡ anyb p qs
@@ -73,13 +68,31 @@ any-same p os qs h =
     (λ e. let x = any-elim p os e in any-intro p qs (h (x .0) .0 (x .1)) (x .2))
     (λ e. let x = any-elim p qs e in any-intro p os (h (x .0) .1 (x .1)) (x .2))
 
-added-same : (G : Network) (os qs : List Notice) → ((o : Notice) → List·Memᴰ o os ↔ List·Memᴰ o qs) → addAll G os ≡ addAll G qs
-added-same G os qs h =
-    network-path (added-limit G os ∙ sym (added-limit G qs))
-    (λ v. added-open G os v ∙ ap (λ (b : Bool). G .isOpen v || b) (any-same (opens v) os qs h) ∙ sym (added-open G qs v))
-    (λ u v. added-linked G os u v ∙ ap (λ (b : Bool). G .linked u v || b) (any-same (links u v) os qs h) ∙ sym (added-linked G qs u v))
-
 -- ---- THE ORDER TELLS NOTHING
 
-pub order-free : (K : Shape) (G : Network) (fs gs : List Feed) → ((o : Notice) → List·Memᴰ o (plainRun K G fs .notices) ↔ List·Memᴰ o (plainRun K G gs .notices)) → plainRun K G fs .network ≡ plainRun K G gs .network
-order-free K G fs gs h = plain-added K G fs ∙ added-same G (plainRun K G fs .notices) (plainRun K G gs .notices) h ∙ sym (plain-added K G gs)
+-- the depots of both lists stand in rising order, so that their list follows from which are open
+pub order-free : (K : Shape) (G : Network) (fs gs : List Feed) → IsHeld K (plainRun K G fs .network) → IsHeld K (plainRun K G gs .network)
+    → ((o : Notice) → List·Memᴰ o (plainRun K G fs .notices) ↔ List·Memᴰ o (plainRun K G gs .notices)) → plainRun K G fs .network ≡ plainRun K G gs .network
+order-free K G fs gs f g h =
+    network-path
+    (f .depots ∙ ap (λ (p : ℕ → Bool). filterb p (range (places K))) (fun-ext same-open) ∙ sym (g .depots))
+    same-open
+    same-linked
+  where
+    os : List Notice
+    os = plainRun K G fs .notices
+
+    qs : List Notice
+    qs = plainRun K G gs .notices
+
+    same-open : (v : ℕ) → plainRun K G fs .network .isOpen v ≡ plainRun K G gs .network .isOpen v
+    same-open v =
+        ap (λ (N : Network). N .isOpen v) (plain-added K G fs)
+        ∙ added-open G os v ∙ ap (λ (b : Bool). G .isOpen v || b) (any-same (opens v) os qs h) ∙ sym (added-open G qs v)
+        ∙ ap (λ (N : Network). N .isOpen v) (sym (plain-added K G gs))
+
+    same-linked : (u v : ℕ) → plainRun K G fs .network .linked u v ≡ plainRun K G gs .network .linked u v
+    same-linked u v =
+        ap (λ (N : Network). N .linked u v) (plain-added K G fs)
+        ∙ added-linked G os u v ∙ ap (λ (b : Bool). G .linked u v || b) (any-same (links u v) os qs h) ∙ sym (added-linked G qs u v)
+        ∙ ap (λ (N : Network). N .linked u v) (sym (plain-added K G gs))

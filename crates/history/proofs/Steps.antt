@@ -12,7 +12,7 @@ use Rattle.rows.specs.Rows.{tableBit, encodeRow, encodeTable}
 use Rattle.rows.proofs.Written.{encode-row-length, encode-table-length}
 use Rattle.graph.specs.Network.{Network, AreTrue}
 use Rattle.graph.specs.Chart.{diameter, farthest}
-use Rattle.graph.specs.Opening.{addDepot}
+use Rattle.graph.specs.Opening.{withDepot}
 use Rattle.map.specs.Memory.{Shape, IsShape, places, tableWords, networkOf}
 use Rattle.rounds.specs.Leaves.{Lent}
 use Rattle.rounds.specs.Sizes.{Sizes, sizesOf, longEnough}
@@ -122,13 +122,13 @@ module _ (K : Shape) (shape : IsShape K) (G : Network) (held : IsHeld K G) (c : 
     says : Says K G (M .rec) L (B .pairs)
     says = lent-says (ap (longEnough K) (sym sizes-are) ∙ granted-long K shape (M .rec) L (B .pairs) (sizesOf L B) (c .notice) ok)
 
-    next-is : networkAfter K (M .rec) L (c .notice) ≡ addDepot G (c .notice .code) (c .notice .neighbours)
-    next-is = after-is K (M .rec) L (c .notice) ∙ ap (λ (N : Network). addDepot N (c .notice .code) (c .notice .neighbours)) (says .network)
+    next-is : networkAfter K (M .rec) L (c .notice) ≡ withDepot G (c .notice)
+    next-is = after-is K (M .rec) L (c .notice) ∙ ap (λ (N : Network). withDepot N (c .notice)) (says .network)
 
     were : AreTrue (networkOf (K .words) (M .rec .codes) L) (networkOf (K .words) (M .rec .codes) L .isOpen) (M .rec .chain) (tableBit (K .words) (B .pairs))
     were = says-true K G held (M .rec) L (B .pairs) says
 
-    accepted-answer : openGiven zero K (M .rec) L B (c .notice) .report .outcome ≡ moved (diameter G) (diameter (addDepot G (c .notice .code) (c .notice .neighbours)))
+    accepted-answer : openGiven zero K (M .rec) L B (c .notice) .report .outcome ≡ moved (diameter G) (diameter (withDepot G (c .notice)))
     accepted-answer =
         opened-moved K shape (M .rec) L B (c .notice) ok (call .code) were
         ∙ ap₂ (λ (D : ℕ) (N : Network). moved D (diameter N)) (says .chain) next-is
@@ -143,7 +143,7 @@ module _ (K : Shape) (shape : IsShape K) (G : Network) (held : IsHeld K G) (c : 
         (restored-new (tableWords K) (c .pairs) (M .pairs) (encodeTable (K .words) (farthest N)) (pairs-length K G) (encode-table-length (K .words) (farthest N)) (whole .1))
         (record-path (overwrite-all (encodeRow (K .words) (N .isOpen)) (encodeRow (K .words) (G .isOpen)) (encode-row-length (K .words) (N .isOpen) ∙ sym (encode-row-length (K .words) (G .isOpen)))) refl refl refl)
 
-    accepted-memory : memoryAfter M c (openGiven zero K (M .rec) L B (c .notice)) ≡ memoryFor K (addDepot G (c .notice .code) (c .notice .neighbours))
+    accepted-memory : memoryAfter M c (openGiven zero K (M .rec) L B (c .notice)) ≡ memoryFor K (withDepot G (c .notice))
     accepted-memory =
         after-restored M c (openGiven zero K (M .rec) L B (c .notice))
         ∙ ap (restoredMap M c) (opened-writes K shape (M .rec) L B (c .notice) ok (call .code) were)

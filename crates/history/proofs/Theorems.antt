@@ -4,7 +4,7 @@ use mathlib.Core.List.{List, [], _∷_, _++_, Memᴰ·append-left, Memᴰ·appen
 use Rattle.graph.specs.Network.{Network}
 use Rattle.graph.specs.Opening.{emptyNetwork}
 use Rattle.graph.proofs.Theorems.{diameter-is}
-use Rattle.map.specs.Memory.{Shape, IsShape, places, base}
+use Rattle.map.specs.Memory.{Shape, IsShape, base}
 use Rattle.opening.specs.OpenCall.{openCall, referencesOf}
 use Rattle.history.specs.PlainRun.{plainRefusal}
 use Rattle.plain_list.specs.PlainList.{plainNext}
@@ -22,8 +22,8 @@ use Rattle.map.proofs.Theorems.{base-shape}
 
 module _ (K : Shape) (shape : IsShape K) where
   -- from the empty map: answers and memory are the plain list's
-  all-run : (cs : List Call) → AreCalls K cs → IsRun K shape (emptyNetwork (places K)) cs
-  all-run cs calls = run K shape (emptyNetwork (places K)) (empty-held K shape) cs calls
+  all-run : (cs : List Call) → AreCalls K cs → IsRun K shape emptyNetwork cs
+  all-run cs calls = run K shape emptyNetwork (empty-held K shape) cs calls
 
   memory-is : (cs : List Call) → AreCalls K cs → memoryAfterAll K (openCall K) cs ≡ memoryFor K (plainAfterAll K cs .network)
   memory-is cs calls = ap (λ (M : Memory). runMemory (openCall K) M cs) (empty-memory K shape) ∙ all-run cs calls .memory
@@ -42,7 +42,7 @@ module _ (K : Shape) (shape : IsShape K) where
       let call : IsCall K c = calls c (Memᴰ·append-right cs (List·Memᴰ·head refl)) in
       let G = plainAfterAll K cs .network in
       let H = plainNext (plainRefusal K G (feedOf K c)) G (c .notice) in
-      subst (λ (N : Network). IsMarked K N (searchedIn K (openCall K) cs c) (callStep (openCall K) (memoryAfterAll K (openCall K) cs) c)) (sym (fed-snoc K (emptyNetwork (places K)) cs c))
+      subst (λ (N : Network). IsMarked K N (searchedIn K (openCall K) cs c) (callStep (openCall K) (memoryAfterAll K (openCall K) cs) c)) (sym (fed-snoc K emptyNetwork cs c))
       (subst (λ (M : Memory). IsMarked K H (referencesOf K (M .rec) (lend (c .links) (M .links)) (lentOf M c) (c .notice)) (callStep (openCall K) M c)) (sym (memory-is cs before))
       (call-marked K shape G (all-run cs before .isHeld) c call))
 
@@ -54,7 +54,7 @@ demand3 K shape = record {
   marks = last-marked K shape;
   order = λ cs ds c d h.
       memory-is K shape cs c
-      ∙ ap (memoryFor K) (order-free K (emptyNetwork (places K)) (feedsOf K cs) (feedsOf K ds) h)
+      ∙ ap (memoryFor K) (order-free K emptyNetwork (feedsOf K cs) (feedsOf K ds) (all-run K shape cs c .isHeld) (all-run K shape ds d .isHeld) h)
       ∙ sym (memory-is K shape ds d);
 }
 

@@ -32,7 +32,7 @@ memoryAfterAll K step cs = runMemory step (emptyMemory K) cs
 
 -- the plain list fed with the calls
 abbrev pub plainAfterAll : Shape → List Call → PlainRun
-plainAfterAll K cs = plainRun K (emptyNetwork (places K)) (feedsOf K cs)
+plainAfterAll K cs = plainRun K emptyNetwork (feedsOf K cs)
 
 -- the depots searched in the call c after the calls cs, by the rules
 abbrev pub searchedIn : Shape → Step → List Call → Call → List ℕ

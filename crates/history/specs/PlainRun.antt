@@ -4,7 +4,7 @@ use mathlib.Core.List.{List, [], _∷_}
 use Prim.Native.Nat.{ℕ, zero, suc}
 use Rattle.lists.specs.Lists.{firstOf}
 use Rattle.graph.specs.Network.{Network}
-use Rattle.graph.specs.Opening.{Notice, noticeFaults}
+use Rattle.graph.specs.Opening.{Notice, openFaults}
 use Rattle.map.specs.Memory.{Shape}
 use Rattle.rounds.specs.Sizes.{Sizes, longEnough}
 use Rattle.outcome.specs.declared.Outcome.{Outcome}
@@ -17,8 +17,8 @@ pub record Feed : Type 0 where
 
 -- the number of a call's refusal (rule 9.2), 0 if it is accepted
 unfoldable pub plainRefusal : Shape → Network → Feed → ℕ
-unfolding firstOf longEnough noticeFaults
-plainRefusal K G c = firstOf ((not (longEnough K (c .sizes)), 1) ∷ noticeFaults G (c .notice))
+unfolding firstOf longEnough openFaults
+plainRefusal K G c = firstOf ((not (longEnough K (c .sizes)), 1) ∷ openFaults G (c .notice))
 
 -- an accepted call's notice joins the notices
 unfoldable pub noticed : ℕ → Notice → List Notice → List Notice

@@ -3,10 +3,10 @@ use mathlib.Core.Path.{_≡_, refl, sym, ap, ap₂, _∙_, subst}
 use mathlib.Core.Logic.{_⊎_, inl, inr}
 use mathlib.Core.Bool.{Bool, true, false, cond, not, _&&_, _||_}
 use mathlib.Core.List.{List, []}
-use Prim.Native.Nat.{ℕ, _*_, _≤_, _<_}
+use Prim.Native.Nat.{ℕ, _≤_, _<_}
 use native.Mathlib.Nat.{le-refl, lt-irrefl}
 use native.Mathlib.Omega.{arith}
-use lib.Dec.{T, eqb, ltb}
+use lib.Dec.{T, eqb, ltb, lit<}
 use lib.ListN.{length}
 use borrow.Author.Tests.{eqb-true, eq-eqb, ne-eqb, ltb-true, lt-ltb, le-ltb}
 use Rattle.lists.specs.Lists.{overwrite}
@@ -22,6 +22,7 @@ use Rattle.rows.specs.Rows.{tableBit, encodeTable}
 use Rattle.layers.specs.Layers.{tables, Tables, Searched, searched, searchLeaves, searchTable}
 use Rattle.layers.proofs.Theorems.{table-depth, table-leaves, depth-is}
 use Rattle.map.specs.Memory.{base, networkOf}
+use Rattle.map.proofs.Theorems.{network-open-below}
 use Rattle.outcome.specs.declared.Change.the-variants.{Grew, Kept, Shrank}
 use Rattle.pairs.specs.Pairs.{Tally, tally, tallyOf, pairsWith, settleOf}
 use Rattle.stale_pairs.specs.Stale.{dropped, dropOf}
@@ -46,7 +47,7 @@ module _ (codes links : List ℕ) (p b s : List ℕ) (a e : ℕ) (T₀ T₁ : Ta
 
   left-search : IsNet H → T (H .isOpen a) → searched e T₁ ≡ searchTable 4 links a T₀ → T₁ ≡ searchLeaves 4 H a T₀
   unfolding searchTable networkOf
-  left-search net o q = ap (λ (X : Searched). X .left) q ∙ table-leaves H (net .sound) (net .small) a o 4 links T₀ refl refl
+  left-search net o q = ap (λ (X : Searched). X .left) q ∙ table-leaves H (net .sound) 256 (network-open-below 4 codes links) (lit< tt) a o 4 links T₀ refl refl
 
   -- the search over the table is the network's, and stands in the tables
   pub search-stands : IsNet H → T (H .isOpen a) → searched e T₁ ≡ searchTable 4 links a T₀ → HoldsSearch base codes links (lent p T₁ b s) a e
@@ -54,7 +55,7 @@ module _ (codes links : List ℕ) (p b s : List ℕ) (a e : ℕ) (T₀ T₁ : Ta
   search-stands net o q = record {
     net = net;
     present = o;
-    depth = ap (λ (X : Searched). X .depth) q ∙ table-depth H (net .sound) (net .small) a o 4 links refl refl ∙ depth-is H net a o;
+    depth = ap (λ (X : Searched). X .depth) q ∙ table-depth H (net .sound) 256 (network-open-below 4 codes links) (lit< tt) a o 4 links refl refl ∙ depth-is H net a o;
     stands = left-search net o q ∙ sym (ap (searchLeaves 4 H a) (left-search net o q) ∙ leaves-over 4 H a a T₀);
   }
 
@@ -133,9 +134,8 @@ module _ (codes links : List ℕ) (B : Lent) (a e D : ℕ) (I : HoldsSearch base
   abbrev Left : Pairs
   Left = stayingPairs (chart (networkOf 4 codes links)) a D (tableBit 4 (B .pairs))
 
-  limit-is : G .limit ≡ 64 * 4
-  unfolding networkOf
-  limit-is = refl
+  below : (v : ℕ) → T (G .isOpen v) → v < 256
+  below = network-open-below 4 codes links
 
   by-tests : (x y z : Bool) → ltb D (ecc (chart G) a) ≡ x → eqb (ecc (chart G) a) D ≡ y → anyPair (chart G .depots) Left ≡ z
       → figured (changeAs (openCase x y z (chart G) a D P .change)) (ranBy base G (openCase x y z (chart G) a D P .final) B) ≡ figuredBy base G a D B
@@ -166,7 +166,7 @@ module _ (codes links : List ℕ) (B : Lent) (a e D : ℕ) (I : HoldsSearch base
       own =
           ap (λ (J : Joined). J .paired) h ∙ settled
           ∙ ap (λ (r : List ℕ). tallyOf 4 (pairsWith 4 r a) (B .pairs)) (sym last-row)
-          ∙ tally-ext 4 (pairsWith 4 (lastRow (ecc (chart G) a) (searchLeaves 4 G a (B .searched))) a) (ownPairs (chart G) a (ecc (chart G) a)) (B .pairs) (own-pairs 4 G (I .net) limit-is a (I .present) (B .searched))
+          ∙ tally-ext 4 (pairsWith 4 (lastRow (ecc (chart G) a) (searchLeaves 4 G a (B .searched))) a) (ownPairs (chart G) a (ecc (chart G) a)) (B .pairs) (own-pairs 4 G (I .net) a (I .present) (B .searched))
 
   -- ---- the stale pairs are gone
 
@@ -175,7 +175,7 @@ module _ (codes links : List ℕ) (B : Lent) (a e D : ℕ) (I : HoldsSearch base
     drops-by = drops ∙ ap (λ (T : Tables). dropOf 4 (T .hops) D (B .pairs)) (I .stands)
 
     tally-left : tally t k ≡ tallyOf 4 Left (B .pairs)
-    tally-left = left-is 4 G (I .net) limit-is a (B .searched) D (B .pairs) ends drops-by
+    tally-left = left-is 4 G (I .net) below a (B .searched) D (B .pairs) ends drops-by
 
     table-left : t ≡ overwrite (encodeTable 4 Left) (B .pairs)
     unfolding tallyOf
@@ -197,7 +197,7 @@ module _ (codes links : List ℕ) (B : Lent) (a e D : ℕ) (I : HoldsSearch base
         both =
             ap (λ (J : Joined). J .paired) h
             ∙ ap₂ (λ (r : List ℕ) (x : ℕ). settleOf 4 r a x D (tally t k)) (sym last-row) (I .depth)
-            ∙ settle-is 4 G (I .net) limit-is a (I .present) (B .searched) D Left t (B .pairs) k table-left (ap (λ (x : Tally). x .count) tally-left)
+            ∙ settle-is 4 G (I .net) a (I .present) (B .searched) D Left t (B .pairs) k table-left (ap (λ (x : Tally). x .count) tally-left)
             ∙ tally-ext 4 (joinPairs (chart G) a (ecc (chart G) a) D Left) (λ u v. Left u v || ownPairs (chart G) a D u v) (B .pairs)
             (λ u v lu lv. ap (λ (x : ℕ). joinPairs (chart G) a x D Left u v) (sym (I .depth) ∙ q) ∙ join-same G (I .net) a (I .present) D Left u v)
 
@@ -207,7 +207,7 @@ module _ (codes links : List ℕ) (B : Lent) (a e D : ℕ) (I : HoldsSearch base
     unfolding changeAs openCase
     kept-is ne some m h =
         ap (figured Kept) (once-leaves base G a (I .present) D Left B t k m tally-left (marks-are m (marking (B .bounds) (B .skips)) h) (I .stands))
-        ∙ by-tests false false true not-above (ne-eqb (ecc (chart G) a) D (λ q. ne (I .depth ∙ q))) (some-left 4 G (I .net) limit-is a (B .searched) D (B .pairs) ends drops-by some)
+        ∙ by-tests false false true not-above (ne-eqb (ecc (chart G) a) D (λ q. ne (I .depth ∙ q))) (some-left 4 G (I .net) below a (B .searched) D (B .pairs) ends drops-by some)
 
     -- no pair is left: SHRANK
     pub shrank-is : (e ≡ D → ⊥) → k ≡ 0 → (R : Ran)
@@ -216,8 +216,8 @@ module _ (codes links : List ℕ) (B : Lent) (a e D : ℕ) (I : HoldsSearch base
     unfolding changeAs openCase ranBy roundsLeave
     shrank-is ne z R h =
         ap (figured Shrank) (h ∙ over (rounds (chart G) (length (chart G .depots)) (round (chart G) a (start w)))
-        ∙ ap (λ (c : ℕ). ranBy base G (rounds (chart G) (length (chart G .depots)) (round (chart G) a (start c))) B) (candidate-is 4 G (I .net) limit-is a (B .searched) D (B .pairs) ends drops-by))
-        ∙ by-tests false false false not-above (ne-eqb (ecc (chart G) a) D (λ q. ne (I .depth ∙ q))) (none-left 4 G (I .net) limit-is a (B .searched) D (B .pairs) ends drops-by z)
+        ∙ ap (λ (c : ℕ). ranBy base G (rounds (chart G) (length (chart G .depots)) (round (chart G) a (start c))) B) (candidate-is 4 G (I .net) below a (B .searched) D (B .pairs) ends drops-by))
+        ∙ by-tests false false false not-above (ne-eqb (ecc (chart G) a) D (λ q. ne (I .depth ∙ q))) (none-left 4 G (I .net) below a (B .searched) D (B .pairs) ends drops-by z)
       where
         over : (S : State) → ranBy base G S (lent t (B .searched) (B .bounds) (B .skips)) ≡ ranBy base G S B
         over S =

@@ -1,18 +1,20 @@
 -- The stale pairs dropped by the hops of the search from the new depot: what stays and the greatest way are the network's. Assumes nothing.
-use mathlib.Core.Path.{_≡_, refl, sym, ap, ap₂, _∙_, subst}
+use mathlib.Core.Path.{_≡_, refl, sym, ap, ap₂, _∙_}
 use mathlib.Core.Logic.{_⊎_, inl, inr}
 use mathlib.Core.Bool.{Bool, true, false, cond, not, _&&_}
 use mathlib.Core.List.{List, [], _∷_, List·Memᴰ, List·Memᴰ·head, List·Memᴰ·tail}
-use Prim.Native.Nat.{ℕ, _+_, _*_, _<_, min, max}
+use Prim.Native.Nat.{ℕ, _+_, _*_, _≤_, _<_, min, max}
+use native.Mathlib.Nat.{le-antisymm}
 use native.Mathlib.Omega.{arith}
 use lib.Dec.{T, ltb}
 use lib.ListN.{getD}
-use Rattle.lists.specs.Lists.{range, filterb, anyb, maxOf}
+use Rattle.lists.specs.Lists.{range, anyb, maxOf}
 use Rattle.lists.proofs.Tests.{look, t→true, true→t, clash, and-true}
-use Rattle.lists.proofs.Members.{any-intro, any-elim, range-out}
+use Rattle.lists.proofs.Members.{any-intro, any-elim, range-in, range-out}
+use Rattle.lists.proofs.Counts.{max-ge, max-le-of}
 use Rattle.lists.proofs.Fills.{fill-at}
 use Rattle.graph.specs.Network.{Network}
-use Rattle.graph.specs.Distance.{vertices, dist}
+use Rattle.graph.specs.Distance.{dist}
 use Rattle.graph.specs.Chart.{chart, Pairs, countPairs}
 use Rattle.graph.specs.Opening.{via, stayingPairs, anyPair, shrunkCandidate}
 use Rattle.graph.specs.Correct.{IsNet}
@@ -32,19 +34,9 @@ unfolding maxOf
 max-ext f g [] h = refl
 max-ext f g (x ∷ xs) h = ap₂ max (h x (List·Memᴰ·head refl)) (max-ext f g xs (λ y m. h y (List·Memᴰ·tail m)))
 
--- where f is 0 outside of p, the others need no look
-max-filter : (p : ℕ → Bool) (f : ℕ → ℕ) (xs : List ℕ) → ((x : ℕ) → p x ≡ false → f x ≡ 0) → maxOf f xs ≡ maxOf f (filterb p xs)
-unfolding maxOf filterb
-max-filter p f [] h = refl
-max-filter p f (x ∷ xs) h = go (look (p x)) (max-filter p f xs h)
-  where
-    go : (p x ≡ true) ⊎ (p x ≡ false) → maxOf f xs ≡ maxOf f (filterb p xs) → max (f x) (maxOf f xs) ≡ maxOf f (cond (p x) (x ∷ filterb p xs) (filterb p xs))
-    go (inl q) ih = rw q (ap (max (f x)) ih)
-    go (inr q) ih = let z : f x ≡ 0 = h x q in rw q (omega (arith, ih))
-
 -- ---- the stored pairs t, on the network G with the new depot a
 
-module _ (W : ℕ) (G : Network) (net : IsNet G) (limit-is : G .limit ≡ 64 * W) (a : ℕ) (T₀ : Tables) (D : ℕ) (t : List ℕ)
+module _ (W : ℕ) (G : Network) (net : IsNet G) (below : (v : ℕ) → T (G .isOpen v) → v < 64 * W) (a : ℕ) (T₀ : Tables) (D : ℕ) (t : List ℕ)
     (ends : (u v : ℕ) → T (tableBit W t u v) → T (G .isOpen u) × T (G .isOpen v)) where
   abbrev hops : List ℕ
   hops = searchLeaves W G a T₀ .hops
@@ -63,9 +55,6 @@ module _ (W : ℕ) (G : Network) (net : IsNet G) (limit-is : G .limit ≡ 64 * W
   stay : (u v : ℕ) → u < 64 * W → v < 64 * W → staying W hops D t u v ≡ Left u v
   unfolding staying stayingPairs
   stay u v l m = ap (λ (x : ℕ). tableBit W t u v && not (ltb x D)) (way u v l m)
-
-  below : (v : ℕ) → T (G .isOpen v) → v < 64 * W
-  below v o = subst (λ (n : ℕ). v < n) limit-is (net .sound .below v o)
 
   left-stored : (u v : ℕ) → Left u v ≡ true → T (tableBit W t u v)
   unfolding stayingPairs
@@ -95,12 +84,16 @@ module _ (W : ℕ) (G : Network) (net : IsNet G) (limit-is : G .limit ≡ 64 * W
   row-zero u q [] = refl
   row-zero u q (x ∷ xs) = let z : reach u x ≡ 0 = ap (λ (b : Bool). cond b (min D (via (chart G) a u x)) 0) (closed-row u x q) in omega (arith, row-zero u q xs)
 
-  depots-are : filterb (G .isOpen) (range (64 * W)) ≡ chart G .depots
-  unfolding chart vertices
-  depots-are = ap (λ (n : ℕ). filterb (G .isOpen) (range n)) (sym limit-is)
-
+  -- what is 0 at closed codes has the same greatest value among all codes and among the depots
   among : (f : ℕ → ℕ) → ((v : ℕ) → G .isOpen v ≡ false → f v ≡ 0) → maxOf f (range (64 * W)) ≡ maxOf f (chart G .depots)
-  among f h = max-filter (G .isOpen) f (range (64 * W)) h ∙ ap (maxOf f) depots-are
+  among f h =
+      le-antisymm
+      (max-le-of f (range (64 * W)) (maxOf f (chart G .depots)) (λ v m. go v (look (G .isOpen v))))
+      (max-le-of f (chart G .depots) (maxOf f (range (64 * W))) (λ v m. max-ge f (range (64 * W)) (range-in (64 * W) (below v (depot-out G net m)))))
+    where
+      go : (v : ℕ) → (G .isOpen v ≡ true) ⊎ (G .isOpen v ≡ false) → f v ≤ maxOf f (chart G .depots)
+      go v (inl o) = max-ge f (chart G .depots) (depot-in G net v (true→t o))
+      go v (inr c) = omega (arith, h v c)
 
   -- THE GREATEST WAY IS THE CANDIDATE
   pub way-is : greatestWay W hops D t ≡ shrunkCandidate (chart G) a D (tableBit W t)
@@ -137,7 +130,7 @@ module _ (W : ℕ) (G : Network) (net : IsNet G) (limit-is : G .limit ≡ 64 * W
         go (inl h) =
             let x = any-elim (λ u. anyb (λ v. Left u v) (chart G .depots)) (chart G .depots) h in
             let y = any-elim (λ v. Left (x .0) v) (chart G .depots) (x .2) in
-            absurd (clash (y .2) (pairs-zero (64 * W) Left (sym count-is ∙ z) (x .0) (y .0) (below (x .0) (depot-out G (x .1))) (below (y .0) (depot-out G (y .1)))))
+            absurd (clash (y .2) (pairs-zero (64 * W) Left (sym count-is ∙ z) (x .0) (y .0) (below (x .0) (depot-out G net (x .1))) (below (y .0) (depot-out G net (y .1)))))
 
     pub some-left : (n ≡ 0 → ⊥) → anyPair (chart G .depots) Left ≡ true
     unfolding anyPair

@@ -5,95 +5,122 @@ use mathlib.Core.Logic.{_⊎_, inl, inr, _↔_}
 use mathlib.Core.Bool.{Bool, true, false, cond, _&&_}
 use mathlib.Core.List.{List, List·Memᴰ}
 use Prim.Native.Nat.{ℕ, zero, suc, _*_, _≤_, _<_, zero-le}
-use native.Mathlib.Nat.{le-antisymm, le-refl, lt-irrefl}
+use native.Mathlib.Nat.{le-antisymm, le-refl, lt-irrefl, lt-of-le-of-lt}
 use native.Mathlib.Omega.{arith}
 use lib.Dec.{T, eqb, ltb}
 use lib.ListN.{length}
-use borrow.Author.Tests.{eqb-true, eq-eqb, lt-ltb}
+use borrow.Author.Tests.{ltb-true, lt-ltb, eqb-true, eq-eqb}
 use Rattle.lists.specs.Lists.{range, anyb, maxOf, overwrite}
 use Rattle.lists.proofs.Tests.{look, t→true, true→t, clash, and-true, same-test}
 use Rattle.lists.proofs.Members.{any-intro, any-elim, filter-in, filter-out, range-in}
 use Rattle.lists.proofs.Counts.{max-ge, max-le-of}
+use Rattle.lists.proofs.Distinct.{distinct-length}
 use Rattle.graph.specs.Network.{Network, IsSound, IsDist}
 use Rattle.graph.specs.Distance.{vertices, unreached, nextHop, hops, dist}
 use Rattle.graph.specs.Chart.{chart, destinations, ecc}
 use Rattle.graph.specs.Correct.{IsNet}
 use Rattle.graph.proofs.Walks.{dist-unique, walk-open}
-use Rattle.graph.proofs.Distances.{layers, hops-dist, vertices-in, vertices-out, vertices-length, dist-is, dist-reached, dist-below}
+use Rattle.graph.proofs.Distances.{layers, hops-dist, vertices-in, vertices-out, dist-is, dist-reached, dist-below}
 use Rattle.graph.proofs.Layers.{hops-range}
 use Rattle.graph.proofs.Connected.{hop-open, hop-closed}
 use Rattle.rows.specs.Rows.{rowBit, tableBit, encodeRow}
 use Rattle.rows.proofs.Written.{row-at}
 use Rattle.layers.specs.Layers.{tableNetwork, depthFrom, Tables, searchLeaves}
-use Rattle.layers.proofs.Turning.{table-dist}
+use Rattle.layers.proofs.Turning.{table-vertices, table-dist}
 
 -- ---- the network of a table alone, and one with the same links
 
-module _ (G : Network) (sound : IsSound G) (small : G .limit < unreached) (s : ℕ) (o : T (G .isOpen s)) where
+module _ (G : Network) (sound : IsSound G) (n : ℕ) (inside : (v : ℕ) → T (G .isOpen v) → v < n) (few : n < unreached) (s : ℕ) (o : T (G .isOpen s)) where
   abbrev vs : List ℕ
   vs = vertices G
 
+  -- there are no more depots than codes
+  enough : length (vertices G) ≤ n
+  enough = distinct-length (vertices G) n (sound .once) (λ v h. inside v (true→t (sound .listed v ∙ h)))
+
+  small : length (vertices G) < unreached
+  small = lt-of-le-of-lt enough few
+
   -- closed codes have no links, so that it is the same to look for neighbours among all codes or among the open ones
-  near-same : (h : ℕ → ℕ) (k v : ℕ) → anyb (λ w. eqb (h w) k && G .linked w v) (range (G .limit)) ≡ anyb (λ w. eqb (h w) k && G .linked w v) (vertices G)
-  unfolding vertices
-  near-same h k v = same-test (anyb p (range (G .limit))) (anyb p (vertices G)) to from
+  near-same : (h : ℕ → ℕ) (k v : ℕ) → anyb (λ w. eqb (h w) k && G .linked w v) (range n) ≡ anyb (λ w. eqb (h w) k && G .linked w v) (vertices G)
+  near-same h k v = same-test (anyb p (range n)) (anyb p (vertices G)) to from
     where
       p : ℕ → Bool
       p w = eqb (h w) k && G .linked w v
 
-      to : anyb p (range (G .limit)) ≡ true → anyb p (vertices G) ≡ true
+      to : anyb p (range n) ≡ true → anyb p (vertices G) ≡ true
       to e =
-          let x = any-elim p (range (G .limit)) e in
+          let x = any-elim p (range n) e in
           let l = true→t (and-true (eqb (h (x .0)) k) (G .linked (x .0) v) (x .2) .1) in
           any-intro p (vertices G) (vertices-in G sound (x .0) (sound .ends v (x .0) (sound .symmetric (x .0) v l))) (x .2)
 
-      from : anyb p (vertices G) ≡ true → anyb p (range (G .limit)) ≡ true
-      from e = let x = any-elim p (vertices G) e in any-intro p (range (G .limit)) (filter-out (G .isOpen) (range (G .limit)) (x .1) .0) (x .2)
+      from : anyb p (vertices G) ≡ true → anyb p (range n) ≡ true
+      from e = let x = any-elim p (vertices G) e in any-intro p (range n) (range-in n (inside (x .0) (vertices-out G sound (x .1)))) (x .2)
 
-  hops-same : (k : ℕ) → hops (range (G .limit)) (G .linked) s k ≡ hops (vertices G) (G .linked) s k
+  hops-same : (k : ℕ) → hops (range n) (G .linked) s k ≡ hops (vertices G) (G .linked) s k
   unfolding hops nextHop
   hops-same zero = refl
   hops-same (suc k) =
       fun-ext (λ v.
-      ap (λ (h : ℕ → ℕ). cond (ltb (h v) unreached) (h v) (cond (anyb (λ w. eqb (h w) k && G .linked w v) (range (G .limit))) (suc k) unreached)) (hops-same k)
+      ap (λ (h : ℕ → ℕ). cond (ltb (h v) unreached) (h v) (cond (anyb (λ w. eqb (h w) k && G .linked w v) (range n)) (suc k) unreached)) (hops-same k)
       ∙ ap (λ (b : Bool). cond (ltb (hops (vertices G) (G .linked) s k v) unreached) (hops (vertices G) (G .linked) s k v) (cond b (suc k) unreached)) (near-same (hops (vertices G) (G .linked) s k) k v))
 
   -- as many layers as codes, or as depots
-  hops-enough : (v : ℕ) → hops (vertices G) (G .linked) s (G .limit) v ≡ dist G s v
+  hops-enough : (v : ℕ) → hops (vertices G) (G .linked) s n v ≡ dist G s v
   unfolding dist
-  hops-enough v = go (hops-range (vertices G) (G .linked) s (G .limit) v) (hops-range (vertices G) (G .linked) s (length (vertices G)) v)
+  hops-enough v = go (hops-range (vertices G) (G .linked) s n v) (hops-range (vertices G) (G .linked) s (length (vertices G)) v)
     where
-      long : hops (vertices G) (G .linked) s (G .limit) v < unreached → hops (vertices G) (G .linked) s (G .limit) v ≡ dist G s v
+      long : hops (vertices G) (G .linked) s n v < unreached → hops (vertices G) (G .linked) s n v ≡ dist G s v
       long l =
-          let d = layers G sound (vertices G) (vertices-in G sound) s (G .limit) small .reached v l .1 in
-          dist-unique d (dist-is G sound small s o (hops (vertices G) (G .linked) s (G .limit) v) v (d .walk))
+          let d = layers G sound (vertices G) (vertices-in G sound) s n few .reached v l .1 in
+          dist-unique d (dist-is G sound small s o (hops (vertices G) (G .linked) s n v) v (d .walk))
 
-      short : dist G s v < unreached → hops (vertices G) (G .linked) s (G .limit) v ≡ dist G s v
+      short : dist G s v < unreached → hops (vertices G) (G .linked) s n v ≡ dist G s v
       short l =
           let d = dist-reached G sound small s o v l in
-          dist-unique (hops-dist G sound (vertices G) (vertices-in G sound) s o (G .limit) (vertices-length G) small (dist G s v) v (d .walk)) d
+          dist-unique (hops-dist G sound (vertices G) (vertices-in G sound) s o n enough few (dist G s v) v (d .walk)) d
 
-      go : (hops (vertices G) (G .linked) s (G .limit) v ≤ G .limit) ⊎ (hops (vertices G) (G .linked) s (G .limit) v ≡ unreached)
+      go : (hops (vertices G) (G .linked) s n v ≤ n) ⊎ (hops (vertices G) (G .linked) s n v ≡ unreached)
           → (hops (vertices G) (G .linked) s (length (vertices G)) v ≤ length (vertices G)) ⊎ (hops (vertices G) (G .linked) s (length (vertices G)) v ≡ unreached)
-          → hops (vertices G) (G .linked) s (G .limit) v ≡ dist G s v
+          → hops (vertices G) (G .linked) s n v ≡ dist G s v
       go (inl l) b = long (omega arith)
-      go (inr e) (inl l) = short (omega (arith, vertices-length G))
+      go (inr e) (inl l) = short (omega (arith, enough))
       go (inr e) (inr f) = e ∙ sym f
 
   -- A SEARCH OVER THE TABLE FINDS THE NETWORK'S DISTANCES
-  pub table-search : (W : ℕ) (links : List ℕ) → G .limit ≡ 64 * W → G .linked ≡ tableBit W links → dist (tableNetwork W links) s ≡ dist G s
+  pub table-search : (W : ℕ) (links : List ℕ) → n ≡ 64 * W → G .linked ≡ tableBit W links → dist (tableNetwork W links) s ≡ dist G s
   table-search W links a b = fun-ext (λ v.
       table-dist W links s v
       ∙ ap₂ (λ (n : ℕ) (adjacent : ℕ → ℕ → Bool). hops (range n) adjacent s n v) (sym a) (sym b)
-      ∙ ap (λ (h : ℕ → ℕ). h v) (hops-same (G .limit))
+      ∙ ap (λ (h : ℕ → ℕ). h v) (hops-same n)
       ∙ hops-enough v)
 
-  pub table-depth : (W : ℕ) (links : List ℕ) → G .limit ≡ 64 * W → G .linked ≡ tableBit W links → depthFrom (tableNetwork W links) s ≡ depthFrom G s
-  unfolding depthFrom tableNetwork
+  -- the last layer of either is the same: what is closed is not reached
+  pub table-depth : (W : ℕ) (links : List ℕ) → n ≡ 64 * W → G .linked ≡ tableBit W links → depthFrom (tableNetwork W links) s ≡ depthFrom G s
+  unfolding depthFrom
   table-depth W links a b =
-      ap₂ (λ (h : ℕ → ℕ) (n : ℕ). maxOf (λ v. cond (ltb (h v) unreached) (h v) 0) (range n)) (table-search W links a b) (sym a)
+      ap₂ (λ (vs : List ℕ) (h : ℕ → ℕ). maxOf (λ v. cond (ltb (h v) unreached) (h v) 0) vs) (table-vertices W links) (table-search W links a b)
+      ∙ ap (λ (m : ℕ). maxOf f (range m)) (sym a)
+      ∙ le-antisymm upper lower
+    where
+      f : ℕ → ℕ
+      f v = cond (ltb (dist G s v) unreached) (dist G s v) 0
 
-  pub table-leaves : (W : ℕ) (links : List ℕ) (B : Tables) → G .limit ≡ 64 * W → G .linked ≡ tableBit W links → searchLeaves W (tableNetwork W links) s B ≡ searchLeaves W G s B
+      upper : maxOf f (range n) ≤ maxOf f (vertices G)
+      upper = max-le-of f (range n) (maxOf f (vertices G)) (λ v m. go v (ltb (dist G s v) unreached) refl)
+        where
+          go : (v : ℕ) (b : Bool) → ltb (dist G s v) unreached ≡ b → cond b (dist G s v) 0 ≤ maxOf f (vertices G)
+          go v false e = zero-le
+          go v true e =
+              let w = dist-reached G sound small s o v (ltb-true (dist G s v) unreached e) .walk in
+              let l : f v ≤ maxOf f (vertices G) = max-ge f (vertices G) (vertices-in G sound v (walk-open sound o w)) in
+              let q : f v ≡ dist G s v = ap (λ (c : Bool). cond c (dist G s v) 0) e in
+              omega arith
+
+      lower : maxOf f (vertices G) ≤ maxOf f (range n)
+      lower = max-le-of f (vertices G) (maxOf f (range n)) (λ v m. max-ge f (range n) (range-in n (inside v (vertices-out G sound m))))
+
+  pub table-leaves : (W : ℕ) (links : List ℕ) (B : Tables) → n ≡ 64 * W → G .linked ≡ tableBit W links → searchLeaves W (tableNetwork W links) s B ≡ searchLeaves W G s B
   unfolding searchLeaves
   table-leaves W links B a b = rw (table-search W links a b, table-depth W links a b)
 
@@ -108,8 +135,8 @@ module _ (G : Network) (net : IsNet G) (s : ℕ) (o : T (G .isOpen s)) where
       f : ℕ → ℕ
       f v = cond (ltb (dist G s v) unreached) (dist G s v) 0
 
-      upper : maxOf f (range (G .limit)) ≤ ecc (chart G) s
-      upper = max-le-of f (range (G .limit)) (ecc (chart G) s) (λ v m. go v m (look (G .isOpen v)))
+      upper : maxOf f (vertices G) ≤ ecc (chart G) s
+      upper = max-le-of f (vertices G) (ecc (chart G) s) (λ v m. go v m (look (G .isOpen v)))
         where
           cut : (x : ℕ) → cond (ltb x unreached) x 0 ≤ x
           cut x = at (ltb x unreached)
@@ -118,21 +145,21 @@ module _ (G : Network) (net : IsNet G) (s : ℕ) (o : T (G .isOpen s)) where
               at true = le-refl x
               at false = zero-le
 
-          go : (v : ℕ) → List·Memᴰ v (range (G .limit)) → (G .isOpen v ≡ true) ⊎ (G .isOpen v ≡ false) → f v ≤ ecc (chart G) s
+          go : (v : ℕ) → List·Memᴰ v (vertices G) → (G .isOpen v ≡ true) ⊎ (G .isOpen v ≡ false) → f v ≤ ecc (chart G) s
           go v m (inl e) =
               let a : f v ≤ dist G s v = cut (dist G s v) in
               let b : dist G s v ≤ ecc (chart G) s = max-ge (dist G s) (destinations (chart G)) (filter-in (G .isOpen) (vertices G) (vertices-in G (net .sound) v (true→t e)) e) in
               omega arith
           go v m (inr e) = rw (hop-closed G net s o v (λ t. clash (t→true (G .isOpen v) t) e)) zero-le
 
-      lower : ecc (chart G) s ≤ maxOf f (range (G .limit))
+      lower : ecc (chart G) s ≤ maxOf f (vertices G)
       lower =
-          max-le-of (dist G s) (destinations (chart G)) (maxOf f (range (G .limit)))
+          max-le-of (dist G s) (destinations (chart G)) (maxOf f (vertices G))
           (λ v m.
-          let ov = vertices-out G (filter-out (G .isOpen) (vertices G) m .0) in
+          let ov = vertices-out G (net .sound) (filter-out (G .isOpen) (vertices G) m .0) in
           let d : dist G s v < length (vertices G) = dist-below G (net .sound) (net .small) s o (dist G s v) v (hop-open G net s o v ov) in
-          let e : f v ≡ dist G s v = ap (λ (b : Bool). cond b (dist G s v) 0) (lt-ltb (dist G s v) unreached (omega (arith, vertices-length G, net .small))) in
-          let g : f v ≤ maxOf f (range (G .limit)) = max-ge f (range (G .limit)) (range-in (G .limit) (net .sound .below v ov)) in
+          let e : f v ≡ dist G s v = ap (λ (b : Bool). cond b (dist G s v) 0) (lt-ltb (dist G s v) unreached (omega (arith, net .small))) in
+          let g : f v ≤ maxOf f (vertices G) = max-ge f (vertices G) (vertices-in G (net .sound) v ov) in
           omega arith)
 
   -- a row written with the depots at distance k holds exactly those

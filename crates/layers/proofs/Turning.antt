@@ -1,5 +1,5 @@
 -- The turns of `search_table` by parity, its end, and buffers that were written before. Assumes nothing.
-use mathlib.Core.Path.{_≡_, sym, ap, ap₂, _∙_, subst}
+use mathlib.Core.Path.{_≡_, refl, sym, ap, ap₂, _∙_, subst}
 use mathlib.Core.Logic.{_⊎_, inl, inr}
 use mathlib.Core.Bool.{Bool, true, false, cond, not, _&&_}
 use mathlib.Core.List.{List}
@@ -10,7 +10,7 @@ use lib.Dec.{eqb, ltb}
 use lib.ListN.{length}
 use borrow.Author.Tests.{eqb-true, eq-eqb, ne-eqb, lt-ltb, le-ltb}
 use Rattle.lists.specs.Lists.{range, mapl, anyb, countb, maxOf, overwrite}
-use Rattle.lists.proofs.Members.{any-elim, range-out, length-range, filter-all}
+use Rattle.lists.proofs.Members.{any-elim, range-out, length-range}
 use Rattle.lists.proofs.Counts.{max-ge, max-le-of, count-le-length}
 use Rattle.lists.proofs.Fills.{fill-ext, overwrite-twice, length-fill}
 use Rattle.graph.specs.Distance.{vertices, unreached, hops, dist}
@@ -36,9 +36,9 @@ before-bit h k p v q =
     rw (ne-eqb ((k + 1) % 2) p q, ne-eqb (k + 1) 0 (omega arith), one)
 
 -- the code's number of places is the network's
-table-vertices : (W : ℕ) (links : List ℕ) → vertices (tableNetwork W links) ≡ range (64 * W)
-unfolding vertices tableNetwork
-table-vertices W links = filter-all (λ v. ltb v (64 * W)) (range (64 * W)) (λ v m. lt-ltb v (64 * W) (range-out (64 * W) m))
+pub table-vertices : (W : ℕ) (links : List ℕ) → vertices (tableNetwork W links) ≡ range (64 * W)
+unfolding tableNetwork
+table-vertices W links = refl
 
 module _ (W : ℕ) (links : List ℕ) (s : ℕ) where
   pub table-dist : (v : ℕ) → dist (tableNetwork W links) s v ≡ H W links s (64 * W) v

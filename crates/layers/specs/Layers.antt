@@ -6,16 +6,16 @@ use Prim.Native.Nat.{ℕ, _-_, _*_, _%_}
 use lib.Dec.{eqb, ltb}
 use Rattle.lists.specs.Lists.{range, mapl, maxOf, overwrite}
 use Rattle.graph.specs.Network.{Network}
-use Rattle.graph.specs.Distance.{unreached, dist}
+use Rattle.graph.specs.Distance.{vertices, unreached, dist}
 use Rattle.rows.specs.Rows.{tableBit, encodeRow}
 
 -- the links of a table alone, every code open: what a search walks over
 unfoldable pub tableNetwork : ℕ → List ℕ → Network
-tableNetwork W links = record { limit = 64 * W; isOpen = λ v. ltb v (64 * W); linked = tableBit W links }
+tableNetwork W links = record { depots = range (64 * W); isOpen = λ v. ltb v (64 * W); linked = tableBit W links }
 
 -- the distance of the last layer: the greatest that a walk from s reaches
 unfoldable pub depthFrom : Network → ℕ → ℕ
-depthFrom G s = maxOf (λ v. cond (ltb (dist G s v) unreached) (dist G s v) 0) (range (G .limit))
+depthFrom G s = maxOf (λ v. cond (ltb (dist G s v) unreached) (dist G s v) 0) (vertices G)
 
 -- rule 3.2: bit v of the row for a parity, with h the distances and e that of the last layer. The row of e's parity has the last layer, the other
 -- row the one before it, none where e is 0

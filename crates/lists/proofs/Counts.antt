@@ -2,17 +2,17 @@
 use mathlib.Core.Path.{_≡_, refl, sym, ap, _∙_, subst}
 use mathlib.Core.Logic.{_⊎_, inl, inr}
 use mathlib.Core.Bool.{Bool, true, false, cond, _||_}
-use mathlib.Core.List.{List, [], _∷_, List·Memᴰ, List·Memᴰ·head, List·Memᴰ·tail, List·Memᴰ·cases-cons, List·Memᴰ·not-nil, _++_}
+use mathlib.Core.List.{List, [], _∷_, List·Memᴰ, List·Memᴰ·head, List·Memᴰ·tail, List·Memᴰ·cases-cons, List·Memᴰ·not-nil}
 use Prim.Native.Nat.{ℕ, zero, suc, _+_, _≤_, _<_, max, zero-le}
 use native.Mathlib.Nat.{eq-or-lt-of-le, lt-irrefl}
 use native.Mathlib.Omega.{arith}
 use native.Mathlib.Decide.{decLe}
 use lib.Dec.{T, eqb}
-use lib.ListN.{length, length-append}
+use lib.ListN.{length}
 use borrow.Author.Tests.{eq-eqb, ne-eqb}
-use Rattle.lists.specs.Lists.{from, range, filterb, anyb, countb, sumOf, maxOf, memb}
-use Rattle.lists.proofs.Tests.{t→true, clash, not→false, or-left, or-right}
-use Rattle.lists.proofs.Members.{from-out, memb-snoc}
+use Rattle.lists.specs.Lists.{from, range, filterb, countb, sumOf, maxOf}
+use Rattle.lists.proofs.Tests.{t→true, clash, not→false}
+use Rattle.lists.proofs.Members.{from-out}
 
 module _ {ℓ} {A : Type ℓ} where
   -- ---- the greatest value
@@ -174,28 +174,3 @@ count-one-from a i (suc k) p q = go (eq-or-lt-of-le p) (λ r. count-one-from a (
 pub count-one : (n a : ℕ) → a < n → countb (λ c. eqb c a) (range n) ≡ 1
 unfolding range
 count-one n a l = count-one-from a 0 n zero-le (omega arith)
-
--- ---- lists without repeats, told by counting
-
--- each number of the list is counted once
-pub IsCounted : List ℕ → Type 0
-IsCounted xs = (m : ℕ) → ((v : ℕ) → memb v xs ≡ true → v < m) → countb (λ v. memb v xs) (range m) ≡ length xs
-
-pub counted-use : (xs : List ℕ) → IsCounted xs → (m : ℕ) → ((v : ℕ) → memb v xs ≡ true → v < m) → countb (λ v. memb v xs) (range m) ≡ length xs
-unfolding IsCounted
-counted-use xs h m l = h m l
-
-pub counted-nil : IsCounted []
-unfolding IsCounted memb anyb
-counted-nil m l = count-none (λ v. false) (range m) (λ v k. refl)
-
-pub counted-snoc : (xs : List ℕ) (r : ℕ) → IsCounted xs → memb r xs ≡ false → IsCounted (xs ++ (r ∷ []))
-unfolding IsCounted
-counted-snoc xs r h new m l =
-    let a : countb (λ v. memb v (xs ++ (r ∷ []))) (range m) ≡ countb (λ v. memb v xs || eqb v r) (range m) = count-ext (λ v. memb v (xs ++ (r ∷ []))) (λ v. memb v xs || eqb v r) (range m) (λ v k. memb-snoc v xs r) in
-    let b : countb (λ v. memb v xs || eqb v r) (range m) ≡ countb (λ v. memb v xs) (range m) + countb (λ v. eqb v r) (range m) =
-    count-or (λ v. memb v xs) (λ v. eqb v r) (range m) (λ v e. ne-eqb v r (λ q. clash (subst (λ (w : ℕ). memb w xs ≡ true) q e) new)) in
-    let c : countb (λ v. memb v xs) (range m) ≡ length xs = h m (λ v e. l v (memb-snoc v xs r ∙ or-left (eqb v r) e)) in
-    let d : countb (λ v. eqb v r) (range m) ≡ 1 = count-one m r (l r (memb-snoc r xs r ∙ or-right (memb r xs) (eq-eqb r r refl))) in
-    let f : length (xs ++ (r ∷ [])) ≡ length xs + 1 = length-append xs (r ∷ []) in
-    omega arith

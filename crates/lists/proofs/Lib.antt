@@ -4,6 +4,8 @@ pub mod Tests
 pub mod Members
 -- counts, sums and greatest values
 pub mod Counts
+-- lists without repeats
+pub mod Distinct
 -- counts of the numbers below n
 pub mod RangeCounts
 -- sums, counts and greatest values over the numbers below n, a number at a time

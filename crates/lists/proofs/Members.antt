@@ -89,6 +89,11 @@ all-fails {A = A} p (x ∷ xs) e = go (look (p x)) (all-fails p xs)
     go (inl t) more = let r = more (ap (λ (b : Bool). b && allb p xs) (sym t) ∙ e) in (r .0, List·Memᴰ·tail (r .1), r .2)
     go (inr f) more = (x, List·Memᴰ·head refl, f)
 
+pub filter-ext {ℓ} : {A : Type ℓ} (p q : A → Bool) (xs : List A) → ((x : A) → List·Memᴰ x xs → p x ≡ q x) → filterb p xs ≡ filterb q xs
+unfolding filterb
+filter-ext p q [] h = refl
+filter-ext p q (x ∷ xs) h = rw (h x (List·Memᴰ·head refl), filter-ext p q xs (λ y m. h y (List·Memᴰ·tail m)))
+
 pub filter-all {ℓ} : {A : Type ℓ} (p : A → Bool) (xs : List A) → ((x : A) → List·Memᴰ x xs → p x ≡ true) → filterb p xs ≡ xs
 unfolding filterb
 filter-all p [] h = refl

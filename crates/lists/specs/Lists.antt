@@ -11,10 +11,10 @@
 --   unfoldable, unfolding a definition that stays shut until a line `unfolding f` opens it: it says nothing about meaning
 -- A definition here names what it calls under `unfolding`, so that opening one opens all below it.
 -- Assumes nothing.
-use mathlib.Core.Bool.{Bool, true, false, cond, _&&_, _||_}
+use mathlib.Core.Bool.{Bool, true, false, cond, not, _&&_, _||_}
 use mathlib.Core.List.{List, [], _∷_, _++_}
 use Prim.Native.Nat.{ℕ, zero, suc, _+_, max}
-use lib.Dec.{eqb}
+use lib.Dec.{eqb, ltb}
 use lib.ListN.{length, drop}
 
 -- i, i + 1, .., i + k - 1
@@ -74,6 +74,17 @@ module _ {ℓ} {A : Type ℓ} where
 unfoldable pub memb : ℕ → List ℕ → Bool
 unfolding anyb
 memb v xs = anyb (λ x. eqb v x) xs
+
+-- each number of the list stands in it once
+unfoldable pub distinct : List ℕ → Bool
+unfolding memb
+distinct [] = true
+distinct (x ∷ xs) = not (memb x xs) && distinct xs
+
+-- x put into a list, before the first number whose key is greater
+unfoldable pub insertBy : (ℕ → ℕ) → ℕ → List ℕ → List ℕ
+insertBy key x [] = x ∷ []
+insertBy key x (y ∷ ys) = cond (ltb (key x) (key y)) (x ∷ y ∷ ys) (y ∷ insertBy key x ys)
 
 -- the number of the first condition that holds, 0 if none does
 unfoldable pub firstOf : List (Bool × ℕ) → ℕ

@@ -1,15 +1,21 @@
 -- What an open set and links read from words mean, and the emptying: theorems that are no function's contract. Assumes nothing.
-use mathlib.Core.Path.{_≡_, refl}
-use mathlib.Core.Bool.{_&&_, and-true as and-with-true}
+use mathlib.Core.Path.{_≡_, refl, sym, _∙_}
+use mathlib.Core.Bool.{true, _&&_, and-true as and-with-true}
 use mathlib.Core.List.{List, [], _∷_}
-use Prim.Native.Nat.{ℕ, zero, suc, _*_, _<_}
+use Prim.Native.Nat.{ℕ, zero, suc, _*_, _≤_, _<_}
+use native.Mathlib.Nat.{le-trans, le-of-eq}
 use native.Mathlib.Omega.{arith}
 use lib.Dec.{T, ltb, lit<, lit≤}
-use borrow.Author.Tests.{ltb-true}
-use Rattle.lists.specs.Lists.{allb}
+use lib.ListN.{length}
+use borrow.Author.Tests.{ltb-true, lt-ltb}
+use Rattle.lists.specs.Lists.{range, filterb, allb, countb, memb, distinct}
 use Rattle.lists.specs.Conditions.{IsShort}
 use Rattle.lists.proofs.Conditions.{decides-short, refuses-by}
-use Rattle.lists.proofs.Tests.{t→true, and-true}
+use Rattle.lists.proofs.Tests.{t→true, true→t, and-true, and-intro, same-test}
+use Rattle.lists.proofs.Members.{length-filter, length-range}
+use Rattle.lists.proofs.Counts.{length-count}
+use Rattle.lists.proofs.Distinct.{memb-filter, memb-range, distinct-filter, distinct-range}
+use Rattle.graph.specs.Distance.{vertices}
 use Rattle.rows.specs.Rows.{rowBit, tableBit}
 use Rattle.map.specs.Memory.{Shape, networkOf, IsShape, base}
 use Rattle.map.specs.Empty.{emptyRecord, emptyRefusal, emptyGiven, emptyCall, IsEmpty, emptyingNumber, emptyBuffers, EmptyDemand1}
@@ -17,11 +23,34 @@ use Rattle.map.specs.declared.Record.{Record}
 use Rattle.map.specs.declared.Emptying.the-variants.{Done}
 use Rattle.map.proofs.Empties.{row-zeros, table-zeros}
 
--- ---- codes and links read from words lie below the limit
+-- ---- codes and links read from words lie below the number of places
 
 pub network-open-below : (W : ℕ) (codes links : List ℕ) (u : ℕ) → T (networkOf W codes links .isOpen u) → u < 64 * W
 unfolding networkOf rowBit
 network-open-below W codes links u o = ltb-true u (64 * W) (and-true (ltb u (64 * W)) _ (t→true _ o) .0)
+
+-- the depots are the open codes, each once
+pub network-listed : (W : ℕ) (codes links : List ℕ) (u : ℕ) → networkOf W codes links .isOpen u ≡ memb u (vertices (networkOf W codes links))
+unfolding networkOf
+network-listed W codes links u =
+    same-test (rowBit W codes u) (memb u (filterb (rowBit W codes) (range (64 * W))))
+    (λ h.
+    memb-filter (rowBit W codes) (range (64 * W)) u
+    ∙ and-intro (memb-range (64 * W) u ∙ lt-ltb u (64 * W) (network-open-below W codes links u (true→t h))) h)
+    (λ h. and-true (memb u (range (64 * W))) (rowBit W codes u) (sym (memb-filter (rowBit W codes) (range (64 * W)) u) ∙ h) .1)
+
+pub network-once : (W : ℕ) (codes links : List ℕ) → distinct (vertices (networkOf W codes links)) ≡ true
+unfolding networkOf
+network-once W codes links = distinct-filter (rowBit W codes) (range (64 * W)) (distinct-range (64 * W))
+
+-- so many are open, and no more than there are places
+pub network-length : (W : ℕ) (codes links : List ℕ) → length (vertices (networkOf W codes links)) ≡ countb (networkOf W codes links .isOpen) (range (64 * W))
+unfolding networkOf
+network-length W codes links = length-count (rowBit W codes) (range (64 * W))
+
+pub network-most : (W : ℕ) (codes links : List ℕ) → length (vertices (networkOf W codes links)) ≤ 64 * W
+unfolding networkOf
+network-most W codes links = le-trans (length-filter (rowBit W codes) (range (64 * W))) (le-of-eq (length-range (64 * W)))
 
 pub network-linked-below : (W : ℕ) (codes links : List ℕ) (u v : ℕ) → T (networkOf W codes links .linked u v) → (u < 64 * W) × (v < 64 * W)
 unfolding networkOf tableBit

@@ -4,6 +4,7 @@
 use mathlib.Core.Path.{_≡_}
 use mathlib.Core.List.{List}
 use Prim.Native.Nat.{ℕ, _*_, _≤_, _<_}
+use Rattle.lists.specs.Lists.{range, filterb}
 use Rattle.graph.specs.Network.{Network}
 use Rattle.rows.specs.Rows.{rowBit, tableBit}
 
@@ -33,6 +34,6 @@ pub record IsShape (K : Shape) : Type 0 where
 abbrev pub base : Shape
 base = record { words = 4; searchedMark = 256; otherMark = 257 }
 
--- the network that an open set (one row) and a link table mean
+-- the network that an open set (one row) and a link table mean, its depots in rising order
 unfoldable pub networkOf : ℕ → List ℕ → List ℕ → Network
-networkOf W codes links = record { limit = 64 * W; isOpen = rowBit W codes; linked = tableBit W links }
+networkOf W codes links = record { depots = filterb (rowBit W codes) (range (64 * W)); isOpen = rowBit W codes; linked = tableBit W links }

@@ -2,13 +2,14 @@
 use mathlib.Core.Path.{_≡_, refl, sym, ap, _∙_, fun-ext}
 use mathlib.Core.Logic.{_⊎_, inl, inr}
 use mathlib.Core.Bool.{false}
-use Prim.Native.Nat.{ℕ, _*_, _<_}
-use native.Mathlib.Omega.{arith}
-use lib.Dec.{T}
+use Prim.Native.Nat.{ℕ, _*_}
+use lib.Dec.{T, lit<}
 use lib.ListN.{length}
-use Rattle.lists.specs.Lists.{range, countb}
+use Rattle.lists.specs.Lists.{range, countb, distinct}
 use Rattle.lists.proofs.Tests.{not→false, false→not}
+use Rattle.lists.proofs.Members.{filter-none}
 use Rattle.lists.proofs.Counts.{count-none}
+use Rattle.lists.proofs.Distinct.{memb-nil}
 use Rattle.lists.proofs.Fills.{fill-ext}
 use Rattle.words.specs.Bits.{wordOf}
 use Rattle.words.proofs.Bits.{wordOf-none}
@@ -34,23 +35,23 @@ no-pairs : (n : ℕ) → countPairs (range n) (λ u v. false) ≡ 0
 unfolding countPairs
 no-pairs n = sum-none (λ u. countb (λ v. false) (range n)) (range n) (λ u. count-none (λ v. false) (range n) (λ v m. refl))
 
-linked-none : (n : ℕ) → emptyNetwork n .linked ≡ (λ u v. false)
+linked-none : emptyNetwork .linked ≡ (λ u v. false)
 unfolding emptyNetwork
-linked-none n = refl
+linked-none = refl
 
 module _ (K : Shape) (shape : IsShape K) where
   abbrev E : Network
-  E = emptyNetwork (places K)
+  E = emptyNetwork
 
-  pub empty-held : IsHeld K (emptyNetwork (places K))
-  unfolding emptyNetwork
+  pub empty-held : IsHeld K emptyNetwork
+  unfolding emptyNetwork distinct
   empty-held = record {
     net = record {
-      sound = record { below = λ u o. absurd o; ends = λ u v l. absurd l; loopless = λ u v l. absurd l; symmetric = λ u v l. absurd l };
+      sound = record { listed = λ u. sym (memb-nil u); once = refl; ends = λ u v l. absurd l; loopless = λ u v l. absurd l; symmetric = λ u v l. absurd l };
       connected = λ u v o. absurd o;
-      small = let p : K .words < 513 = shape .most in omega arith;
+      small = lit< tt;
     };
-    limit = refl;
+    depots = sym (filter-none (range (places K)));
   }
 
   -- ---- its figures are 0
@@ -77,10 +78,10 @@ module _ (K : Shape) (shape : IsShape K) where
 
   -- ---- THE EMPTY MEMORY
 
-  pub empty-memory : emptyMemory K ≡ memoryFor K (emptyNetwork (places K))
+  pub empty-memory : emptyMemory K ≡ memoryFor K emptyNetwork
   unfolding emptyMemory emptyRecord memoryFor
   empty-memory =
       sym (memory-path
-      (ap (encodeTable (K .words)) (linked-none (places K)) ∙ none-table (K .words))
+      (ap (encodeTable (K .words)) linked-none ∙ none-table (K .words))
       (ap (encodeTable (K .words)) none-farthest ∙ none-table (K .words))
       (record-path (ap (encodeRow (K .words)) (fun-ext all-closed) ∙ none-zeros (K .words)) none-number none-diameter none-count))

@@ -4,11 +4,12 @@ use mathlib.Core.Path.{_≡_, refl, sym, ap, ap₂, _∙_}
 use mathlib.Core.Bool.{Bool, true, cond}
 use mathlib.Core.List.{List, [], _∷_}
 use Prim.Native.Nat.{ℕ, zero, suc, _*_, _≤_, _<_}
+use native.Mathlib.Nat.{lt-of-lt-of-le}
 use native.Mathlib.Omega.{arith}
 use lib.Dec.{T}
 use lib.ListN.{length}
 use borrow.Author.Tests.{ltb-true, lt-ltb}
-use Rattle.lists.specs.Lists.{range, lastOr}
+use Rattle.lists.specs.Lists.{range, memb, lastOr}
 use Rattle.lists.proofs.Tests.{t→true, true→t}
 use Rattle.lists.proofs.Fills.{overwrite-length, fill-length}
 use Rattle.rows.specs.Rows.{tableBit, encodeRow, encodeTable}
@@ -17,7 +18,7 @@ use Rattle.graph.specs.Network.{Network}
 use Rattle.graph.specs.Distance.{unreached, dist}
 use Rattle.graph.specs.Chart.{chart, countPairs}
 use Rattle.graph.specs.Rounds.{markOf, boundOf}
-use Rattle.graph.specs.Opening.{Notice, addDepot, Opened}
+use Rattle.graph.specs.Opening.{Notice, byCode, withDepot, Opened}
 use Rattle.graph.proofs.OpeningCases.{IsInserted}
 use Rattle.graph.proofs.Opened.{inserted}
 use Rattle.graph.proofs.Charts.{chart-metric}
@@ -32,7 +33,7 @@ use Rattle.rounds.specs.Sizes.{sizesOf, longEnough}
 use Rattle.reckon.proofs.Longs.{are-long}
 use Rattle.opening.specs.OpenCall.{openRefusal, networkAfter, openedBy, openGiven, openCall}
 use Rattle.opening.specs.Steps.{mapRefusal}
-use Rattle.opening.proofs.Memories.{IsHeld, Stores, network-read, pairs-read}
+use Rattle.opening.proofs.Memories.{IsHeld, Stores, depots-few, network-read, pairs-read}
 use Rattle.opening.proofs.Grants.{granted-long, granted-figures, granted-net, admitted, held-after, number-after, links-pass, figures-pass, connected-pass}
 use Rattle.opening.proofs.Openings.{given-number, given-chain, given-codes, given-count, given-links, given-pairs}
 use Rattle.opening.proofs.Refuses.{refused-never}
@@ -86,12 +87,14 @@ module _ (K : Shape) (rec : Record) (links : List ℕ) (B : Lent) (o : Notice) w
     held = held-after K shape rec links (B .pairs) (sizesOf links B) o ok low
 
     was-inserted : IsInserted (chart G) (chart H) (o .code)
-    unfolding networkAfter
-    was-inserted = inserted G (granted-net K shape rec links (B .pairs) (sizesOf links B) o ok) (o .code) (o .neighbours) (admitted K shape rec links (B .pairs) (sizesOf links B) o ok low)
+    unfolding networkAfter withDepot
+    was-inserted =
+        inserted byCode G (granted-net K shape rec links (B .pairs) (sizesOf links B) o ok) (o .code) (λ v. memb v (o .neighbours))
+        (admitted K shape rec links (B .pairs) (sizesOf links B) o ok)
 
     -- the stored figures are sound for the network with the depot too
-    stored-sound : AreSound (chart H) (H .limit) (rec .chain) (tableBit (K .words) (B .pairs))
-    unfolding chart networkOf networkAfter addDepot
+    stored-sound : AreSound (chart H) (places K) (rec .chain) (tableBit (K .words) (B .pairs))
+    unfolding chart networkOf networkAfter withDepot
     stored-sound =
         let f = granted-figures K shape rec links (B .pairs) (sizesOf links B) o ok in
         record {
@@ -105,22 +108,22 @@ module _ (K : Shape) (rec : Record) (links : List ℕ) (B : Lent) (o : Notice) w
               );
         }
 
-    left-sound : AreSound (chart H) (H .limit) (x .final .candidate) (x .final .pairs)
+    left-sound : AreSound (chart H) (places K) (x .final .candidate) (x .final .pairs)
     unfolding openedBy
     left-sound =
-        opening-sound (chart H) (chart-metric H (held .net)) (H .limit) (ecc-below H (held .net)) (o .code) (was-inserted .new)
+        opening-sound (chart H) (chart-metric H (held .net)) (places K) (λ v t. lt-of-lt-of-le (ecc-below H (held .net) v t) (depots-few K H held)) (o .code) (was-inserted .new)
         (rec .chain) (tableBit (K .words) (B .pairs)) stored-sound
 
     pub left-ends : (u v : ℕ) → T (openedBy K rec links (B .pairs) o .final .pairs u v) → T (networkAfter K rec links o .isOpen u) × T (networkAfter K rec links o .isOpen v)
     unfolding chart
     left-ends u v h = let p = left-sound .pairs u v (t→true (x .final .pairs u v) h) in (true→t (p .1), true→t (p .2))
 
-    left-figures : AreFiguresSound (networkAfter K rec links o) (openedBy K rec links (B .pairs) o .final .pairs)
+    left-figures : AreFiguresSound (places K) (networkAfter K rec links o) (openedBy K rec links (B .pairs) o .final .pairs)
         (openedBy K rec links (B .pairs) o .final .candidate) (countPairs (range (places K)) (openedBy K rec links (B .pairs) o .final .pairs))
     left-figures = record {
       rising = λ u v l m h. ltb-true u v (left-sound .pairs u v (t→true (x .final .pairs u v) h) .0);
       ends = λ u v l m h. left-ends u v h;
-      counted = ap (λ (n : ℕ). countPairs (range n) (x .final .pairs)) (sym (held .limit));
+      counted = refl;
       below = left-sound .below;
     }
 

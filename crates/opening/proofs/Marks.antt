@@ -31,7 +31,7 @@ use Rattle.outcome.specs.declared.Outcome.the-variants.{Accepted, Refused}
 use Rattle.opening.specs.OpenCall.{changeOf, openRefusal, networkAfter, openedBy, openGiven, referencesBy}
 use Rattle.opening.specs.Represents.{IsMarked}
 use Rattle.opening.proofs.Memories.{IsHeld, open-below}
-use Rattle.opening.proofs.Grants.{granted-net, granted-notice, granted-low, granted-chain, held-after, number-after}
+use Rattle.opening.proofs.Grants.{granted-net, granted-notice, granted-room, granted-chain, held-after, number-after}
 use Rattle.opening.proofs.Openings.{given-outcome, given-searches, given-number, given-chain, given-skips, given-references}
 
 -- ---- the skip table's number at a place tells the searched depots
@@ -74,11 +74,10 @@ module _ (K : Shape) (shape : IsShape K) (H : Network) (held : IsHeld K H) (S : 
         (λ h. eq-eqb (getD skips v 0) (K .searchedMark) (skip-marks v l .1 (true→t h)))
 
     skips-counted : length (S .references) ≡ countb (λ v. eqb (getD skips v 0) (K .searchedMark)) (range (places K))
-    unfolding vertices
     skips-counted =
         references .distinct
-        ∙ count-filter (H .isOpen) (λ v. memb v (S .references)) (range (H .limit)) (λ v h. t→true (H .isOpen v) (references .inside v (true→t h)))
-        ∙ ap (λ (n : ℕ). countb (λ v. memb v (S .references)) (range n)) (held .limit)
+        ∙ ap (countb (λ v. memb v (S .references))) (held .depots)
+        ∙ count-filter (H .isOpen) (λ v. memb v (S .references)) (range (places K)) (λ v h. t→true (H .isOpen v) (references .inside v (true→t h)))
         ∙ sym (count-ext (λ v. eqb (getD skips v 0) (K .searchedMark)) (λ v. memb v (S .references)) (range (places K)) (λ v m. skip-test v (range-out (places K) m)))
 
   few-searches : length (S .references) ≤ length (vertices H)
@@ -125,7 +124,7 @@ module _ (K : Shape) (shape : IsShape K) (rec : Record) (links : List ℕ) (B : 
   unfolding networkAfter openedBy
   opened-searched =
       opening-covered (networkOf (K .words) (rec .codes) links) (granted-net K shape rec links (B .pairs) (sizesOf links B) o ok) o
-      (granted-low K shape rec links (B .pairs) (sizesOf links B) o ok low) (granted-notice K shape rec links (B .pairs) (sizesOf links B) o ok)
+      (granted-room K shape rec links (B .pairs) (sizesOf links B) o ok) (granted-notice K shape rec links (B .pairs) (sizesOf links B) o ok)
       (rec .chain) (tableBit (K .words) (B .pairs)) (granted-chain K shape rec links (B .pairs) (sizesOf links B) o ok)
 
   pub opened-marked : IsMarked K (networkAfter K rec links o) (referencesBy zero K rec links B o) (openGiven zero K rec links B o)

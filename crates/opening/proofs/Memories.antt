@@ -3,20 +3,23 @@
 use mathlib.Core.Path.{_≡_, refl, sym, ap, _∙_, subst, fun-ext}
 use mathlib.Core.Logic.{_↔_}
 use mathlib.Core.Bool.{Bool, true, false, _&&_}
-use mathlib.Core.List.{List}
-use Prim.Native.Nat.{ℕ, _<_}
+use mathlib.Core.List.{List, List·Memᴰ}
+use Prim.Native.Nat.{ℕ, _≤_, _<_}
+use native.Mathlib.Omega.{arith}
 use lib.Dec.{T, ltb}
 use lib.ListN.{length}
 use borrow.Author.Tests.{lt-ltb}
-use Rattle.lists.specs.Lists.{range, countb, overwrite}
+use Rattle.lists.specs.Lists.{range, filterb, countb, overwrite}
 use Rattle.lists.proofs.Tests.{true→t, and-intro}
-use Rattle.lists.proofs.Counts.{length-count}
-use Rattle.rows.specs.Rows.{tableBit, encodeRow, encodeTable}
+use Rattle.lists.proofs.Members.{filter-ext, filter-out, range-out, length-range}
+use Rattle.lists.proofs.Counts.{count-le-length, length-count}
+use Rattle.rows.specs.Rows.{rowBit, tableBit, encodeRow, encodeTable}
 use Rattle.rows.proofs.Written.{row-at, row-read, table-at, table-read, encode-table-length}
 use Rattle.graph.specs.Network.{Network, IsFarthest}
 use Rattle.graph.specs.Distance.{vertices}
 use Rattle.graph.specs.Chart.{diameter, Pairs, farthest, countPairs}
 use Rattle.graph.specs.Correct.{IsNet}
+use Rattle.graph.proofs.Distances.{vertices-in}
 use Rattle.graph.proofs.Theorems.{diameter-is, farthest-is}
 use Rattle.map.specs.Memory.{Shape, places, tableWords, networkOf}
 use Rattle.map.specs.declared.Record.{Record}
@@ -26,8 +29,8 @@ use Rattle.lists.proofs.Buffers.{overwrite-all}
 
 -- ---- networks and memories are equal by their fields
 
-pub network-path : {A B : Network} → A .limit ≡ B .limit → ((c : ℕ) → A .isOpen c ≡ B .isOpen c) → ((u v : ℕ) → A .linked u v ≡ B .linked u v) → A ≡ B
-network-path p q r = λ i. record { limit = p i; isOpen = λ c. q c i; linked = λ u v. r u v i }
+pub network-path : {A B : Network} → A .depots ≡ B .depots → ((c : ℕ) → A .isOpen c ≡ B .isOpen c) → ((u v : ℕ) → A .linked u v ≡ B .linked u v) → A ≡ B
+network-path p q r = λ i. record { depots = p i; isOpen = λ c. q c i; linked = λ u v. r u v i }
 
 pub record-path : {A B : Record} → A .codes ≡ B .codes → A .number ≡ B .number → A .chain ≡ B .chain → A .count ≡ B .count → A ≡ B
 record-path p q r s = λ i. record { codes = p i; number = q i; chain = r i; count = s i }
@@ -35,11 +38,11 @@ record-path p q r s = λ i. record { codes = p i; number = q i; chain = r i; cou
 pub memory-path : {A B : Memory} → A .links ≡ B .links → A .pairs ≡ B .pairs → A .rec ≡ B .rec → A ≡ B
 memory-path p q r = λ i. record { links = p i; pairs = q i; rec = r i }
 
--- ---- a network that a map of this shape can hold
+-- ---- a network that a map of this shape can hold: its depots are codes of the map, in rising order
 
 pub record IsHeld (K : Shape) (G : Network) : Type 0 where
   pub net : IsNet G
-  pub limit : G .limit ≡ places K
+  pub depots : vertices G ≡ filterb (G .isOpen) (range (places K))
 
 -- the map of a network written over a memory's tables and open set
 unfoldable pub writeMap : Shape → Network → Memory → Memory
@@ -89,7 +92,9 @@ module _ (K : Shape) (G : Network) (held : IsHeld K G) where
   -- ---- codes, links and pairs lie below the places
 
   pub open-below : (v : ℕ) → T (G .isOpen v) → v < places K
-  open-below v o = subst (λ (n : ℕ). v < n) (held .limit) (held .net .sound .below v o)
+  open-below v o =
+      let m = subst (λ (l : List ℕ). List·Memᴰ v l) (held .depots) (vertices-in G (held .net .sound) v o) in
+      range-out (places K) (filter-out (G .isOpen) (range (places K)) m .0)
 
   linked-open : (u v : ℕ) → T (G .linked u v) → T (G .isOpen u) × T (G .isOpen v)
   linked-open u v l = (held .net .sound .ends v u (held .net .sound .symmetric u v l), held .net .sound .ends u v l)
@@ -103,17 +108,22 @@ module _ (K : Shape) (G : Network) (held : IsHeld K G) where
       and-intro (lt-ltb u (places K) (open-below u (o .0))) (lt-ltb v (places K) (open-below v (o .1)))
 
   pub number-is : length (vertices G) ≡ countb (G .isOpen) (range (places K))
-  unfolding vertices
-  number-is = length-count (G .isOpen) (range (G .limit)) ∙ ap (λ (n : ℕ). countb (G .isOpen) (range n)) (held .limit)
+  number-is = ap length (held .depots) ∙ length-count (G .isOpen) (range (places K))
+
+  pub depots-few : length (vertices G) ≤ places K
+  depots-few = omega (arith, number-is, count-le-length (G .isOpen) (range (places K)), length-range (places K))
 
   -- ---- WHAT IS WRITTEN IS READ
 
   pub network-read : (codes links : List ℕ) → networkOf (K .words) (overwrite (encodeRow (K .words) (G .isOpen)) codes) (overwrite (encodeTable (K .words) (G .linked)) links) ≡ G
   unfolding networkOf
   network-read codes links =
-      network-path (sym (held .limit))
-      (λ c. row-read (K .words) (G .isOpen) codes c ∙ unguarded (ltb c (places K)) (G .isOpen c) (λ o. lt-ltb c (places K) (open-below c (true→t o))))
+      network-path (filter-ext _ (G .isOpen) (range (places K)) (λ c m. opens c) ∙ sym (held .depots))
+      opens
       (λ u v. table-read (K .words) (G .linked) links u v ∙ unguarded (ltb u (places K) && ltb v (places K)) (G .linked u v) (both-below (G .linked) linked-open u v))
+    where
+      opens : (c : ℕ) → rowBit (K .words) (overwrite (encodeRow (K .words) (G .isOpen)) codes) c ≡ G .isOpen c
+      opens c = row-read (K .words) (G .isOpen) codes c ∙ unguarded (ltb c (places K)) (G .isOpen c) (λ o. lt-ltb c (places K) (open-below c (true→t o)))
 
   pub pairs-read : (P : Pairs) → ((u v : ℕ) → T (P u v) → T (G .isOpen u) × T (G .isOpen v)) → (pairs : List ℕ) → tableBit (K .words) (overwrite (encodeTable (K .words) P) pairs) ≡ P
   pairs-read P ends pairs =

@@ -24,7 +24,7 @@ use Rattle.opening.specs.OpenCall.{changeOf, openRefusal, networkAfter, 
 use Rattle.plain_list.specs.PlainList.{moved}
 use Rattle.opening.specs.Demand2.{mapAfter}
 use Rattle.opening.proofs.Memories.{IsHeld, Says, record-path, memory-path, writeMap}
-use Rattle.opening.proofs.Grants.{granted-net, granted-notice, granted-low, held-after, number-after}
+use Rattle.opening.proofs.Grants.{granted-net, granted-notice, granted-room, held-after, number-after}
 
 -- ---- the call's definitions, one step each
 
@@ -92,7 +92,7 @@ module _ (K : Shape) (shape : IsShape K) (rec : Record) (links : List ℕ) (B : 
   unfolding networkAfter openedBy
   opened-correct =
       opening-correct (networkOf (K .words) (rec .codes) links) (granted-net K shape rec links (B .pairs) (sizesOf links B) o ok) o
-      (granted-low K shape rec links (B .pairs) (sizesOf links B) o ok low) (granted-notice K shape rec links (B .pairs) (sizesOf links B) o ok)
+      (granted-room K shape rec links (B .pairs) (sizesOf links B) o ok) (granted-notice K shape rec links (B .pairs) (sizesOf links B) o ok)
       (rec .chain) (tableBit (K .words) (B .pairs)) were
 
   chain-is : openedBy K rec links (B .pairs) o .final .candidate ≡ diameter (networkAfter K rec links o)

@@ -13,10 +13,9 @@ use Rattle.lists.specs.Lists.{memb, overwrite}
 use Rattle.lists.proofs.Tests.{look, or-left, or-right, true→t, t→true}
 use Rattle.graph.specs.Network.{Network}
 use Rattle.graph.specs.Chart.{chart}
-use Rattle.graph.specs.Opening.{Notice, addDepot, opening, grew, kept, shrank}
+use Rattle.graph.specs.Opening.{Notice, withDepot, opening, grew, kept, shrank}
 use Rattle.graph.specs.Opening as Graph
 use Rattle.graph.specs.Correct.{IsNet}
-use Rattle.graph.proofs.Distances.{vertices-length}
 use Rattle.rows.specs.Rows.{rowBit, tableBit, encodeRow, encodeTable, putBit}
 use Rattle.rows.proofs.Puts.{put-row}
 use Rattle.rows.proofs.Wholes.{row-whole, encode-row-ext}
@@ -36,7 +35,8 @@ use Rattle.admission.proofs.Theorems.{linked-after, linked-is}
 use Rattle.insertion.specs.Figured.{changeAs, Figured, figured, figuredBy, IsFigurable}
 use Rattle.opening.specs.OpenCall.{changeOf, openRefusal, networkAfter, openedBy, OpenLeft, openGiven}
 use Rattle.opening.specs.Steps.{noticeOf}
-use Rattle.opening.proofs.Grants.{granted-long, granted-figures, held-after, number-after}
+use Rattle.opening.proofs.Memories.{depots-few}
+use Rattle.opening.proofs.Grants.{granted-long, granted-figures, admitted, held-after, number-after}
 
 -- ---- the open set
 
@@ -84,10 +84,10 @@ module _ (rec : Record) (links p h b s x y : List ℕ) (code : ℕ) (ns : List �
   pub number-small : rec .number + 1 ≤ 256
   number-small =
       let held = held-after base base-shape rec links p z o ok byte in
-      omega (arith, number-after base base-shape rec links p z o ok byte, vertices-length H, held .limit)
+      omega (arith, number-after base base-shape rec links p z o ok byte, depots-few base H held)
 
   open-is : H .isOpen ≡ (λ v. eqb v code || rowBit 4 (rec .codes) v)
-  unfolding networkAfter addDepot networkOf
+  unfolding networkAfter withDepot networkOf
   open-is = refl
 
   links-are : H .linked ≡ (λ u v. (eqb u code && memb v ns) || (eqb v code && memb u ns) || tableBit 4 links u v)
@@ -104,19 +104,23 @@ module _ (rec : Record) (links p h b s x y : List ℕ) (code : ℕ) (ns : List �
         go (inl e) = rw e
         go (inr e) = rw (e, ne-eqb v code (λ q. let l : 256 ≤ v = ltb-false v 256 e in omega arith))
 
+    was-closed : rowBit 4 (rec .codes) code ≡ false
+    unfolding networkOf
+    was-closed = admitted base base-shape rec links p z o ok .fresh
+
     pub network-is : networkOf 4 after left ≡ H
     unfolding networkAfter
-    network-is = linked-after 4 code ns (omega arith) byte bytes (rec .codes) after links left open-bits linked
+    network-is = linked-after 4 code ns (omega arith) byte bytes (rec .codes) after links left was-closed open-bits linked
 
-    figures-are : AreFiguresSound G (tableBit 4 p) (rec .chain) (rec .count)
+    figures-are : AreFiguresSound 256 G (tableBit 4 p) (rec .chain) (rec .count)
     figures-are = granted-figures base base-shape rec links p z o ok
 
     open-still : (v : ℕ) → T (G .isOpen v) → T (H .isOpen v)
-    unfolding networkAfter addDepot
+    unfolding networkAfter withDepot
     open-still v t = true→t (or-right (eqb v code) (t→true (G .isOpen v) t))
 
     open-new : T (H .isOpen code)
-    unfolding networkAfter addDepot
+    unfolding networkAfter withDepot
     open-new = true→t (or-left (G .isOpen code) (eq-eqb code code refl))
 
     pub figurable : 4 ≤ length after → length left ≡ length links → IsFigurable base after left B code (rec .chain) (rec .count)

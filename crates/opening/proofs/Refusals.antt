@@ -2,11 +2,12 @@
 use mathlib.Core.Path.{_≡_, refl}
 use Prim.Native.Nat.{ℕ, zero, suc}
 use Rattle.lists.proofs.Conditions.{decides-short, refuses-by}
-use Rattle.graph.specs.Opening.{Change, grew, kept, shrank, noticeFaults}
+use Rattle.graph.specs.Opening.{Change, grew, kept, shrank, openFaults}
 use Rattle.graph.specs.Refusals.{noticeConditions}
 use Rattle.graph.proofs.Refusals.{notice-tells}
 use Rattle.rows.specs.Rows.{tableBit}
 use Rattle.map.specs.Memory.{Shape, IsShape, networkOf}
+use Rattle.map.proofs.Theorems.{network-listed}
 use Rattle.checks.proofs.Refusals.{map-tells}
 use Rattle.reckon.specs.Refusals.{roundsBuffers}
 use Rattle.reckon.proofs.Theorems.{long-is}
@@ -29,7 +30,8 @@ open-refusals K shape rec links B o =
       refl,
       rw (← long-is K links B) at (decides-short (roundsBuffers K links B)),
       λ f.
-          map-tells (K .words) (shape .most) (rec .codes) links (rec .number) (noticeFaults G o) (noticeConditions G o) (notice-tells G o)
+          map-tells (K .words) (shape .most) (rec .codes) links (rec .number) (openFaults G o) (noticeConditions G o)
+          (notice-tells G (network-listed (K .words) (rec .codes) links) o)
           (tableBit (K .words) (B .pairs)) (rec .chain) (rec .count),
     )
     (λ k. openGiven k K rec links B o) _ (λ l. refusalOf (l .report .outcome)) numbered (λ k. refl)

@@ -33,7 +33,7 @@ use Rattle.outcome.specs.declared.Outcome.the-variants.{Accepted}
 use Rattle.opening.specs.OpenCall.{changeOf, openRefusal, networkAfter, openedBy, openGiven, openCall, referencesBy, referencesOf}
 use Rattle.opening.specs.Tables.{AreTables, LeavesTables}
 use Rattle.opening.proofs.Memories.{IsHeld, open-below}
-use Rattle.opening.proofs.Grants.{granted-long, granted-net, granted-notice, granted-low, granted-chain, held-after}
+use Rattle.opening.proofs.Grants.{granted-long, granted-net, granted-notice, granted-room, granted-chain, held-after}
 use Rattle.opening.proofs.Marks.{opened-searched, changed-shrank}
 
 shrank-changed : (o : Opened) → o .change ≡ shrank → changeOf (o .change) ≡ Accepted Shrank
@@ -73,7 +73,7 @@ module _ (K : Shape) (shape : IsShape K) (rec : Record) (links : List ℕ) (B : 
   unfolding networkAfter openedBy
   says =
       opening-says (networkOf (K .words) (rec .codes) links) (granted-net K shape rec links (B .pairs) (sizesOf links B) o ok) o
-      (granted-low K shape rec links (B .pairs) (sizesOf links B) o ok low) (granted-notice K shape rec links (B .pairs) (sizesOf links B) o ok)
+      (granted-room K shape rec links (B .pairs) (sizesOf links B) o ok) (granted-notice K shape rec links (B .pairs) (sizesOf links B) o ok)
       (rec .chain) (granted-chain K shape rec links (B .pairs) (sizesOf links B) o ok) (tableBit (K .words) (B .pairs))
 
   -- the last search
@@ -83,7 +83,7 @@ module _ (K : Shape) (shape : IsShape K) (rec : Record) (links : List ℕ) (B : 
   last-search rs q =
       let s = lastOr (o .code) rs in
       let m : T (memb s (S .references)) = true→t (ap (λ (l : List ℕ). memb s l) q ∙ last-memb (o .code) rs) in
-      let left = leaves-search K H (held .net) (held .limit) s (references .inside s m) (B .searched) (long .hops-fit) (long .even-fit) (long .odd-fit) in
+      let left = leaves-search K H (held .net) below s (references .inside s m) (B .searched) (long .hops-fit) (long .even-fit) (long .odd-fit) in
       (ecc (chart H) s, subst (λ (l : List ℕ). IsSearch K H s (B .searched) (searchLeft (Reached (ecc (chart H) s)) (searchAfter (K .words) H l (B .searched)))) (sym q) left)
 
   given-tables : AreTables K H (o .code) (S .references) links B (openGiven zero K rec links B o)
@@ -94,7 +94,7 @@ module _ (K : Shape) (shape : IsShape K) (rec : Record) (links : List ℕ) (B : 
     later = says .first .0;
     first = says .first .1;
     once = λ n. ap (drop 1) (sym (says .first .1) ∙ says .once (λ q. n (shrank-changed x q)) .only);
-    eccentricity = bound-ecc K H (held .limit) below shape S references (B .bounds);
+    eccentricity = bound-ecc K H (held .net .sound) below shape S references (B .bounds);
     skipped = λ q v ov. skip-bound K H S (B .skips) (B .bounds) (says .skipped (changed-shrank (x .change) q)) v (below v ov) ov;
     others = λ n v l d. waiting-at K H S (B .skips) (B .bounds) v l (says .once (λ q. n (shrank-changed x q)) .others v d);
     closed = closed-at K H S (B .skips) (B .bounds);

@@ -8,7 +8,7 @@ use Rattle.lists.specs.Lists.{range, overwrite, firstOf}
 use Rattle.graph.specs.Network.{Network}
 use Rattle.graph.specs.Distance.{connected}
 use Rattle.graph.specs.Chart.{chart, countPairs}
-use Rattle.graph.specs.Opening.{Notice, addDepot, noticeFaults, Change, grew, kept, shrank, Opened, opening}
+use Rattle.graph.specs.Opening.{Notice, withDepot, openFaults, Change, grew, kept, shrank, Opened, opening}
 use Rattle.rows.specs.Rows.{tableBit, encodeRow, encodeTable}
 use Rattle.map.specs.Memory.{Shape, places, networkOf}
 use Rattle.checks.specs.Sound.{soundLinks, soundFigures}
@@ -33,13 +33,13 @@ openRefusal K rec links pairs sizes o =
     let G = networkOf (K .words) (rec .codes) links in
     firstOf
     ((not (longEnough K sizes), 1)
-    ∷ (not (soundLinks G (rec .number) && soundFigures G (tableBit (K .words) pairs) (rec .chain) (rec .count)), 2)
+    ∷ (not (soundLinks (places K) G (rec .number) && soundFigures (places K) G (tableBit (K .words) pairs) (rec .chain) (rec .count)), 2)
     ∷ (not (connected G), 3)
-    ∷ noticeFaults G o)
+    ∷ openFaults G o)
 
 -- the network with the new depot, and what its opening does
 unfoldable pub networkAfter : Shape → Record → List ℕ → Notice → Network
-networkAfter K rec links o = addDepot (networkOf (K .words) (rec .codes) links) (o .code) (o .neighbours)
+networkAfter K rec links o = withDepot (networkOf (K .words) (rec .codes) links) o
 
 unfoldable pub openedBy : Shape → Record → List ℕ → List ℕ → Notice → Opened
 openedBy K rec links pairs o = opening (chart (networkAfter K rec links o)) (o .code) (rec .chain) (tableBit (K .words) pairs)

@@ -7,7 +7,7 @@ use Rattle.lists.specs.Conditions.{Refuses, IsShort}
 use Rattle.graph.specs.Opening.{Notice}
 use Rattle.graph.specs.Refusals.{noticeConditions}
 use Rattle.rows.specs.Rows.{tableBit}
-use Rattle.map.specs.Memory.{Shape, networkOf}
+use Rattle.map.specs.Memory.{Shape, places, networkOf}
 use Rattle.checks.specs.Refusals.{mapConditions}
 use Rattle.map.specs.declared.Record.{Record}
 use Rattle.rounds.specs.Leaves.{Lent}
@@ -21,7 +21,7 @@ abbrev pub openConditions : Shape → Record → List ℕ → Lent → Notice �
 openConditions K rec links B o =
     let G = networkOf (K .words) (rec .codes) links in
     (IsShort (roundsBuffers K links B), 1)
-    ∷ mapConditions G (rec .number) (tableBit (K .words) (B .pairs)) (rec .chain) (rec .count)
+    ∷ mapConditions (places K) G (rec .number) (tableBit (K .words) (B .pairs)) (rec .chain) (rec .count)
     ++ noticeConditions G o
 
 -- DEMAND 1 of a program whose opening call is `step`: refused with the first that holds, and then nothing changes

@@ -7,7 +7,7 @@ use Rattle.lists.specs.Lists.{firstOf}
 use Rattle.graph.specs.Distance.{connected}
 use Rattle.graph.specs.Opening.{Notice}
 use Rattle.rows.specs.Rows.{tableBit}
-use Rattle.map.specs.Memory.{Shape, networkOf}
+use Rattle.map.specs.Memory.{Shape, places, networkOf}
 use Rattle.checks.specs.Sound.{soundLinks, soundFigures}
 use Rattle.map.specs.declared.Record.{Record}
 use Rattle.rounds.specs.Sizes.{Sizes, longEnough}
@@ -20,7 +20,7 @@ mapRefusal K rec links pairs sizes =
     let G = networkOf (K .words) (rec .codes) links in
     firstOf
     ((not (longEnough K sizes), 1)
-    ∷ (not (soundLinks G (rec .number) && soundFigures G (tableBit (K .words) pairs) (rec .chain) (rec .count)), 2)
+    ∷ (not (soundLinks (places K) G (rec .number) && soundFigures (places K) G (tableBit (K .words) pairs) (rec .chain) (rec .count)), 2)
     ∷ (not (connected G), 3)
     ∷ [])
 

@@ -5,7 +5,7 @@ use Prim.Native.Nat.{ℕ, zero, suc}
 use lib.Dec.{eqb, ltb}
 use Rattle.graph.specs.Network.{Network}
 use Rattle.graph.specs.Chart.{diameter}
-use Rattle.graph.specs.Opening.{Notice, addDepot}
+use Rattle.graph.specs.Opening.{Notice, withDepot}
 use Rattle.outcome.specs.declared.Outcome.{Outcome}
 use Rattle.outcome.specs.declared.Outcome.the-variants.{Accepted, Refused}
 use Rattle.outcome.specs.declared.Change.the-variants.{Grew, Kept, Shrank}
@@ -22,6 +22,6 @@ plainAnswer (suc k) G H = Refused (suc k)
 
 -- the network after the call
 unfoldable pub plainNext : ℕ → Network → Notice → Network
-unfolding addDepot
-plainNext zero G o = addDepot G (o .code) (o .neighbours)
+unfolding withDepot
+plainNext zero G o = withDepot G o
 plainNext (suc k) G o = G

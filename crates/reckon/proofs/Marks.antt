@@ -12,9 +12,10 @@ use borrow.Author.Tests.{eqb-true, eq-eqb, lt-ltb}
 use Rattle.lists.specs.Lists.{range, countb, memb, mapl, lastOr, overwrite}
 use Rattle.lists.proofs.Tests.{t→true, true→t, false→not, clash, and-intro, same-test}
 use Rattle.lists.proofs.Members.{range-out, in-memb}
-use Rattle.lists.proofs.Counts.{count-le-length, count-filter, count-ext, length-count}
+use Rattle.lists.proofs.Counts.{count-le-length, count-ext}
+use Rattle.lists.proofs.Distinct.{memb-range, distinct-range, count-either}
 use Rattle.lists.proofs.Fills.{fill-at}
-use Rattle.graph.specs.Network.{Network, IsEcc, IsFarthest}
+use Rattle.graph.specs.Network.{Network, IsSound, IsEcc, IsFarthest}
 use Rattle.graph.specs.Distance.{vertices, unreached}
 use Rattle.graph.specs.Rounds.{Status, waiting, skipped, searched, State, markOf, boundOf}
 use Rattle.graph.specs.Chart.{Pairs}
@@ -38,7 +39,7 @@ unguarded true x h = refl
 unguarded false true h = h refl
 unguarded false false h = refl
 
-module _ (K : Shape) (G : Network) (limit : G .limit ≡ places K) (below : (v : ℕ) → T (G .isOpen v) → v < places K) where
+module _ (K : Shape) (G : Network) (sound : IsSound G) (below : (v : ℕ) → T (G .isOpen v) → v < places K) where
   -- ---- a pair table that tells the farthest pairs is read as it was written
 
   pub pairs-read : (P : Pairs) (old : List ℕ) → ((u v : ℕ) → T (P u v) ↔ IsFarthest G (G .isOpen) u v) → tableBit (K .words) (overwrite (encodeTable (K .words) P) old) ≡ P
@@ -88,16 +89,15 @@ module _ (K : Shape) (G : Network) (limit : G .limit ≡ places K) (below : (v :
 
     -- so many are marked as there were searches, and no more than are open
     pub skips-counted : (old : List ℕ) → length (S .references) ≡ countb (λ v. eqb (getD (overwrite (mapl markAt (range (places K))) old) v 0) (K .searchedMark)) (range (places K))
-    unfolding vertices
     skips-counted old =
         references .distinct
-        ∙ count-filter (G .isOpen) (λ v. memb v (S .references)) (range (G .limit)) (λ v h. t→true (G .isOpen v) (references .inside v (true→t h)))
-        ∙ ap (λ (n : ℕ). countb (λ v. memb v (S .references)) (range n)) limit
+        ∙ count-either (λ v. memb v (S .references)) (vertices G) (range (places K)) (sound .once) (distinct-range (places K))
+        (λ v h. sym (sound .listed v) ∙ t→true (G .isOpen v) (references .inside v (true→t h)))
+        (λ v h. memb-range (places K) v ∙ lt-ltb v (places K) (below v (references .inside v (true→t h))))
         ∙ sym (count-ext _ (λ v. memb v (S .references)) (range (places K)) (λ v m. skip-test old v (range-out (places K) m)))
 
-    pub few-searches : length (S .references) ≤ countb (G .isOpen) (range (G .limit))
-    unfolding vertices
-    few-searches = omega (arith, references .distinct, count-le-length (λ v. memb v (S .references)) (vertices G), length-count (G .isOpen) (range (G .limit)))
+    pub few-searches : length (S .references) ≤ length (vertices G)
+    few-searches = omega (arith, references .distinct, count-le-length (λ v. memb v (S .references)) (vertices G))
 
     pub bound-ecc : (old : List ℕ) (v : ℕ) → T (memb v (S .references)) → IsEcc G (G .isOpen) v (getD (overwrite (mapl boundAt (range (places K))) old) v 0)
     bound-ecc old v h =

@@ -9,13 +9,14 @@ use borrow.Author.Tests.{not-false}
 use Rattle.lists.specs.Lists.{firstOf}
 use Rattle.lists.proofs.Members.{first-zero}
 use Rattle.graph.specs.Network.{Network, IsSound}
-use Rattle.graph.specs.Distance.{unreached, connected}
+use Rattle.graph.specs.Distance.{vertices, unreached, connected}
 use Rattle.graph.specs.Chart.{chart}
 use Rattle.graph.specs.Rounds.{start, reckon}
 use Rattle.graph.specs.Correct.{IsNet}
 use Rattle.graph.proofs.Connected.{connected-iff}
 use Rattle.layers.specs.Layers.{tables}
-use Rattle.map.specs.Memory.{Shape, IsShape, networkOf}
+use Rattle.map.specs.Memory.{Shape, IsShape, places, networkOf}
+use Rattle.map.proofs.Theorems.{network-most}
 use Rattle.checks.specs.Sound.{soundLinks}
 use Rattle.map.specs.declared.Record.{Record}
 use Rattle.checks.proofs.Theorems.{sound-links-iff}
@@ -40,15 +41,15 @@ module _ (K : Shape) (rec : Record) (links : List ℕ) (z : Sizes) where
   unfolding reckonRefusal linkFaults firstOf
   refused-short a = rw a
 
-  pub refused-spoilt : longEnough K z ≡ true → soundLinks G (rec .number) ≡ false → 2 ≡ reckonRefusal K rec links z
+  pub refused-spoilt : longEnough K z ≡ true → soundLinks (places K) G (rec .number) ≡ false → 2 ≡ reckonRefusal K rec links z
   unfolding reckonRefusal linkFaults firstOf
   refused-spoilt a b = rw (a, b)
 
-  pub refused-apart : longEnough K z ≡ true → soundLinks G (rec .number) ≡ true → connected G ≡ false → 3 ≡ reckonRefusal K rec links z
+  pub refused-apart : longEnough K z ≡ true → soundLinks (places K) G (rec .number) ≡ true → connected G ≡ false → 3 ≡ reckonRefusal K rec links z
   unfolding reckonRefusal linkFaults firstOf
   refused-apart a b c = rw (a, b, c)
 
-  pub refused-never : longEnough K z ≡ true → soundLinks G (rec .number) ≡ true → connected G ≡ true → 0 ≡ reckonRefusal K rec links z
+  pub refused-never : longEnough K z ≡ true → soundLinks (places K) G (rec .number) ≡ true → connected G ≡ true → 0 ≡ reckonRefusal K rec links z
   unfolding reckonRefusal linkFaults firstOf
   refused-never a b c = rw (a, b, c)
 
@@ -57,23 +58,22 @@ module _ (K : Shape) (rec : Record) (links : List ℕ) (z : Sizes) where
   unfolding reckonRefusal
   granted-long e = are-long K z (not-false (longEnough K z) (first-zero (not (longEnough K z)) 0 (linkFaults K rec links) e .0))
 
-  pub granted-tests : reckonRefusal K rec links z ≡ 0 → (soundLinks (networkOf (K .words) (rec .codes) links) (rec .number) ≡ true) × (connected (networkOf (K .words) (rec .codes) links) ≡ true)
+  pub granted-tests : reckonRefusal K rec links z ≡ 0 → (soundLinks (places K) (networkOf (K .words) (rec .codes) links) (rec .number) ≡ true) × (connected (networkOf (K .words) (rec .codes) links) ≡ true)
   unfolding reckonRefusal linkFaults
   granted-tests e =
       let a = first-zero (not (longEnough K z)) 0 _ e in
-      let b = first-zero (not (soundLinks G (rec .number))) 1 _ (a .1) in
+      let b = first-zero (not (soundLinks (places K) G (rec .number))) 1 _ (a .1) in
       let c = first-zero (not (connected G)) 2 [] (b .1) in
-      (not-false (soundLinks G (rec .number)) (b .0), not-false (connected G) (c .0))
+      (not-false (soundLinks (places K) G (rec .number)) (b .0), not-false (connected G) (c .0))
 
   pub granted-net : IsShape K → reckonRefusal K rec links z ≡ 0 → IsNet (networkOf (K .words) (rec .codes) links)
-  unfolding networkOf
   granted-net shape e =
       let t = granted-tests e in
       let s : IsSound G = sound-links-iff (K .words) (rec .codes) links (rec .number) .0 (t .0) .isSound in
-      let m : G .limit < unreached = omega (arith, shape .most) in
+      let m : length (vertices G) < unreached = omega (arith, network-most (K .words) (rec .codes) links, shape .most) in
       record { sound = s; connected = connected-iff G s m .0 (t .1); small = m }
 
-pub sound-by : (W : ℕ) (codes links : List ℕ) (number : ℕ) → soundLinks (networkOf W codes links) number ≡ true → IsSound (networkOf W codes links)
+pub sound-by : (W : ℕ) (codes links : List ℕ) (number : ℕ) → soundLinks (64 * W) (networkOf W codes links) number ≡ true → IsSound (networkOf W codes links)
 sound-by W codes links number e = sound-links-iff W codes links number .0 e .isSound
 
 -- ---- the whole reckoning of a network, from the two calls

@@ -3,14 +3,16 @@ use mathlib.Core.Path.{_≡_, refl, sym, ap, _∙_, subst}
 use mathlib.Core.Logic.{_↔_}
 use mathlib.Core.Bool.{Bool, and-assoc, and-true as and-with-true}
 use mathlib.Core.List.{List, [], _∷_}
-use Prim.Native.Nat.{ℕ, zero, suc, _*_, _<_}
+use Prim.Native.Nat.{ℕ, zero, suc, _<_}
 use native.Mathlib.Omega.{arith}
 use lib.Dec.{T}
-use Rattle.lists.specs.Lists.{range, allb, countb, memb, lastOr}
+use lib.ListN.{length}
+use Rattle.lists.specs.Lists.{range, allb, memb, lastOr}
 use Rattle.lists.proofs.Tests.{true→t}
 use Rattle.lists.proofs.Conditions.{allFit, decides-short, refuses-by}
 use Rattle.lists.proofs.Fills.{length-fill}
 use Rattle.graph.specs.Network.{Network, IsFarthest}
+use Rattle.graph.specs.Distance.{vertices}
 use Rattle.graph.specs.Chart.{chart, ecc, countPairs}
 use Rattle.graph.specs.Rounds.{State, reckon}
 use Rattle.graph.specs.Correct.{IsNet, IsReckoned}
@@ -20,7 +22,7 @@ use Rattle.rows.proofs.Written.{table-at, encode-table-length}
 use Rattle.layers.specs.Layers.{Tables, searchLeaves}
 use Rattle.map.specs.Memory.{Shape, IsShape, places, base, networkOf}
 use Rattle.map.specs.declared.Record.{Record}
-use Rattle.map.proofs.Theorems.{network-open-below, base-shape}
+use Rattle.map.proofs.Theorems.{network-open-below, network-length, base-shape}
 use Rattle.checks.proofs.Theorems.{sound-links-iff}
 use Rattle.checks.proofs.Refusals.{links-tell}
 use Rattle.search.specs.SearchCall.{searchLeft}
@@ -38,10 +40,6 @@ use Rattle.reckon.proofs.Reckons.{granted-long, granted-tests, granted-
 use Rattle.reckon.proofs.Marks.{last-memb, pairs-read, skip-marks, skips-counted, few-searches, bound-ecc}
 use Rattle.reckon.proofs.Skips.{skip-bound, closed-at}
 
-limit-of : (W : ℕ) (codes links : List ℕ) → networkOf W codes links .limit ≡ 64 * W
-unfolding networkOf
-limit-of W codes links = refl
-
 module _ (K : Shape) (shape : IsShape K) (rec : Record) (links : List ℕ) (B : Lent) (ok : reckonRefusal K rec links (sizesOf links B) ≡ 0) where
   abbrev G : Network
   G = networkOf (K .words) (rec .codes) links
@@ -58,14 +56,13 @@ module _ (K : Shape) (shape : IsShape K) (rec : Record) (links : List ℕ) (B : 
   long : AreLong K (sizesOf links B)
   long = granted-long K rec links (sizesOf links B) ok
 
-  limit-is : G .limit ≡ places K
-  limit-is = limit-of (K .words) (rec .codes) links
-
   below : (v : ℕ) → T (G .isOpen v) → v < places K
   below = network-open-below (K .words) (rec .codes) links
 
-  number-is : rec .number ≡ countb (G .isOpen) (range (G .limit))
-  number-is = sound-links-iff (K .words) (rec .codes) links (rec .number) .0 (granted-tests K rec links (sizesOf links B) ok .0) .counted
+  number-is : rec .number ≡ length (vertices G)
+  number-is =
+      sound-links-iff (K .words) (rec .codes) links (rec .number) .0 (granted-tests K rec links (sizesOf links B) ok .0) .counted
+      ∙ sym (network-length (K .words) (rec .codes) links)
 
   -- ---- the last search
 
@@ -78,7 +75,7 @@ module _ (K : Shape) (shape : IsShape K) (rec : Record) (links : List ℕ) (B : 
   last-search r rs q =
       let s = lastOr r rs in
       let m : T (memb s (S .references)) = true→t (ap (λ (l : List ℕ). memb s l) q ∙ last-memb r rs) in
-      let left = leaves-search K G net limit-is s (correct .references .inside s m) (B .searched) (long .hops-fit) (long .even-fit) (long .odd-fit) in
+      let left = leaves-search K G net below s (correct .references .inside s m) (B .searched) (long .hops-fit) (long .even-fit) (long .odd-fit) in
       (ecc (chart G) s, subst (λ (t : Tables). IsSearch K G s (B .searched) (searchLeft (Reached (ecc (chart G) s)) t)) (sym (after-last r rs q)) left)
 
   no-search : S .references ≡ [] → searchAfter (K .words) G (S .references) (B .searched) ≡ B .searched
@@ -92,16 +89,16 @@ module _ (K : Shape) (shape : IsShape K) (rec : Record) (links : List ℕ) (B : 
   given-reckoning = record {
     chain = correct .figures .chain;
     pairs = λ u v p q. subst (λ (b : Bool). T b ↔ IsFarthest G (G .isOpen) u v) (sym (table-at (K .words) (S .pairs) (B .pairs) u v p q)) (correct .figures .pairs u v);
-    count = ap (countPairs (range (places K))) (sym (pairs-read K G limit-is below (S .pairs) (B .pairs) (correct .figures .pairs)));
+    count = ap (countPairs (range (places K))) (sym (pairs-read K G (net .sound) below (S .pairs) (B .pairs) (correct .figures .pairs)));
     codes = refl;
     number = refl;
     accepted = refl;
-    marked = skips-counted K G limit-is below shape S (correct .references) (B .skips);
-    bounded = omega (arith, few-searches K G limit-is below shape S (correct .references), number-is);
-    marks = skip-marks K G limit-is below shape S (correct .references) (B .skips);
+    marked = skips-counted K G (net .sound) below shape S (correct .references) (B .skips);
+    bounded = omega (arith, few-searches K G (net .sound) below shape S (correct .references), number-is);
+    marks = skip-marks K G (net .sound) below shape S (correct .references) (B .skips);
     inside = correct .references .inside;
     cover = correct .cover;
-    eccentricity = bound-ecc K G limit-is below shape S (correct .references) (B .bounds);
+    eccentricity = bound-ecc K G (net .sound) below shape S (correct .references) (B .bounds);
     skipped = λ v o. skip-bound K G S (B .skips) (B .bounds) (reckoning-skipped G net) v (below v o) o;
     closed = closed-at K G S (B .skips) (B .bounds);
     searched = last-search;

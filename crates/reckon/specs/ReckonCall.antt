@@ -21,7 +21,7 @@ use Rattle.reckon.specs.declared.Reckoned.{Reckoned}
 unfoldable pub linkFaults : Shape → Record → List ℕ → List (Bool × ℕ)
 linkFaults K rec links =
     let G = networkOf (K .words) (rec .codes) links in
-    (not (soundLinks G (rec .number)), 2) ∷ (not (connected G), 3) ∷ []
+    (not (soundLinks (places K) G (rec .number)), 2) ∷ (not (connected G), 3) ∷ []
 
 -- the first refusal that holds: short, spoilt (links alone: a reckoning repairs figures), apart; 0: none
 unfoldable pub reckonRefusal : Shape → Record → List ℕ → Sizes → ℕ

@@ -26,7 +26,7 @@ roundsBuffers K links B =
 
 -- 1 short, 2 spoilt (links alone: whatever figures are stored), 3 apart
 abbrev pub reckonConditions : Shape → Record → List ℕ → Lent → List (Type 0 × ℕ)
-reckonConditions K rec links B = (IsShort (roundsBuffers K links B), 1) ∷ linkConditions (networkOf (K .words) (rec .codes) links) (rec .number)
+reckonConditions K rec links B = (IsShort (roundsBuffers K links B), 1) ∷ linkConditions (places K) (networkOf (K .words) (rec .codes) links) (rec .number)
 
 -- DEMAND 1 of a program whose reckoning call is `step`: refused with the first that holds, and then nothing changes
 abbrev pub ReckonDemand1 : Shape → (Record → List ℕ → Lent → ReckonLeft) → Type 0

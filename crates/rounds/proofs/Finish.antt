@@ -22,11 +22,11 @@ use Rattle.graph.specs.Correct.{IsNet}
 use Rattle.graph.proofs.Metric.{ecc-small}
 use Rattle.graph.proofs.Round.{Invariant}
 use Rattle.graph.proofs.Rounds.{waitingCount, rounds-right, start-fine, ended, pick-in}
-use Rattle.graph.proofs.Distances.{vertices-length}
 use Rattle.graph.proofs.Charts.{chart-metric, depot-in}
 use Rattle.rows.specs.Rows.{rowBit, encodeRow, encodeTable}
 use Rattle.rows.proofs.Wholes.{encode-row-ext}
 use Rattle.map.specs.Memory.{Shape, IsShape, networkOf}
+use Rattle.map.proofs.Theorems.{network-most}
 use Rattle.pairs.specs.Pairs.{tally}
 use Rattle.bounds.specs.Bounds.{marks}
 use Rattle.rounds.specs.Leaves.{lent, searchAfter, roundsLeave}
@@ -132,8 +132,8 @@ module _ (K : Shape) (shape : IsShape K) (codes links : List ℕ) (net : IsNet (
             absurd (clash (x .1) (ended (chart G) (chart-metric G net) unreached most-ecc (le-refl unreached) S (settled .1) r (x .0)))
 
     depots-few : length (chart G .depots) ≤ 64 * W
-    unfolding chart networkOf
-    depots-few = vertices-length G
+    unfolding chart
+    depots-few = network-most W codes links
 
     enough : rounds (chart G) (64 * W) S₀ ≡ S
     enough =

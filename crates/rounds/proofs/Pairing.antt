@@ -32,7 +32,7 @@ tally-over W P Q t = ap (λ (l : List ℕ). tally l (countPairs (range (64 * W))
 
 -- ---- the last layer's pairs are r's own
 
-module _ (W : ℕ) (G : Network) (net : IsNet G) (limit-is : G .limit ≡ 64 * W) (r : ℕ) (o : T (G .isOpen r)) (T₀ : Tables) where
+module _ (W : ℕ) (G : Network) (net : IsNet G) (r : ℕ) (o : T (G .isOpen r)) (T₀ : Tables) where
   e-small : ecc (chart G) r < unreached
   e-small = ecc-small (chart G) (chart-metric G net) r (depot-in G net r o)
 

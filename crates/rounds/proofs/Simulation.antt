@@ -2,21 +2,21 @@
 use mathlib.Core.Path.{_≡_, refl, sym, ap, ap₂, _∙_, subst}
 use mathlib.Core.Logic.{_⊎_, inl, inr}
 use mathlib.Core.Bool.{Bool, true, false, cond, _&&_}
-use mathlib.Core.List.{List, [], _∷_, List·Memᴰ, List·Memᴰ·head, List·Memᴰ·tail}
+use mathlib.Core.List.{List, [], _∷_, List·Memᴰ}
 use mathlib.Core.Option.{Option, none, some}
 use Prim.Native.Nat.{ℕ, zero, suc, _+_, _*_, _≤_, _<_, min, max}
 use native.Mathlib.Nat.{le-of-lt, le-refl}
 use native.Mathlib.Omega.{arith}
 use lib.Dec.{T, eqb, ltb}
 use lib.ListN.{getD, length-append}
-use borrow.Author.Tests.{ltb-true, ltb-false, lt-ltb}
+use borrow.Author.Tests.{ltb-true, ltb-false}
 use Rattle.lists.specs.Lists.{range, filterb, memb, overwrite}
 use Rattle.lists.proofs.Tests.{look, t→true, true→t, clash}
-use Rattle.lists.proofs.Members.{filter-out, range-out}
+use Rattle.lists.proofs.Members.{filter-ext, filter-out, range-out}
 use Rattle.lists.proofs.Counts.{count-filter}
 use Rattle.lists.proofs.Fills.{fill-at}
 use Rattle.graph.specs.Network.{Network}
-use Rattle.graph.specs.Distance.{vertices, unreached, dist}
+use Rattle.graph.specs.Distance.{unreached, dist}
 use Rattle.graph.specs.Chart.{Chart, chart, ecc, Pairs, countPairs}
 use Rattle.graph.specs.Rounds.{Status, waiting, skipped, searched, isWaiting, State, offer, raise, joinPairs, round, better, pick, remaining, orStop, rounds}
 use Rattle.graph.specs.Correct.{IsNet}
@@ -29,6 +29,7 @@ use Rattle.rows.proofs.Written.{row-at}
 use Rattle.layers.specs.Layers.{tableNetwork, Tables, searchLeaves, searchTable}
 use Rattle.layers.proofs.Theorems.{table-depth, table-leaves, depth-is}
 use Rattle.map.specs.Memory.{networkOf}
+use Rattle.map.proofs.Theorems.{network-open-below}
 use Rattle.pairs.specs.Pairs.{Tally, tallyOf, settleOf}
 use Rattle.ranks.specs.Ranks.{pickIn}
 use Rattle.rounds.specs.Workspace.{Workspace, lastRow, absorbOf, roundOf, orEnd, runOf, absorbing}
@@ -49,11 +50,6 @@ filter-twice p q (x ∷ xs) = go (q x) (p x) (filter-twice p q xs) refl
     go true false ih e = rw (e, ih)
     go false b ih e = ih
 
-filter-same : (p q : ℕ → Bool) (xs : List ℕ) → ((v : ℕ) → List·Memᴰ v xs → p v ≡ q v) → filterb p xs ≡ filterb q xs
-unfolding filterb
-filter-same p q [] h = refl
-filter-same p q (x ∷ xs) h = rw (h x (List·Memᴰ·head refl), filter-same p q xs (λ v m. h v (List·Memᴰ·tail m)))
-
 -- the pick looks at degrees alone
 pick-same : (C D : Chart) → ((v : ℕ) → C .degree v ≡ D .degree v) → (xs : List ℕ) → pick C xs ≡ pick D xs
 unfolding pick better
@@ -71,9 +67,11 @@ module _ (W mark other : ℕ) (most : W < 513) (codes links : List ℕ) (net : I
   abbrev metric : IsMetric (chart G)
   metric = chart-metric G net
 
-  limit-is : G .limit ≡ 64 * W
-  unfolding networkOf
-  limit-is = refl
+  inside : (v : ℕ) → T (G .isOpen v) → v < 64 * W
+  inside = network-open-below W codes links
+
+  few : 64 * W < unreached
+  few = omega arith
 
   links-are : G .linked ≡ tableBit W links
   unfolding networkOf
@@ -115,10 +113,10 @@ module _ (W mark other : ℕ) (most : W < 513) (codes links : List ℕ) (net : I
 
   module _ (O : Origin) (S : State) (M : Workspace) (H : Holds W mark other G O S M) (R : Running S) (r : ℕ) (m : List·Memᴰ r (chart G .depots)) (fresh : memb r (S .references) ≡ false) where
     open-r : T (G .isOpen r)
-    open-r = depot-out G m
+    open-r = depot-out G net m
 
     below-r : r < 64 * W
-    below-r = subst (λ (n : ℕ). r < n) limit-is (net .sound .below r open-r)
+    below-r = inside r open-r
 
     e : ℕ
     e = ecc (chart G) r
@@ -165,7 +163,7 @@ module _ (W mark other : ℕ) (most : W < 513) (codes links : List ℕ) (net : I
         tally-is : settleOf W (lastRow (ecc (chart G) r) (searchLeaves W G r (O .searched))) r (ecc (chart G) r) (M .candidate) (M .paired) ≡ tallyOf W P′ (O .pairs)
         tally-is =
             ap (λ (n : ℕ). settleOf W (lastRow (ecc (chart G) r) (searchLeaves W G r (O .searched))) r (ecc (chart G) r) n (M .paired)) (H .candidate-is)
-            ∙ settle-is W G net limit-is r open-r (O .searched) (S .candidate) (S .pairs) (M .paired .pairs) (O .pairs) (M .paired .count) (H .pairs-are) (H .count-is)
+            ∙ settle-is W G net r open-r (O .searched) (S .candidate) (S .pairs) (M .paired .pairs) (O .pairs) (M .paired .count) (H .pairs-are) (H .count-is)
 
         pairs-of : tallyOf W P′ (O .pairs) .pairs ≡ overwrite (encodeTable W P′) (O .pairs)
         pairs-of = refl
@@ -177,8 +175,8 @@ module _ (W mark other : ℕ) (most : W < 513) (codes links : List ℕ) (net : I
     unfolding roundOf searchTable
     round-is =
         ap₂ (λ (d : ℕ) (t : Tables). absorbOf W mark r d t M)
-        (table-depth G (net .sound) (net .small) r open-r W links limit-is links-are ∙ depth-is G net r open-r)
-        (table-leaves G (net .sound) (net .small) r open-r W links (M .searched) limit-is links-are
+        (table-depth G (net .sound) (64 * W) inside few r open-r W links refl links-are ∙ depth-is G net r open-r)
+        (table-leaves G (net .sound) (64 * W) inside few r open-r W links (M .searched) refl links-are
         ∙ ap (searchLeaves W G r) (H .tables-are) ∙ after-over W G (S .references) r (O .searched))
 
     pub round-holds : Holds W mark other G O (round (chart G) r S) (roundOf W links mark r M)
@@ -187,20 +185,15 @@ module _ (W mark other : ℕ) (most : W < 513) (codes links : List ℕ) (net : I
   -- ---- the pick
 
   degree-is : (v : ℕ) → chart (tableNetwork W links) .degree v ≡ chart G .degree v
-  unfolding chart tableNetwork networkOf vertices
-  degree-is v =
-      count-filter (λ u. ltb u (64 * W)) (tableBit W links v) (range (64 * W)) (λ u q. below u q)
-      ∙ sym (count-filter (rowBit W codes) (tableBit W links v) (range (64 * W)) (λ u q. t→true (rowBit W codes u) (net .sound .ends v u (true→t q))))
-    where
-      below : (u : ℕ) → tableBit W links v u ≡ true → ltb u (64 * W) ≡ true
-      below u q = lt-ltb u (64 * W) (subst (λ (n : ℕ). u < n) limit-is (net .sound .below u (net .sound .ends v u (true→t q))))
+  unfolding chart tableNetwork networkOf
+  degree-is v = sym (count-filter (rowBit W codes) (tableBit W links v) (range (64 * W)) (λ u q. t→true (rowBit W codes u) (net .sound .ends v u (true→t q))))
 
   pub pick-is : (O : Origin) (S : State) (M : Workspace) → Holds W mark other G O S M → pickIn W links (M .marked .waiting) ≡ pick (chart G) (remaining (chart G) S)
-  unfolding pickIn remaining chart vertices networkOf waitingPlace
+  unfolding pickIn remaining chart networkOf waitingPlace
   pick-is O S M H =
       pick-same (chart (tableNetwork W links)) (chart G) degree-is (filterb (rowBit W (M .marked .waiting)) (range (64 * W)))
       ∙ ap (pick (chart G))
-      (filter-same (rowBit W (M .marked .waiting)) (λ v. rowBit W codes v && isWaiting (S .status v)) (range (64 * W))
+      (filter-ext (rowBit W (M .marked .waiting)) (λ v. rowBit W codes v && isWaiting (S .status v)) (range (64 * W))
       (λ v k. ap (λ (l : List ℕ). rowBit W l v) (H .waiting-is) ∙ row-at W (waitingPlace G S) (O .waiting) v (range-out (64 * W) k))
       ∙ sym (filter-twice (λ v. isWaiting (S .status v)) (rowBit W codes) (range (64 * W))))
 

@@ -12,7 +12,7 @@ use Rattle.lists.specs.Lists.{firstOf}
 use Rattle.lists.proofs.Tests.{true→t, and-true}
 use Rattle.lists.proofs.Members.{first-zero}
 use Rattle.graph.specs.Network.{Network, IsSound}
-use Rattle.graph.specs.Distance.{unreached, connected}
+use Rattle.graph.specs.Distance.{vertices, unreached, connected}
 use Rattle.graph.specs.Chart.{chart, ecc}
 use Rattle.graph.specs.Correct.{IsNet}
 use Rattle.graph.proofs.Connected.{connected-iff}
@@ -22,6 +22,7 @@ use Rattle.layers.proofs.Theorems.{table-depth, table-leaves, depth-is}
 use Rattle.map.specs.Memory.{Shape, places, tableWords, IsShape, networkOf}
 use Rattle.checks.specs.Sound.{soundLinks}
 use Rattle.map.specs.declared.Record.{Record}
+use Rattle.map.proofs.Theorems.{network-open-below, network-most}
 use Rattle.checks.proofs.Theorems.{sound-links-iff}
 use Rattle.search.specs.SearchCall.{searchRoom, searchRefusal, SearchLeft, searchLeft, searchGiven, searchCall, lastLayer, rowsLeft, rowsOf}
 use Rattle.search.specs.declared.Found.{Found}
@@ -66,7 +67,7 @@ pub record IsGranted (K : Shape) (rec : Record) (links : List ℕ) (hops even od
   pub hops-fit : places K ≤ hops
   pub even-fit : K .words ≤ even
   pub odd-fit : K .words ≤ odd
-  pub links-sound : soundLinks (networkOf (K .words) (rec .codes) links) (rec .number) ≡ true
+  pub links-sound : soundLinks (places K) (networkOf (K .words) (rec .codes) links) (rec .number) ≡ true
   pub joined : connected (networkOf (K .words) (rec .codes) links) ≡ true
   pub present : networkOf (K .words) (rec .codes) links .isOpen code ≡ true
 
@@ -78,7 +79,7 @@ module _ (K : Shape) (rec : Record) (links : List ℕ) (hops even odd code : ℕ
   unfolding searchRefusal
   granted z =
       let a = first-zero (not (searchRoom K (length links) hops even odd)) 0 _ z in
-      let b = first-zero (not (soundLinks G (rec .number))) 1 _ (a .1) in
+      let b = first-zero (not (soundLinks (places K) G (rec .number))) 1 _ (a .1) in
       let c = first-zero (not (connected G)) 2 _ (b .1) in
       let d = first-zero (not (G .isOpen code)) 3 [] (c .1) in
       let r = room-fits K (length links) hops even odd (not-false (searchRoom K (length links) hops even odd) (a .0)) in
@@ -87,7 +88,7 @@ module _ (K : Shape) (rec : Record) (links : List ℕ) (hops even odd code : ℕ
         hops-fit = r .1;
         even-fit = r .2;
         odd-fit = r .3;
-        links-sound = not-false (soundLinks G (rec .number)) (b .0);
+        links-sound = not-false (soundLinks (places K) G (rec .number)) (b .0);
         joined = not-false (connected G) (c .0);
         present = not-false (G .isOpen code) (d .0);
       }
@@ -98,24 +99,24 @@ module _ (K : Shape) (rec : Record) (links : List ℕ) (hops even odd code : ℕ
   unfolding searchRefusal firstOf
   refused-short e = rw e
 
-  pub refused-spoilt : searchRoom K (length links) hops even odd ≡ true → soundLinks G (rec .number) ≡ false → 2 ≡ searchRefusal K rec links hops even odd code
+  pub refused-spoilt : searchRoom K (length links) hops even odd ≡ true → soundLinks (places K) G (rec .number) ≡ false → 2 ≡ searchRefusal K rec links hops even odd code
   unfolding searchRefusal firstOf
   refused-spoilt a b = rw (a, b)
 
-  pub refused-apart : searchRoom K (length links) hops even odd ≡ true → soundLinks G (rec .number) ≡ true → connected G ≡ false → 3 ≡ searchRefusal K rec links hops even odd code
+  pub refused-apart : searchRoom K (length links) hops even odd ≡ true → soundLinks (places K) G (rec .number) ≡ true → connected G ≡ false → 3 ≡ searchRefusal K rec links hops even odd code
   unfolding searchRefusal firstOf
   refused-apart a b c = rw (a, b, c)
 
-  pub refused-absent : searchRoom K (length links) hops even odd ≡ true → soundLinks G (rec .number) ≡ true → connected G ≡ true → G .isOpen code ≡ false → 4 ≡ searchRefusal K rec links hops even odd code
+  pub refused-absent : searchRoom K (length links) hops even odd ≡ true → soundLinks (places K) G (rec .number) ≡ true → connected G ≡ true → G .isOpen code ≡ false → 4 ≡ searchRefusal K rec links hops even odd code
   unfolding searchRefusal firstOf
   refused-absent a b c d = rw (a, b, c, d)
 
-  pub refused-never : searchRoom K (length links) hops even odd ≡ true → soundLinks G (rec .number) ≡ true → connected G ≡ true → G .isOpen code ≡ true → 0 ≡ searchRefusal K rec links hops even odd code
+  pub refused-never : searchRoom K (length links) hops even odd ≡ true → soundLinks (places K) G (rec .number) ≡ true → connected G ≡ true → G .isOpen code ≡ true → 0 ≡ searchRefusal K rec links hops even odd code
   unfolding searchRefusal firstOf
   refused-never a b c d = rw (a, b, c, d)
 
 -- sound links, from the check's answer
-pub sound-by : (W : ℕ) (codes links : List ℕ) (number : ℕ) → soundLinks (networkOf W codes links) number ≡ true → IsSound (networkOf W codes links)
+pub sound-by : (W : ℕ) (codes links : List ℕ) (number : ℕ) → soundLinks (64 * W) (networkOf W codes links) number ≡ true → IsSound (networkOf W codes links)
 sound-by W codes links number e = sound-links-iff W codes links number .0 e .isSound
 
 -- ---- the call
@@ -134,11 +135,10 @@ module _ (K : Shape) (shape : IsShape K) (rec : Record) (links : List ℕ) (B : 
 
   -- a network that the call accepts
   pub accepted-net : searchRefusal K rec links (length (B .hops)) (length (B .even)) (length (B .odd)) code ≡ 0 → IsNet (networkOf (K .words) (rec .codes) links)
-  unfolding networkOf
   accepted-net z =
       let g = granted K rec links (length (B .hops)) (length (B .even)) (length (B .odd)) code z in
       let s = sound-by (K .words) (rec .codes) links (rec .number) (g .links-sound) in
-      let m : N .limit < unreached = omega (arith, shape .most) in
+      let m : length (vertices N) < unreached = omega (arith, network-most (K .words) (rec .codes) links, shape .most) in
       record { sound = s; connected = connected-iff N s m .0 (g .joined); small = m }
 
   pub accepted-call : 0 ≡ searchRefusal K rec links (length (B .hops)) (length (B .even)) (length (B .odd)) code → (e : ℕ) (hops even odd : List ℕ)
@@ -149,14 +149,17 @@ module _ (K : Shape) (shape : IsShape K) (rec : Record) (links : List ℕ) (B : 
       let g = granted K rec links (length (B .hops)) (length (B .even)) (length (B .odd)) code (sym z) in
       let o : T (N .isOpen code) = true→t (g .present) in
       let depth : e ≡ ecc (chart N) code =
-      ap (λ (x : Searched). x .depth) is ∙ table-depth N (net .sound) (net .small) code o (K .words) links limit-is links-are ∙ depth-is N net code o in
+      ap (λ (x : Searched). x .depth) is ∙ table-depth N (net .sound) (places K) inside few code o (K .words) links refl links-are ∙ depth-is N net code o in
       let left : tables hops even odd ≡ searchLeaves (K .words) N code B =
-      ap (λ (x : Searched). x .left) is ∙ table-leaves N (net .sound) (net .small) code o (K .words) links B limit-is links-are in
+      ap (λ (x : Searched). x .left) is ∙ table-leaves N (net .sound) (places K) inside few code o (K .words) links B refl links-are in
       ap₂ (λ (d : ℕ) (t : Tables). searchLeft (Reached d) t) depth left
       ∙ ap (λ (x : ℕ). searchGiven x K rec links B code) z
     where
-      limit-is : N .limit ≡ 64 * K .words
-      limit-is = refl
+      inside : (v : ℕ) → T (N .isOpen v) → v < places K
+      inside = network-open-below (K .words) (rec .codes) links
+
+      few : places K < unreached
+      few = omega (arith, shape .most)
 
       links-are : N .linked ≡ tableBit (K .words) links
       links-are = refl

@@ -4,6 +4,7 @@ use mathlib.Core.Logic.{_⊎_, inl, inr}
 use mathlib.Core.Bool.{Bool, true, false, not, _||_}
 use mathlib.Core.List.{List}
 use Prim.Native.Nat.{ℕ, _+_, _*_, _≤_, _<_}
+use native.Mathlib.Nat.{lt-of-le-of-lt}
 use native.Mathlib.Omega.{arith}
 use lib.Dec.{T, ltb}
 use lib.ListN.{length, getD}
@@ -15,12 +16,13 @@ use Rattle.lists.proofs.Fills.{fill-at}
 use Rattle.graph.specs.Network.{Network, IsSound, Walk}
 use Rattle.graph.specs.Distance.{vertices, unreached, dist, connected}
 use Rattle.graph.proofs.Walks.{append, reverse}
-use Rattle.graph.proofs.Distances.{vertices-length, dist-is, dist-reached, dist-below}
+use Rattle.graph.proofs.Distances.{dist-is, dist-reached, dist-below}
 use Rattle.graph.proofs.Connected.{connected-iff}
 use Rattle.rows.specs.Rows.{rowBit, tableBit}
 use Rattle.layers.specs.Layers.{tableNetwork, Tables, tables, Searched, searched, searchLeaves, searchTable}
 use Rattle.layers.proofs.Theorems.{table-search}
 use Rattle.map.specs.Memory.{networkOf}
+use Rattle.map.proofs.Theorems.{network-open-below, network-most}
 
 -- ---- a loop that leaves at the first failure
 
@@ -57,9 +59,14 @@ module _ (W : ℕ) (codes links : List ℕ) (positive : 0 < W) (most : W < 513) 
   abbrev G : Network
   G = networkOf W codes links
 
-  small : G .limit < unreached
-  unfolding networkOf
-  small = omega arith
+  inside : (v : ℕ) → T (G .isOpen v) → v < 64 * W
+  inside = network-open-below W codes links
+
+  few : 64 * W < unreached
+  few = omega arith
+
+  small : length (vertices G) < unreached
+  small = lt-of-le-of-lt (network-most W codes links) few
 
   -- no code is open
   pub none-open : ((v : ℕ) → 0 ≤ v → rowBit W codes v ≡ false) → true ≡ connected (networkOf W codes links)
@@ -77,7 +84,7 @@ module _ (W : ℕ) (codes links : List ℕ) (positive : 0 < W) (most : W < 513) 
       where
         reach : allb test (range (64 * W)) ≡ true → (v : ℕ) → T (G .isOpen v) → (k : ℕ) × Walk G k s v
         reach h v ov =
-            let l : v < 64 * W = sound .below v ov in
+            let l : v < 64 * W = inside v ov in
             let t = all-elim test (range (64 * W)) h (range-in (64 * W) l) in
             let r : ltb (dist G s v) unreached ≡ true = pick (or-true (not (rowBit W codes v)) (ltb (getD hops v 0) unreached) t) (t→true (G .isOpen v) ov) (is v l) in
             (dist G s v, dist-reached G sound small s (true→t o) v (ltb-true (dist G s v) unreached r) .walk)
@@ -99,7 +106,7 @@ module _ (W : ℕ) (codes links : List ℕ) (positive : 0 < W) (most : W < 513) 
             at v l (inl e) =
                 let w = connected-iff G sound small .0 h s v (true→t o) (true→t e) in
                 let d : dist G s v < length (vertices G) = dist-below G sound small s (true→t o) (dist G s v) v (dist-is G sound small s (true→t o) (w .0) v (w .1)) in
-                or-right (not (rowBit W codes v)) (ap (λ (x : ℕ). ltb x unreached) (is v l) ∙ lt-ltb (dist G s v) unreached (omega (arith, vertices-length G, small)))
+                or-right (not (rowBit W codes v)) (ap (λ (x : ℕ). ltb x unreached) (is v l) ∙ lt-ltb (dist G s v) unreached (omega (arith, small)))
 
   -- the hop table that a search over the table leaves
   pub hops-of : (s : ℕ) → rowBit W codes s ≡ true → (B : Tables) (e : ℕ) (hops even odd : List ℕ) → searched e (tables hops even odd) ≡ searchTable W links s B
@@ -107,13 +114,10 @@ module _ (W : ℕ) (codes links : List ℕ) (positive : 0 < W) (most : W < 513) 
   unfolding searchTable searchLeaves networkOf
   hops-of s o B e hops even odd is v l =
       ap (λ (x : Searched). getD (x .left .hops) v 0) is ∙ fill-at (dist (tableNetwork W links) s) (B .hops) (64 * W) v 0 l
-      ∙ ap (λ (h : ℕ → ℕ). h v) (table-search G sound small s (open-is s o) W links limit-is links-are)
+      ∙ ap (λ (h : ℕ → ℕ). h v) (table-search G sound (64 * W) inside few s (open-is s o) W links refl links-are)
     where
       open-is : (s : ℕ) → rowBit W codes s ≡ true → T (G .isOpen s)
       open-is s o = true→t o
-
-      limit-is : G .limit ≡ 64 * W
-      limit-is = refl
 
       links-are : G .linked ≡ tableBit W links
       links-are = refl

@@ -20,7 +20,6 @@ use Rattle.graph.specs.Chart.{chart, ecc}
 use Rattle.graph.specs.Correct.{IsNet}
 use Rattle.graph.specs.Refusals.{IsAbsent}
 use Rattle.graph.proofs.Walks.{walk-open}
-use Rattle.graph.proofs.Distances.{vertices-length}
 use Rattle.graph.proofs.Connected.{hop-open, hop-closed}
 use Rattle.graph.proofs.Theorems.{eccentricity-is, distance-below}
 use Rattle.rows.specs.Rows.{rowBit, encodeRow}
@@ -28,6 +27,7 @@ use Rattle.rows.proofs.Written.{row-past, row-at, row-of-table, table-zero, enc
 use Rattle.layers.specs.Layers.{depthFrom, layerBit, Tables, searchLeaves}
 use Rattle.layers.proofs.Theorems.{depth-is, layer-is}
 use Rattle.map.specs.Memory.{Shape, places, IsShape, networkOf}
+use Rattle.map.proofs.Theorems.{network-open-below}
 use Rattle.checks.proofs.Refusals.{links-tell}
 use Rattle.search.specs.SearchCall.{searchRoom, searchRefusal, SearchLeft, searchLeft, searchGiven, searchCall, lastLayer, searchNumber}
 use Rattle.search.specs.Refusals.{searchBuffers, searchConditions, SearchDemand1}
@@ -95,11 +95,7 @@ last-by W e even odd P p q = go (look (eqb (e % 2) 0))
         let n : e % 2 ≡ 1 = omega (arith, eqb-false (e % 2) 0 f) in
         subst (λ (b : Bool). P (take W (cond b even odd))) (sym f) (q (eq-eqb (e % 2) 1 n))
 
-limit-of : (W : ℕ) (codes links : List ℕ) → networkOf W codes links .limit ≡ 64 * W
-unfolding networkOf
-limit-of W codes links = refl
-
-module _ (W : ℕ) (G : Network) (net : IsNet G) (limit-is : G .limit ≡ 64 * W) (s : ℕ) (o : T (G .isOpen s)) where
+module _ (W : ℕ) (G : Network) (net : IsNet G) (inside : (v : ℕ) → T (G .isOpen v) → v < 64 * W) (s : ℕ) (o : T (G .isOpen s)) where
   -- a row written with the depots at distance k holds exactly those, codes past the row included
   holds-layer : (k : ℕ) (old : List ℕ) → k < unreached → HoldsLayer W G s k (overwrite (encodeRow W (λ x. eqb (dist G s x) k)) old)
   holds-layer k old low v = go (lt-or-ge v (64 * W))
@@ -111,7 +107,7 @@ module _ (W : ℕ) (G : Network) (net : IsNet G) (limit-is : G .limit ≡ 64 * W
       go (inl l) = layer-is G net s o W k old low v l
       go (inr l) = (
         λ t. absurd (false→not (row-past W row v l) t),
-        λ d. let b : v < G .limit = net .sound .below v (walk-open (net .sound) o (d .walk)) in absurd (lt-irrefl v (omega (arith, b, l, limit-is))),
+        λ d. let b : v < 64 * W = inside v (walk-open (net .sound) o (d .walk)) in absurd (lt-irrefl v (omega (arith, b, l))),
       )
 
   ecc-low : ecc (chart G) s < unreached
@@ -119,7 +115,7 @@ module _ (W : ℕ) (G : Network) (net : IsNet G) (limit-is : G .limit ≡ 64 * W
     where
       go : (ecc (chart G) s ≡ 0) ⊎ ((v : ℕ) × T (G .isOpen v) × IsDist G s v (ecc (chart G) s)) → ecc (chart G) s < unreached
       go (inl z) = omega (arith, z)
-      go (inr d) = omega (arith, distance-below G net s (d .0) (ecc (chart G) s) o (d .2), vertices-length G, net .small)
+      go (inr d) = omega (arith, distance-below G net s (d .0) (ecc (chart G) s) o (d .2), net .small)
 
   -- the row of the last layer's parity, and the other
   row-last : (e parity : ℕ) (old : List ℕ) → e < unreached → eqb (e % 2) parity ≡ true → HoldsLayer W G s e (overwrite (encodeRow W (layerBit (dist G s) e parity)) old)
@@ -145,7 +141,7 @@ module _ (W : ℕ) (G : Network) (net : IsNet G) (limit-is : G .limit ≡ 64 * W
       let is : layerBit (dist G s) (suc k) parity ≡ (λ v. eqb (dist G s v) k) = fun-ext (λ v. rw (q, z, m)) in
       subst (λ (f : ℕ → Bool). HoldsLayer W G s k (overwrite (encodeRow W f) old)) (sym is) (holds-layer k old (omega (arith, low)))
 
-module _ (K : Shape) (G : Network) (net : IsNet G) (limit-is : G .limit ≡ places K) (s : ℕ) (o : T (G .isOpen s)) (B : Tables)
+module _ (K : Shape) (G : Network) (net : IsNet G) (inside : (v : ℕ) → T (G .isOpen v) → v < places K) (s : ℕ) (o : T (G .isOpen s)) (B : Tables)
     (hops-fit : places K ≤ length (B .hops)) (even-fit : K .words ≤ length (B .even)) (odd-fit : K .words ≤ length (B .odd)) where
   -- what a search from s leaves, in any network that a map of this shape can hold
   pub leaves-search : IsSearch K G s B (searchLeft (Reached (ecc (chart G) s)) (searchLeaves (K .words) G s B))
@@ -154,7 +150,7 @@ module _ (K : Shape) (G : Network) (net : IsNet G) (limit-is : G .limit ≡ plac
     ecc = e;
     answer = refl;
     isEcc = eccentricity-is G net s o;
-    isHop = λ v ov. subst (λ (d : ℕ). IsDist G s v d) (sym (hop v (subst (λ (n : ℕ). v < n) limit-is (net .sound .below v ov)))) (hop-open G net s o v ov);
+    isHop = λ v ov. subst (λ (d : ℕ). IsDist G s v d) (sym (hop v (inside v ov))) (hop-open G net s o v ov);
     closed = λ v l c. hop v l ∙ hop-closed G net s o v c;
     evenLast = λ q. (last 0 (B .even) (eq-eqb (e % 2) 0 q), before 1 (B .odd) (ne-eqb (e % 2) 1 (λ p. omega (arith, p, q))));
     oddLast = λ q. (last 1 (B .odd) (eq-eqb (e % 2) 1 q), before 0 (B .even) (ne-eqb (e % 2) 0 (λ p. omega (arith, p, q))));
@@ -179,12 +175,12 @@ module _ (K : Shape) (G : Network) (net : IsNet G) (limit-is : G .limit ≡ plac
       last : (parity : ℕ) (old : List ℕ) → eqb (e % 2) parity ≡ true → HoldsLayer (K .words) G s e (overwrite (encodeRow (K .words) (bits parity)) old)
       last parity old q =
           subst (λ (d : ℕ). HoldsLayer (K .words) G s e (overwrite (encodeRow (K .words) (layerBit (dist G s) d parity)) old)) (sym (depth-is G net s o))
-          (row-last (K .words) G net limit-is s o e parity old (ecc-low (K .words) G net limit-is s o) q)
+          (row-last (K .words) G net inside s o e parity old (ecc-low (K .words) G net inside s o) q)
 
       before : (parity : ℕ) (old : List ℕ) → eqb (e % 2) parity ≡ false → HoldsBefore (K .words) G s e (overwrite (encodeRow (K .words) (bits parity)) old)
       before parity old q =
           subst (λ (d : ℕ). HoldsBefore (K .words) G s e (overwrite (encodeRow (K .words) (layerBit (dist G s) d parity)) old)) (sym (depth-is G net s o))
-          (row-before (K .words) G net limit-is s o e parity old (ecc-low (K .words) G net limit-is s o) q)
+          (row-before (K .words) G net inside s o e parity old (ecc-low (K .words) G net inside s o) q)
 
 pub search-demand2 : (K : Shape) → IsShape K → SearchDemand2 K
 unfolding searchCall searchGiven
@@ -192,5 +188,5 @@ search-demand2 K shape rec links B code z =
     let G = networkOf (K .words) (rec .codes) links in
     let g = granted K rec links (length (B .hops)) (length (B .even)) (length (B .odd)) code z in
     subst (λ (left : SearchLeft). IsSearch K G code B left) (ap (λ (k : ℕ). searchGiven k K rec links B code) (sym z))
-    (leaves-search K G (accepted-net K shape rec links B code z) (limit-of (K .words) (rec .codes) links) code (true→t (g .present))
+    (leaves-search K G (accepted-net K shape rec links B code z) (network-open-below (K .words) (rec .codes) links) code (true→t (g .present))
     B (g .hops-fit) (g .even-fit) (g .odd-fit))

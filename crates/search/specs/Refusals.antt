@@ -22,7 +22,7 @@ searchBuffers K links B =
 abbrev pub searchConditions : Shape → Record → List ℕ → Tables → ℕ → List (Type 0 × ℕ)
 searchConditions K rec links B code =
     let G = networkOf (K .words) (rec .codes) links in
-    (IsShort (searchBuffers K links B), 1) ∷ linkConditions G (rec .number) ++ (IsAbsent G code, 4) ∷ []
+    (IsShort (searchBuffers K links B), 1) ∷ linkConditions (places K) G (rec .number) ++ (IsAbsent G code, 4) ∷ []
 
 -- DEMAND 1 of a program whose search call is `step`: refused with the first that holds, and then nothing changes
 abbrev pub SearchDemand1 : Shape → (Record → List ℕ → Tables → ℕ → SearchLeft) → Type 0

@@ -25,7 +25,7 @@ searchRefusal K rec links hops even odd code =
     let G = networkOf (K .words) (rec .codes) links in
     firstOf
     ((not (searchRoom K (length links) hops even odd), 1)
-    ∷ (not (soundLinks G (rec .number)), 2)
+    ∷ (not (soundLinks (places K) G (rec .number)), 2)
     ∷ (not (connected G), 3)
     ∷ (not (G .isOpen code), 4)
     ∷ [])

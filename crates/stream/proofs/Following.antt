@@ -13,7 +13,7 @@ use Rattle.lists.proofs.Counts.{count-filter, count-none, sum-filter, sum-ext}
 use Rattle.graph.specs.Network.{Network}
 use Rattle.graph.specs.Distance.{vertices}
 use Rattle.graph.specs.Chart.{diameter, farthest, countPairs}
-use Rattle.graph.specs.Opening.{Notice, emptyNetwork, addDepot, noticeFaults}
+use Rattle.graph.specs.Opening.{Notice, emptyNetwork, withDepot, openFaults}
 use Rattle.graph.proofs.Theorems.{farthest-is}
 use Rattle.map.specs.Memory.{base, places, tableWords}
 use Rattle.map.specs.Empty.{zeros, emptyRecord}
@@ -43,26 +43,23 @@ use Rattle.map.proofs.Theorems.{base-shape}
 -- ---- the number of farthest pairs is that of pairs of open depots
 
 pub pairs-counted : (G : Network) → IsHeld base G → countPairs (range (places base)) (farthest G) ≡ countPairs (vertices G) (farthest G)
-unfolding countPairs vertices
+unfolding countPairs
 pairs-counted G held =
     let all = range (places base) in
     sym (
-    ap (λ (n : ℕ). countPairs′ n) (held .limit)
+    ap (λ (vs : List ℕ). sumOf (λ u. countb (λ v. farthest G u v) vs) vs) (held .depots)
     ∙ sum-filter (G .isOpen) (λ u. countb (λ v. farthest G u v) (filterb (G .isOpen) all)) all
     (λ u closed. count-none (λ v. farthest G u v) (filterb (G .isOpen) all) (λ v m. not→false (farthest G u v) (λ t. clash (t→true (G .isOpen u) (farthest-is G (held .net) u v .0 t .first)) closed)))
     ∙ sum-ext (λ u. countb (λ v. farthest G u v) (filterb (G .isOpen) all)) (λ u. countb (λ v. farthest G u v) all) all
     (λ u. count-filter (G .isOpen) (λ v. farthest G u v) all (λ v t. t→true (G .isOpen v) (farthest-is G (held .net) u v .0 (true→t t) .second)))
     )
-  where
-    countPairs′ : ℕ → ℕ
-    countPairs′ n = sumOf (λ u. countb (λ v. farthest G u v) (filterb (G .isOpen) (range n))) (filterb (G .isOpen) (range n))
 
 -- ---- the empty map
 
-pub begun-says : (links pairs : List ℕ) → Says base (emptyNetwork (places base)) (emptyRecord (base .words)) (overwrite (zeros (tableWords base)) links) (overwrite (zeros (tableWords base)) pairs)
+pub begun-says : (links pairs : List ℕ) → Says base emptyNetwork (emptyRecord (base .words)) (overwrite (zeros (tableWords base)) links) (overwrite (zeros (tableWords base)) pairs)
 unfolding emptyMemory memoryFor writeMap
 begun-says links pairs =
-    let E = emptyNetwork (places base) in
+    let E = emptyNetwork in
     let old : Memory = record { links = links; pairs = pairs; rec = memoryFor base E .rec } in
     let is : memoryFor base E ≡ emptyMemory base = sym (empty-memory base base-shape) in
     subst (λ (M : Memory). Says base E (M .rec) (overwrite (M .links) links) (overwrite (M .pairs) pairs)) is
@@ -82,11 +79,11 @@ module _ (G : Network) (held : IsHeld base G) (rec : Record) (links : List ℕ) 
   -- ---- an opening
 
   module _ (o : Notice) (low : o .code < places base) where
-    refusal-is : openRefusal base rec links (B .pairs) (sizesOf links B) o ≡ firstOf (noticeFaults G o)
+    refusal-is : openRefusal base rec links (B .pairs) (sizesOf links B) o ≡ firstOf (openFaults G o)
     unfolding firstOf
     refusal-is =
         refused-alike base base-shape G held (diameter G) (farthest G) (figures-are-sound base base-shape G held) rec links (B .pairs) (sizesOf links B) o (λ l. says)
-        ∙ ap (λ (b : Bool). firstOf ((not b, 1) ∷ noticeFaults G o)) long
+        ∙ ap (λ (b : Bool). firstOf ((not b, 1) ∷ openFaults G o)) long
 
     -- what the opening with refusal k leaves, against the network's line
     pub record IsOpening (x : OpenLeft) (y : Followed) : Type 0 where
@@ -96,10 +93,10 @@ module _ (G : Network) (held : IsHeld base G) (rec : Record) (links : List ℕ) 
       pub isSaid : Says base (y .network) (x .after) (x .links) (x .lent .pairs)
 
     module _ (ok : openRefusal base rec links (B .pairs) (sizesOf links B) o ≡ 0) where
-      next-is : networkAfter base rec links o ≡ addDepot G (o .code) (o .neighbours)
-      next-is = after-is base rec links o ∙ ap (λ (N : Network). addDepot N (o .code) (o .neighbours)) (says .network)
+      next-is : networkAfter base rec links o ≡ withDepot G o
+      next-is = after-is base rec links o ∙ ap (λ (N : Network). withDepot N o) (says .network)
 
-      searches-are : openGiven zero base rec links B o .report .searches ≡ searchesBy zero G (addDepot G (o .code) (o .neighbours)) o
+      searches-are : openGiven zero base rec links B o .report .searches ≡ searchesBy zero G (withDepot G o) o
       unfolding searchesBy openedBy
       searches-are =
           given-searches base rec links B o
@@ -130,9 +127,9 @@ module _ (G : Network) (held : IsHeld base G) (rec : Record) (links : List ℕ) 
     opening-by zero ok = accepted ok
     opening-by (suc k) ko = refused k
 
-    opening-is : IsOpening (openCall base rec links B o) (followBy (firstOf (noticeFaults G o)) G o)
+    opening-is : IsOpening (openCall base rec links B o) (followBy (firstOf (openFaults G o)) G o)
     unfolding openCall
-    opening-is = subst (λ (k : ℕ). IsOpening (openGiven k base rec links B o) (followBy (firstOf (noticeFaults G o)) G o)) (sym refusal-is) (opening-by (firstOf (noticeFaults G o)) refusal-is)
+    opening-is = subst (λ (k : ℕ). IsOpening (openGiven k base rec links B o) (followBy (firstOf (openFaults G o)) G o)) (sym refusal-is) (opening-by (firstOf (openFaults G o)) refusal-is)
 
   -- ---- a line
 

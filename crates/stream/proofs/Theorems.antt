@@ -31,7 +31,7 @@ use Rattle.lists.proofs.Appends.{append-none}
 -- ---- the beginning
 
 atStart : Place
-atStart = record { lines = 0; network = emptyNetwork (places base); begun = [] }
+atStart = record { lines = 0; network = emptyNetwork; begun = [] }
 
 whole-rest : (input : List ℕ) → restFrom atStart input ≡ transcript input
 unfolding atStart restFrom transcript
@@ -43,9 +43,9 @@ begun-on s is = record {
   lines = ap (λ (p : Progress). p .lines) (is .progressIs);
   isHeld = empty-held base base-shape;
   isSaid =
-      subst (λ (p : Progress). Says base (emptyNetwork (places base)) (p .rec) (s .links) (s .lent .pairs)) (sym (is .progressIs))
-      (subst (λ (l : List ℕ). Says base (emptyNetwork (places base)) (beginCall (is .links) (is .pairs) .progress .rec) l (s .lent .pairs)) (sym (is .linksAre))
-      (subst (λ (l : List ℕ). Says base (emptyNetwork (places base)) (beginCall (is .links) (is .pairs) .progress .rec) (beginCall (is .links) (is .pairs) .links) l) (sym (is .pairsAre)) (begun-says (is .links) (is .pairs))));
+      subst (λ (p : Progress). Says base emptyNetwork (p .rec) (s .links) (s .lent .pairs)) (sym (is .progressIs))
+      (subst (λ (l : List ℕ). Says base emptyNetwork (beginCall (is .links) (is .pairs) .progress .rec) l (s .lent .pairs)) (sym (is .linksAre))
+      (subst (λ (l : List ℕ). Says base emptyNetwork (beginCall (is .links) (is .pairs) .progress .rec) (beginCall (is .links) (is .pairs) .links) l) (sym (is .pairsAre)) (begun-says (is .links) (is .pairs))));
   long = is .long;
   holds = record {
     text = ap (λ (p : Progress). take (p .held) (s .line)) (is .progressIs);
@@ -115,8 +115,8 @@ pub begun-ready : (links₀ pairs₀ : List ℕ) {p : Progress} {links : List �
 unfolding beginCall
 begun-ready links₀ pairs₀ {p} {links} {B} {line} e l q h b s x y room = record {
   free =
-      says-free (emptyNetwork (places base)) (empty-held base base-shape) (p .rec) links B
-      (subst (λ (z : StreamBegun). Says base (emptyNetwork (places base)) (z .progress .rec) (z .links) (z .pairs)) (sym e) (begun-says links₀ pairs₀))
+      says-free emptyNetwork (empty-held base base-shape) (p .rec) links B
+      (subst (λ (z : StreamBegun). Says base emptyNetwork (z .progress .rec) (z .links) (z .pairs)) (sym e) (begun-says links₀ pairs₀))
       (long-by links B l q h b s x y);
   room = room;
   held = subst (λ (z : StreamBegun). z .progress .held ≤ lineLimit) (sym e) zero-le;

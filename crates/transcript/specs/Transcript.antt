@@ -10,7 +10,7 @@ use Rattle.lists.specs.Lists.{firstOf}
 use Rattle.graph.specs.Network.{Network}
 use Rattle.graph.specs.Distance.{vertices}
 use Rattle.graph.specs.Chart.{chart, diameter, farthest, countPairs}
-use Rattle.graph.specs.Opening.{Notice, emptyNetwork, noticeFaults, opening}
+use Rattle.graph.specs.Opening.{Notice, emptyNetwork, openFaults, opening}
 use Rattle.outcome.specs.Numbers.{garbledLine}
 use Rattle.outcome.specs.declared.Outcome.{Outcome}
 use Rattle.outcome.specs.declared.Outcome.the-variants.{Refused}
@@ -61,15 +61,15 @@ followBy k G o = let H = plainNext k G o in record { outcome = plainAnswer k G H
 
 -- a line as the reader takes it: to the reader a blank line, an overlong one and a last stretch without 0A are garbled (rule 10.3)
 unfoldable pub followLine : Network → Line → Followed
-unfolding noticeIn followBy firstOf noticeFaults
+unfolding noticeIn followBy firstOf openFaults
 followLine G garbled = record { outcome = Refused garbledLine; network = G; searches = 0 }
-followLine G (frame f used) = let o = noticeIn f in followBy (firstOf (noticeFaults G o)) G o
+followLine G (frame f used) = let o = noticeIn f in followBy (firstOf (openFaults G o)) G o
 
 -- ---- the output
 
 -- the report of line n (rule 10.1)
 unfoldable pub reportOn : ℕ → Followed → ReportFields
-unfolding vertices diameter farthest countPairs
+unfolding diameter farthest countPairs
 reportOn n x =
     let H = x .network in
     record {
@@ -90,4 +90,4 @@ reportsFrom n G (l ∷ ls) = let x = followLine G (readLine l) in reportLine (re
 -- the whole output of an input, from an empty map
 unfoldable pub transcript : List ℕ → List ℕ
 unfolding reportsFrom emptyNetwork linesOf
-transcript input = reportsFrom 0 (emptyNetwork 256) (take linesLimit (linesOf input))
+transcript input = reportsFrom 0 emptyNetwork (take linesLimit (linesOf input))

@@ -9,7 +9,7 @@ use Rattle.lists.specs.Lists.{overwrite, firstOf}
 use Rattle.lists.proofs.Tests.{and-true}
 use Rattle.lists.proofs.Members.{first-zero}
 use Rattle.graph.specs.Distance.{connected}
-use Rattle.graph.specs.Opening.{Notice, noticeFaults}
+use Rattle.graph.specs.Opening.{Notice, openFaults}
 use Rattle.rows.specs.Rows.{tableBit}
 use Rattle.layers.specs.Layers.{Tables}
 use Rattle.map.specs.Memory.{base, networkOf}
@@ -172,7 +172,7 @@ module _ (l links : List ℕ) (B : Lent) (o : Notice) (old : ℕ) where
       ((not (longEnough base (sizesOf links B)), 1)
       ∷ (not (t && u), 2)
       ∷ (not (connected (networkOf 4 (take 4 l) links)), 3)
-      ∷ noticeFaults (networkOf 4 (take 4 l) links) o))
+      ∷ openFaults (networkOf 4 (take 4 l) links) o))
       (links-clamp (take 4 l) links (getD l 4 0))
       (figures-clamp (take 4 l) links (tableBit 4 (B .pairs)) (getD l 5 0) (getD l 6 0))
 
@@ -183,8 +183,8 @@ module _ (l links : List ℕ) (B : Lent) (o : Notice) (old : ℕ) where
       let N = networkOf 4 (take 4 l) links in
       let P = tableBit 4 (B .pairs) in
       let a = first-zero (not (longEnough base (sizesOf links B))) 0 _ e in
-      let b = first-zero (not (soundLinks N (getD l 4 0) && soundFigures N P (getD l 5 0) (getD l 6 0))) 1 _ (a .1) in
-      let c = and-true (soundLinks N (getD l 4 0)) (soundFigures N P (getD l 5 0) (getD l 6 0)) (not-false _ (b .0)) in
+      let b = first-zero (not (soundLinks 256 N (getD l 4 0) && soundFigures 256 N P (getD l 5 0) (getD l 6 0))) 1 _ (a .1) in
+      let c = and-true (soundLinks 256 N (getD l 4 0)) (soundFigures 256 N P (getD l 5 0) (getD l 6 0)) (not-false _ (b .0)) in
       let f = figures-fit (take 4 l) links P (getD l 5 0) (getD l 6 0) (c .1) in
       rw (number-fits (take 4 l) links (getD l 4 0) (c .0), f .0, f .1)
 

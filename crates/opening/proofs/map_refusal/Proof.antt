@@ -40,7 +40,7 @@ long c =
 
 sound : (c : tie.Else2) →
     let s : tie.Start = search in
-    soundLinks (networkOf 4 (s .args .rec .codes) (s .args .links .now)) (s .args .rec .number) ≡ true
+    soundLinks 256 (networkOf 4 (s .args .rec .codes) (s .args .links .now)) (s .args .rec .number) ≡ true
 sound c =
     let after-links-are-sound : tie.After-links-are-sound = search in
     sym (after-links-are-sound .links-are-sound .ensures) ∙ not-false _ (c .if2 .left)
@@ -48,7 +48,7 @@ sound c =
 figured : (c : tie.Else3) →
     let s : tie.Start = search in
     let G = networkOf 4 (s .args .rec .codes) (s .args .links .now) in
-    soundFigures G (tableBit 4 (s .args .pairs .now)) (s .args .rec .chain) (s .args .rec .count) ≡ true
+    soundFigures 256 G (tableBit 4 (s .args .pairs .now)) (s .args .rec .chain) (s .args .rec .count) ≡ true
 figured c =
     let after-figures-are-sound : tie.After-figures-are-sound = search in
     figures-any-links 4 _ _ [] _ _ _ ∙ sym (after-figures-are-sound .figures-are-sound .ensures) ∙ not-false _ (c .if3 .left)
