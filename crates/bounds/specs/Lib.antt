@@ -1,4 +1,4 @@
--- Bounds, marks and the remaining depots, and the next reference. Nobody has to believe this file.
+-- Bounds and marks of the remaining depots. Nobody has to believe this file.
 pub mod Bounds
 -- The marks of a call that searched from one depot alone. Nobody has to believe this file.
 pub mod Once

@@ -4,7 +4,8 @@
 use Prim.Native.Nat.{ℕ}
 use denote.Ref.{now}
 use Rattle.layers.specs.Slices.{Slice, Moments}
-use Rattle.bounds.specs.Bounds.{Marks, marks, waitingOf}
+use Rattle.bounds.specs.Bounds.{Marks, marks}
+use Rattle.ranks.specs.Ranks.{waitingOf}
 
 -- ---- the marks of W words: bounds, skips, ranks
 

@@ -18,7 +18,8 @@ use Rattle.graph.specs.Distance.{connected}
 use Rattle.graph.specs.Chart.{Pairs, countPairs}
 use Rattle.rows.specs.Rows.{tableBit}
 use Rattle.map.specs.Memory.{base, networkOf}
-use Rattle.checks.specs.Sound.{allSet, soundLink, soundLinks, soundPair, soundFigures}
+use Rattle.checks.specs.Sound.{allSet, soundLinks, soundFigures}
+use Rattle.map.specs.Bits.{soundLink, soundPair}
 use Rattle.pairs.proofs.PairCounts.{pairs-few}
 use Rattle.rounds.specs.Sizes.{Sizes, longEnough}
 use Rattle.opening.specs.Steps.{mapRefusal}

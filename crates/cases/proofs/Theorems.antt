@@ -30,8 +30,8 @@ use Rattle.history.specs.History.{Call}
 use Rattle.history.specs.Demand3.{IsCall, AreCalls}
 use Rattle.opening.proofs.Memories.{network-path, network-read}
 use Rattle.opening.proofs.Empties.{empty-held, none-diameter, none-farthest, empty-memory}
-use Rattle.notice.specs.Hex.{isDigit, digitValue}
-use Rattle.notice.specs.Lines.{endOf, spellsFrame, isFrame, bytesOf, readHead}
+use Rattle.hexadecimal.specs.Hex.{isDigit, digitValue, bytesOf}
+use Rattle.notice.specs.Lines.{endOf, spellsFrame, isFrame, readHead}
 use Rattle.report.specs.Decimal.{spell, decimal}
 use Rattle.report.specs.Line.{outcomeText, field, figuresText}
 use Rattle.transcript.specs.Transcript.{transcript}

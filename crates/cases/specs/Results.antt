@@ -18,10 +18,9 @@ use Rattle.rounds.specs.Leaves.{Lent}
 use Rattle.rounds.specs.Sizes.{sizesOf, longEnough}
 use Rattle.reckon.specs.ReckonCall.{reckoningNumber, searchesOf, ReckonLeft}
 use Rattle.outcome.specs.Outcome as Outcome
-use Rattle.opening.specs.OpenCall.{OpenLeft}
+use Rattle.opening.specs.OpenCall.{OpenLeft, Step}
 use Rattle.opening.specs.Memory.{Memory}
 use Rattle.history.specs.History.{Call, callStep, memoryAfter, feedOf}
-use Rattle.opening.specs.OpenCall.{Step}
 
 -- the pairs whose bits stand in a pair table
 unfoldable pub pairsIn : List ℕ → List (ℕ × ℕ)

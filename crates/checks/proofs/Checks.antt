@@ -11,7 +11,8 @@ use Rattle.rows.specs.Rows.{rowBit, tableBit}
 use Rattle.rows.proofs.Written.{table-zero}
 use Rattle.graph.specs.Chart.{countPairs}
 use Rattle.map.specs.Memory.{networkOf}
-use Rattle.checks.specs.Sound.{allSet, soundLink, soundLinks, soundPair, soundFigures}
+use Rattle.checks.specs.Sound.{allSet, soundLinks, soundFigures}
+use Rattle.map.specs.Bits.{soundLink, soundPair}
 
 -- ---- links
 

@@ -10,7 +10,7 @@ use native.Mathlib.Omega.{arith}
 use lib.Dec.{eqb}
 use lib.ListN.{getD}
 use borrow.Author.Tests.{ne-eqb}
-use Rattle.lists.proofs.Tests.{clash, lt-or-ge, eq-or-ne, and-true}
+use Rattle.lists.proofs.Tests.{clash, lt-or-ge, eq-or-ne, and-true, test-failed, test-passed}
 use Rattle.words.specs.Bits.{bit}
 use Rattle.words.specs.Least.{IsLeast, WithoutLeast}
 use Rattle.words.proofs.Bits.{bit-of-zero, bit-wordOf}
@@ -18,7 +18,6 @@ use Rattle.rows.specs.Rows.{tableBit}
 use Rattle.rows.proofs.Places.{row-fits}
 use Rattle.rows.proofs.Written.{table-word}
 use Rattle.checks.specs.Sound.{allSet}
-use Rattle.lists.proofs.Tests.{test-failed, test-passed}
 use Rattle.checks.proofs.Sets.{all-set-intro, all-set-fault}
 
 -- ---- the invariants

@@ -14,7 +14,8 @@ use Rattle.rows.specs.Rows.{tableBit}
 use Rattle.graph.specs.Network.{Network}
 use Rattle.graph.specs.Chart.{Pairs, countPairs}
 use Rattle.map.specs.Memory.{networkOf}
-use Rattle.checks.specs.Sound.{allSet, soundLink, soundLinks, soundPair, soundFigures, AreLinksSound, AreFiguresSound}
+use Rattle.checks.specs.Sound.{allSet, soundLinks, soundFigures, AreLinksSound, AreFiguresSound}
+use Rattle.map.specs.Bits.{soundLink, soundPair}
 use Rattle.map.specs.Empty.{EmptyLeft, IsEmpty}
 use Rattle.lists.proofs.Ranges.{sum-none}
 use Rattle.checks.proofs.Sets.{all-set-intro, all-set-elim}

@@ -7,26 +7,10 @@ ghost use Rattle.lists.specs.Lists.{range};
 ghost use Rattle.rows.specs.Rows.{tableBit};
 ghost use Rattle.graph.specs.Chart.{countPairs};
 ghost use Rattle.map.specs.Memory.{networkOf};
-ghost use Rattle.checks.specs.Sound.{IsLent, soundLink, soundLinks, soundPair, soundFigures};
+ghost use Rattle.map.specs.Bits.{IsLent};
+ghost use Rattle.checks.specs.Sound.{soundLinks, soundFigures};
 
 // ---- sound links
-
-// Whether a bit v of row u may stand: u and v are open and differ, and row v has bit u.
-fn link_is_sound(links: &[u64], codes: &[u64], words: usize, u: usize, v: usize) -> bool
-    requires { ⌜ IsLent words (now links) (now codes) × (u < 64 * words) × (v < 64 * words) ⌝ }
-    ensures { λ r. ⌜ r ≡ soundLink (networkOf words (now (codes .entry)) (now (links .entry))) u v ⌝ }
-{
-    if !map::is_open(codes, words, u) {
-        return false;
-    }
-    if !map::is_open(codes, words, v) {
-        return false;
-    }
-    if u == v {
-        return false;
-    }
-    rows::row_test(links, words, v, u)
-}
 
 // Whether links and number open are sound. Only set bits are walked, and the walk ends at the first faulty one.
 pub fn links_are_sound(links: &[u64], codes: &[u64], words: usize, number: u16) -> bool
@@ -44,7 +28,7 @@ pub fn links_are_sound(links: &[u64], codes: &[u64], words: usize, number: u16) 
             let mut x = links[words * u + w];
             while x != 0 {
                 let v = 64 * w + words::least(x);
-                if !link_is_sound(links, codes, words, u, v) {
+                if !map::link_is_sound(links, codes, words, u, v) {
                     fine = false;
                     break 'rows;
                 }
@@ -58,20 +42,6 @@ pub fn links_are_sound(links: &[u64], codes: &[u64], words: usize, number: u16) 
 }
 
 // ---- sound figures
-
-// Whether bit `high` of row `low` of the pair table may stand: low < high, and both are open.
-fn pair_is_sound(codes: &[u64], words: usize, low: usize, high: usize) -> bool
-    requires { ⌜ (words ≤ length (now codes)) × (low < 64 * words) × (high < 64 * words) ⌝ }
-    ensures { λ r. ⌜ r ≡ soundPair (networkOf words (now (codes .entry)) []) low high ⌝ }
-{
-    if high <= low {
-        return false;
-    }
-    if !map::is_open(codes, words, low) {
-        return false;
-    }
-    map::is_open(codes, words, high)
-}
 
 // The ones of the pair table, row by row.
 fn count_pairs(pairs: &[u64], words: usize) -> usize
@@ -106,7 +76,7 @@ pub fn figures_are_sound(pairs: &[u64], codes: &[u64], words: usize, chain: u16,
             let mut x = pairs[words * low + w];
             while x != 0 {
                 let high = 64 * w + words::least(x);
-                if !pair_is_sound(codes, words, low, high) {
+                if !map::pair_is_sound(codes, words, low, high) {
                     paired = false;
                     break 'rows;
                 }

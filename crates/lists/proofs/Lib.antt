@@ -18,3 +18,7 @@ pub mod Buffers
 pub mod Appends
 -- tests that decide conditions, and the first that holds
 pub mod Conditions
+-- a list written over a buffer element by element
+pub mod Copies
+-- loops that an element decides
+pub mod Scans

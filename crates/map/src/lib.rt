@@ -1,9 +1,11 @@
-// The record of one map, and emptying a map.
+// The record of one map, the tests of a bit of its tables, and emptying a map.
+ghost use mathlib.Core.List.{[]};
 ghost use mathlib.Core.Path.{_≡_};
 ghost use Prim.Native.Nat.{_*_, _<_, _≤_};
 ghost use lib.ListN.{length};
 ghost use Rattle.rows.specs.Rows.{rowBit};
-ghost use Rattle.map.specs.Memory.{base};
+ghost use Rattle.map.specs.Memory.{base, networkOf};
+ghost use Rattle.map.specs.Bits.{IsLent, soundLink, soundPair};
 ghost use Rattle.map.specs.Empty.{emptyLeft, emptyCall};
 
 // Whether v is open. The open set is lent as row 0 of a table.
@@ -12,6 +14,39 @@ pub fn is_open(codes: &[u64], words: usize, v: usize) -> bool
     ensures { λ r. ⌜ r ≡ rowBit words (now (codes .entry)) v ⌝ }
 {
     rows::row_test(codes, words, 0, v)
+}
+
+// ---- whether a bit may stand
+
+// Whether a bit v of row u may stand: u and v are open and differ, and row v has bit u.
+pub fn link_is_sound(links: &[u64], codes: &[u64], words: usize, u: usize, v: usize) -> bool
+    requires { ⌜ IsLent words (now links) (now codes) × (u < 64 * words) × (v < 64 * words) ⌝ }
+    ensures { λ r. ⌜ r ≡ soundLink (networkOf words (now (codes .entry)) (now (links .entry))) u v ⌝ }
+{
+    if !is_open(codes, words, u) {
+        return false;
+    }
+    if !is_open(codes, words, v) {
+        return false;
+    }
+    if u == v {
+        return false;
+    }
+    rows::row_test(links, words, v, u)
+}
+
+// Whether bit `high` of row `low` of the pair table may stand: low < high, and both are open.
+pub fn pair_is_sound(codes: &[u64], words: usize, low: usize, high: usize) -> bool
+    requires { ⌜ (words ≤ length (now codes)) × (low < 64 * words) × (high < 64 * words) ⌝ }
+    ensures { λ r. ⌜ r ≡ soundPair (networkOf words (now (codes .entry)) []) low high ⌝ }
+{
+    if high <= low {
+        return false;
+    }
+    if !is_open(codes, words, low) {
+        return false;
+    }
+    is_open(codes, words, high)
 }
 
 // ---- emptying

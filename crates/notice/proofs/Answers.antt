@@ -10,11 +10,12 @@ use lib.Seq.{length-take-le}
 use borrow.Author.Tests.{lt-ltb, le-ltb}
 use Rattle.outcome.specs.Numbers.{shortBuffer, garbledLine}
 use Rattle.lists.specs.Lists.{overwrite}
-use Rattle.notice.specs.Lines.{lineLimit, lineEnd, isFrame, digitsOf, lineOf, bytesOf, endOf, spellsFrame, readHead, readLine}
+use Rattle.notice.specs.Lines.{lineLimit, lineEnd, isFrame, lineOf, endOf, spellsFrame, readHead, readLine}
+use Rattle.hexadecimal.specs.Hex.{digitsOf, bytesOf}
 use Rattle.notice.specs.Calls.{frameLimit, lineDone, lineRefused, lineLeft, readInto, readCall, writeCall}
-use Rattle.notice.proofs.Copies.{overwrite-snoc}
-use Rattle.notice.proofs.Spelling.{length-digits, length-line, length-bytes}
-use Rattle.notice.proofs.Ends.{end-le}
+use Rattle.lists.proofs.Copies.{overwrite-snoc}
+use Rattle.hexadecimal.proofs.Spelling.{length-digits, length-bytes}
+use Rattle.notice.proofs.Ends.{length-line, end-le}
 use Rattle.notice.proofs.Tests.{and-none}
 
 -- ---- the reader

@@ -1,41 +1,20 @@
--- Loops that go through a list until an element decides, and where a line ends. Assumes nothing.
-use mathlib.Core.Path.{_≡_, refl, ap}
+-- Where a line ends, and how long it is. Assumes nothing.
+use mathlib.Core.Path.{_≡_, refl, ap, _∙_}
 use mathlib.Core.Bool.{Bool, true, false, cond}
 use mathlib.Core.List.{List, [], _∷_, _++_}
-use Prim.Native.Nat.{ℕ, zero, suc, _+_, _≤_, _<_, zero-le}
+use Prim.Native.Nat.{ℕ, suc, _+_, _≤_, _<_, zero-le, _*_}
 use native.Mathlib.Numerals.{add-one}
 use native.Mathlib.Omega.{arith}
 use lib.Dec.{eqb}
-use lib.ListN.{length, getD, drop, drop-of-length-le}
+use lib.ListN.{length, getD, drop, drop-of-length-le, length-append}
 use lib.Seq.{drop-cons}
 use borrow.Author.Tests.{eq-eqb, ne-eqb, eqb-true}
 use Rattle.lists.specs.Lists.{allb}
 use Rattle.lists.proofs.Tests.{and-true}
-use Rattle.notice.specs.Hex.{isDigit}
-use Rattle.notice.specs.Lines.{lineEnd, endOf}
-use Rattle.notice.proofs.Digits.{digit-no-end}
-
--- ---- the loops that go through a list until an element decides: what is left decides as the whole does
-
--- every element passes
-pub all-more {ℓ} : {A : Type ℓ} (p : A → Bool) (s : List A) (i : ℕ) (x : A) → i < length s → p (getD s i x) ≡ true → allb p (drop i s) ≡ allb p (drop (i + 1) s)
-unfolding allb
-all-more p s i x h e = rw (add-one, drop-cons s i x h, e)
-
-pub all-fault {ℓ} : {A : Type ℓ} (p : A → Bool) (s : List A) (i : ℕ) (x : A) → i < length s → p (getD s i x) ≡ false → allb p (drop i s) ≡ false
-unfolding allb
-all-fault p s i x h e = rw (drop-cons s i x h, e)
-
-pub all-out {ℓ} : {A : Type ℓ} (p : A → Bool) (s : List A) (i : ℕ) → length s ≤ i → allb p (drop i s) ≡ true
-unfolding allb
-all-out p s i h = rw (drop-of-length-le s h)
-
--- of a list whose elements all pass, each does
-pub all-at {ℓ} : {A : Type ℓ} (p : A → Bool) (s : List A) (i : ℕ) (x : A) → i < length s → allb p s ≡ true → p (getD s i x) ≡ true
-unfolding allb
-all-at p [] i x h e = absurd (omega arith)
-all-at p (y ∷ ys) zero x h e = and-true (p y) (allb p ys) e .0
-all-at p (y ∷ ys) (suc i) x h e = all-at p ys i x (omega arith) (and-true (p y) (allb p ys) e .1)
+use Rattle.hexadecimal.specs.Hex.{isDigit, digitsOf}
+use Rattle.notice.specs.Lines.{lineEnd, endOf, lineOf}
+use Rattle.hexadecimal.proofs.Digits.{digit-no-end}
+use Rattle.hexadecimal.proofs.Spelling.{length-digits}
 
 -- the end is further on, is here, or is none
 pub end-more : (s : List ℕ) (i : ℕ) → i < length s → (getD s i 0 ≡ lineEnd → ⊥) → i + endOf (drop i s) ≡ i + 1 + endOf (drop (i + 1) s)
@@ -77,3 +56,7 @@ end-digits [] rest h = refl
 end-digits (d ∷ ds) rest h =
     let p = and-true (isDigit d) (allb isDigit ds) h in
     rw (digit-no-end d (p .0)) (ap suc (end-digits ds rest (p .1)))
+
+pub length-line : (f : List ℕ) → length (lineOf f) ≡ 2 * length f + 1
+unfolding lineOf
+length-line f = length-append (digitsOf f) (lineEnd ∷ []) ∙ ap (λ (n : ℕ). n + 1) (length-digits f)

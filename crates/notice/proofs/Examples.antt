@@ -3,8 +3,8 @@ use mathlib.Core.Path.{_≡_, refl}
 use mathlib.Core.List.{List, [], _∷_, _++_}
 use Prim.Native.Nat.{ℕ}
 use Rattle.lists.specs.Lists.{allb}
-use Rattle.notice.specs.Hex.{hexDigit, isDigit, digitValue}
-use Rattle.notice.specs.Lines.{isFrame, digitsOf, lineOf, bytesOf, endOf, spellsFrame, garbled, frame, readHead, readLine}
+use Rattle.hexadecimal.specs.Hex.{hexDigit, isDigit, digitValue, digitsOf, bytesOf}
+use Rattle.notice.specs.Lines.{isFrame, lineOf, endOf, spellsFrame, garbled, frame, readHead, readLine}
 
 -- the frame 01 05 03 00 02 04, and `010503000204` with its ending
 abbrev opening : List ℕ

@@ -1,10 +1,4 @@
--- A list written over a buffer element by element.
-pub mod Copies
--- The sixteen digits.
-pub mod Digits
--- Bytes to digits and back.
-pub mod Spelling
--- Where a line ends, and loops that an element decides.
+-- Where a line ends.
 pub mod Ends
 -- The tests of a frame, and of digits that spell one.
 pub mod Tests

@@ -1,17 +1,17 @@
 -- The tests by which the code tells a frame, and digits that spell one. Assumes nothing.
-use mathlib.Core.Path.{_≡_, refl, sym}
+use mathlib.Core.Path.{_≡_, refl}
 use mathlib.Core.Bool.{Bool, true, false, _&&_}
 use mathlib.Core.List.{List}
-use Prim.Native.Nat.{ℕ, _+_, _*_, _%_, _<_}
+use Prim.Native.Nat.{ℕ, _+_, _%_, _<_}
 use native.Mathlib.Omega.{arith}
 use lib.Dec.{eqb}
 use lib.ListN.{length, getD}
 use borrow.Author.Tests.{eq-eqb, ne-eqb, eqb-true}
 use Rattle.lists.proofs.Tests.{and-true}
 use Rattle.lists.specs.Lists.{allb}
-use Rattle.notice.specs.Hex.{isDigit, digitValue}
-use Rattle.notice.specs.Lines.{isFrame, bytesOf, spellsFrame}
-use Rattle.notice.proofs.Spelling.{length-bytes, bytes-at}
+use Rattle.hexadecimal.specs.Hex.{isDigit, bytesOf}
+use Rattle.notice.specs.Lines.{isFrame, spellsFrame}
+use Rattle.hexadecimal.proofs.Spelling.{length-bytes}
 
 -- ---- a frame
 
@@ -32,10 +32,6 @@ unfolding isFrame
 frame-count f l h e = rw (l, e, eq-eqb (getD f 0 0) 1 h)
 
 -- ---- digits that spell one
-
-pub byte-spelt : (ds : List ℕ) (i : ℕ) {high low : ℕ} → high ≡ digitValue (getD ds (2 * i) 0) → low ≡ digitValue (getD ds (2 * i + 1) 0) → 2 * i + 1 < length ds
-    → 16 * high + low ≡ getD (bytesOf ds) i 0
-byte-spelt ds i p q h = rw (p, q) (sym (bytes-at ds i h))
 
 pub spells-other : (ds : List ℕ) → allb isDigit ds ≡ false → false ≡ spellsFrame ds
 unfolding spellsFrame

@@ -10,11 +10,13 @@ use lib.Seq.{append-snoc, take-append-seam, take-append-add, take-take, take-suc
 use borrow.Author.Tests.{ltb-true, lt-ltb, eq-eqb, le-ltb}
 use Rattle.lists.specs.Lists.{allb, overwrite}
 use Rattle.lists.proofs.Tests.{and-true, and-intro}
-use Rattle.notice.specs.Lines.{lineLimit, lineEnd, isByte, isFrame, digitsOf, lineOf, bytesOf, endOf, spellsFrame, garbled, frame, readHead, readLine}
+use Rattle.notice.specs.Lines.{lineLimit, lineEnd, isFrame, lineOf, endOf, spellsFrame, garbled, frame, readHead, readLine}
+use Rattle.hexadecimal.specs.Hex.{isByte, digitsOf, bytesOf}
 use Rattle.notice.specs.Calls.{frameLimit, lineDone, lineLeft, readInto, readCall, writeCall}
 use Rattle.notice.proofs.Tests.{Spells, frame-parts, spells-parts}
-use Rattle.notice.proofs.Spelling.{length-digits, length-line, all-digits, bytes-digits, digits-bytes, bytes-below}
-use Rattle.notice.proofs.Ends.{all-at, end-is, end-digits}
+use Rattle.hexadecimal.proofs.Spelling.{length-digits, all-digits, bytes-digits, digits-bytes, bytes-below}
+use Rattle.notice.proofs.Ends.{length-line, end-is, end-digits}
+use Rattle.lists.proofs.Scans.{all-at}
 
 -- ---- the length of a line
 

@@ -1,11 +1,11 @@
 -- Notice lines (rules 7.1 and 7.2): frames, and the lines that spell them. Assumes nothing.
 use mathlib.Core.Bool.{Bool, cond, _&&_}
 use mathlib.Core.List.{List, [], _∷_, _++_}
-use Prim.Native.Nat.{ℕ, suc, _+_, _*_, _/_, _%_}
+use Prim.Native.Nat.{ℕ, suc, _+_, _%_}
 use lib.Dec.{eqb, ltb}
 use lib.ListN.{length, getD, take}
 use Rattle.lists.specs.Lists.{allb}
-use Rattle.notice.specs.Hex.{hexDigit, isDigit, digitValue}
+use Rattle.hexadecimal.specs.Hex.{isDigit, digitsOf, bytesOf}
 
 -- the most bytes that a line has, its ending counted: 2 digits for each of 258 bytes, and 0A
 abbrev pub lineLimit : ℕ
@@ -15,28 +15,13 @@ lineLimit = 517
 abbrev pub lineEnd : ℕ
 lineEnd = 10
 
--- a number that a byte holds
-unfoldable pub isByte : ℕ → Bool
-isByte b = ltb b 256
-
 -- a frame: the kind 01, a code, the number of neighbours, and that many neighbours
 unfoldable pub isFrame : List ℕ → Bool
 isFrame f = eqb (getD f 0 0) 1 && eqb (length f) (3 + getD f 2 0)
 
--- two digits for each byte, the high one first
-unfoldable pub digitsOf : List ℕ → List ℕ
-digitsOf [] = []
-digitsOf (b ∷ bs) = hexDigit (b / 16) ∷ hexDigit (b % 16) ∷ digitsOf bs
-
 -- the line of a frame
 unfoldable pub lineOf : List ℕ → List ℕ
 lineOf f = digitsOf f ++ lineEnd ∷ []
-
--- the byte that each two digits spell; a last digit without a second one spells none
-unfoldable pub bytesOf : List ℕ → List ℕ
-bytesOf [] = []
-bytesOf (h ∷ []) = []
-bytesOf (h ∷ l ∷ ds) = (16 * digitValue h + digitValue l) ∷ bytesOf ds
 
 -- how many bytes stand before the first 0A; all of them where there is none
 unfoldable pub endOf : List ℕ → ℕ

@@ -298,6 +298,19 @@ pub fn bits_are(words: &[u64], sheet: &Sheet, part: usize, n: usize) -> bool {
     true
 }
 
+// Whether the members of a layer are those at distance e by a row of distances of the sheet.
+pub fn layer_is(layer: &[u64], sheet: &Sheet, row: usize, e: u16) -> bool {
+    let mut v = 0;
+    while v < 256 {
+        let member = if read(sheet, row, v) == e { 1 } else { 0 };
+        if bit(layer, v) != member {
+            return false;
+        }
+        v += 1;
+    }
+    true
+}
+
 // Whether a table of numbers is a row of the sheet.
 pub fn numbers_are(table: &[u16; 256], sheet: &Sheet, row: usize) -> bool {
     let mut v = 0;
@@ -318,6 +331,21 @@ pub fn same_numbers(a: &[u16; 256], b: &[u16; 256]) -> bool {
             return false;
         }
         v += 1;
+    }
+    true
+}
+
+// Whether a text is this one.
+pub fn same_text(a: &[u8], b: &[u8]) -> bool {
+    if a.len() != b.len() {
+        return false;
+    }
+    let mut i = 0;
+    while i < a.len() {
+        if a[i] != b[i] {
+            return false;
+        }
+        i += 1;
     }
     true
 }

@@ -2,21 +2,21 @@
 use mathlib.Core.Path.{_≡_, refl, sym, ap, ap₂, _∙_, subst}
 use mathlib.Core.Logic.{_⊎_, inl, inr}
 use mathlib.Core.Bool.{Bool, true, false, cond, _&&_}
-use mathlib.Core.List.{List, [], _∷_, List·Memᴰ, List·Memᴰ·head, List·Memᴰ·tail}
+use mathlib.Core.List.{List, [], _∷_, List·Memᴰ}
 use mathlib.Core.Option.{Option, none, some}
 use Prim.Native.Nat.{ℕ, zero, suc, _+_, _*_, _≤_, _<_, min, max}
 use native.Mathlib.Nat.{le-of-lt, le-refl}
 use native.Mathlib.Omega.{arith}
 use lib.Dec.{T, eqb, ltb}
 use lib.ListN.{getD, length-append}
-use borrow.Author.Tests.{ltb-true, ltb-false, lt-ltb}
+use borrow.Author.Tests.{ltb-true, ltb-false}
 use Rattle.lists.specs.Lists.{range, filterb, memb, overwrite}
 use Rattle.lists.proofs.Tests.{look, t→true, true→t, clash}
 use Rattle.lists.proofs.Members.{filter-ext, filter-out, range-out}
 use Rattle.lists.proofs.Counts.{count-filter}
 use Rattle.lists.proofs.Fills.{fill-at}
 use Rattle.graph.specs.Network.{Network}
-use Rattle.graph.specs.Distance.{vertices, unreached, dist}
+use Rattle.graph.specs.Distance.{unreached, dist}
 use Rattle.graph.specs.Chart.{Chart, chart, ecc, Pairs, countPairs}
 use Rattle.graph.specs.Rounds.{Status, waiting, skipped, searched, isWaiting, State, offer, raise, joinPairs, round, better, pick, remaining, orStop, rounds}
 use Rattle.graph.specs.Correct.{IsNet}
@@ -31,7 +31,7 @@ use Rattle.layers.proofs.Theorems.{table-depth, table-leaves, depth-is}
 use Rattle.map.specs.Memory.{networkOf}
 use Rattle.map.proofs.Theorems.{network-open-below}
 use Rattle.pairs.specs.Pairs.{Tally, tallyOf, settleOf}
-use Rattle.bounds.specs.Bounds.{pickIn}
+use Rattle.ranks.specs.Ranks.{pickIn}
 use Rattle.rounds.specs.Workspace.{Workspace, lastRow, absorbOf, roundOf, orEnd, runOf, absorbing}
 use Rattle.rounds.proofs.Holding.{Origin, Holds, waitingPlace, after-over, after-snoc}
 use Rattle.rounds.proofs.Pairing.{settle-is}

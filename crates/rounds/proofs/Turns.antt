@@ -23,7 +23,8 @@ use Rattle.layers.specs.Layers.{tableNetwork, Tables, tables, Searched, searche
 use Rattle.pairs.proofs.Settling.{settle-counted}
 use Rattle.pairs.specs.Pairs.{Tally, tally, tallyOf, settleOf, Counted}
 use Rattle.pairs.proofs.Tallies.{holds-counted}
-use Rattle.bounds.specs.Bounds.{Marks, marks, leaveOf, waitingAfter, relaxOf, pickIn}
+use Rattle.bounds.specs.Bounds.{Marks, marks, leaveOf, waitingAfter, relaxOf}
+use Rattle.ranks.specs.Ranks.{pickIn}
 use Rattle.rounds.specs.Workspace.{Workspace, workspace, lastRow, Absorbed, absorbed, absorbing, absorbOf, roundOf, orEnd, runOf, RoundsBegun, roundsBegun, roundsBeginOf}
 use Rattle.rounds.proofs.Finish.{cleared-table, count-no-pairs}
 

@@ -12,7 +12,8 @@ use Rattle.graph.specs.Distance.{unreached}
 use Rattle.rows.specs.Rows.{rowBit, encodeRow, encodeTable}
 use Rattle.layers.specs.Layers.{Tables, searchTable}
 use Rattle.pairs.specs.Pairs.{Tally, settleOf}
-use Rattle.bounds.specs.Bounds.{Marks, marks, leaveOf, relaxOf, pickIn}
+use Rattle.bounds.specs.Bounds.{Marks, marks, leaveOf, relaxOf}
+use Rattle.ranks.specs.Ranks.{pickIn}
 
 pub record Workspace : Type 0 where
   pub searched : Tables

@@ -7,7 +7,8 @@ ghost use lib.Dec.{ltb};
 ghost use lib.ListN.{length};
 ghost use Rattle.layers.specs.Layers.{tables};
 ghost use Rattle.pairs.specs.Pairs.{tally, settleOf, Counted};
-ghost use Rattle.bounds.specs.Bounds.{AreRanks, AreThinned, Fits};
+ghost use Rattle.ranks.specs.Ranks.{AreRanks, AreThinned};
+ghost use Rattle.bounds.specs.Bounds.{Fits};
 ghost use Rattle.rounds.specs.Workspace.{lastRow, absorbed, absorbing, roundOf, runOf, roundsBegun, roundsBeginOf, RoundRoom};
 ghost use Rattle.layers.specs.Slices.{tablesBefore};
 ghost use Rattle.bounds.specs.Slices.{marksBefore, marksAfter};
@@ -179,7 +180,7 @@ pub fn run_rounds(
 {
     let mut now = before;
     loop {
-        let found = bounds::pick_next(&*ranks, words);
+        let found = ranks::pick_next(&*ranks, words);
         let Next::At(r) = found else {
             return now;
         };
@@ -227,5 +228,5 @@ pub fn begin(
     rows::clear(pairs, words * (64 * words));
     rows::fill(bounds, 64 * words, 65535);
     rows::fill(skips, 64 * words, other);
-    bounds::rank_all(ranks, codes, links, words);
+    ranks::rank_all(ranks, codes, links, words);
 }

@@ -11,7 +11,7 @@ ghost use Rattle.graph.specs.Distance.{unreached, connected};
 ghost use Rattle.rows.specs.Rows.{rowBit};
 ghost use Rattle.layers.specs.Slices.{tablesAt, tablesBefore, tablesAfter};
 ghost use Rattle.map.specs.Memory.{base, networkOf};
-ghost use Rattle.checks.specs.Sound.{IsLent};
+ghost use Rattle.map.specs.Bits.{IsLent};
 ghost use Rattle.search.specs.SearchCall.{searchRefusal, searchLeft, searchCall, lastLayer, rowsLeft, rowsOf};
 use map::Record;
 use rows::Next;

@@ -11,12 +11,13 @@ use Rattle.outcome.specs.Numbers.{garbledLine}
 use Rattle.map.specs.Memory.{base}
 use Rattle.map.specs.declared.Record.{Record}
 use Rattle.rounds.specs.Leaves.{Lent}
-use Rattle.notice.specs.Lines.{isByte, Line, garbled, frame, readLine}
+use Rattle.hexadecimal.specs.Hex.{isByte}
+use Rattle.notice.specs.Lines.{Line, garbled, frame, readLine}
 use Rattle.notice.specs.Calls.{frameLimit, lineDone, lineRefused, readingOf, LineLeft, lineLeft, readInto, readCall}
 use Rattle.notice.specs.declared.Reading.{Reading}
 use Rattle.notice.specs.declared.Reading.the-variants.{Frame, Refused as NoReading}
 use Rattle.notice.proofs.Tests.{frame-parts}
-use Rattle.notice.proofs.Ends.{all-at}
+use Rattle.lists.proofs.Scans.{all-at}
 use Rattle.notice.proofs.Theorems.{read-frame}
 use Rattle.opening.specs.OpenCall.{OpenLeft, openLeft, openCall}
 use Rattle.opening.specs.Steps.{noticeOf, refusedWith}

@@ -15,9 +15,10 @@ use Rattle.map.specs.Memory.{base}
 use Rattle.map.specs.declared.Record.{Record}
 use Rattle.rounds.specs.Leaves.{Lent, lent}
 use Rattle.rounds.specs.Sizes.{sizes, sizesOf}
-use Rattle.notice.specs.Lines.{lineLimit, lineEnd, isByte, Line, garbled, frame, readLine}
+use Rattle.notice.specs.Lines.{lineLimit, lineEnd, Line, garbled, frame, readLine}
+use Rattle.hexadecimal.specs.Hex.{isByte}
 use Rattle.notice.proofs.Tests.{frame-parts}
-use Rattle.notice.proofs.Ends.{all-at}
+use Rattle.lists.proofs.Scans.{all-at}
 use Rattle.notice.proofs.Theorems.{read-frame}
 use Rattle.opening.specs.Steps.{mapRefusal}
 use Rattle.opening.proofs.Keeps.{map-kept}

@@ -20,9 +20,10 @@ use Rattle.map.specs.Empty.{zeros, emptyRecord}
 use Rattle.map.specs.declared.Record.{Record}
 use Rattle.rounds.specs.Leaves.{Lent}
 use Rattle.rounds.specs.Sizes.{sizesOf, longEnough}
-use Rattle.notice.specs.Lines.{isByte, Line, garbled, frame, readLine}
+use Rattle.hexadecimal.specs.Hex.{isByte}
+use Rattle.notice.specs.Lines.{Line, garbled, frame, readLine}
 use Rattle.notice.proofs.Tests.{frame-parts}
-use Rattle.notice.proofs.Ends.{all-at}
+use Rattle.lists.proofs.Scans.{all-at}
 use Rattle.notice.proofs.Theorems.{read-frame}
 use Rattle.opening.specs.OpenCall.{openRefusal, networkAfter, openedBy, OpenLeft, openGiven, openCall}
 use Rattle.opening.specs.Steps.{mapRefusal}

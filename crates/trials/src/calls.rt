@@ -237,17 +237,47 @@ pub fn is_accepted(got: Answer, letter: u8, sheet: &Sheet) -> bool {
     both(got.word == letter, both(counted, covered))
 }
 
-// Whether a search of the code s found the distances and the eccentricity of the plain search.
+// Whether a search of the code s hands back, as its last layer, the depots farthest from s by the plain search.
+fn hands_back(m: Lent, s: u8, sheet: &Sheet, row: usize, e: u16) -> bool {
+    let links = m.links;
+    let mut hops = m.hops;
+    let mut even = m.even;
+    let mut odd = m.odd;
+    let mut refusal = 99;
+    let mut ecc = 0;
+    let rows = search::search_rows(
+        &mut hops,
+        &mut even,
+        &mut odd,
+        &mut refusal,
+        &mut ecc,
+        m.rec,
+        &links,
+        s,
+    );
+    let farthest = plain_search::layer_is(rows[0], sheet, row, e);
+    both(farthest, both(refusal == 0, ecc == e))
+}
+
+// Whether the last layer, read off the rows of a search, is that of the plain search.
+fn is_last(even: [u64; 4], odd: [u64; 4], sheet: &Sheet, row: usize, e: u16) -> bool {
+    plain_search::layer_is(search::last_layer(&even, &odd, e), sheet, row, e)
+}
+
+// Whether a search of the code s found the distances, the eccentricity and the farthest depots of the plain search.
 pub fn is_found(got: Answer, s: u8, sheet: &Sheet) -> bool {
     let own = plain_search::wide(s);
     let left = got.left;
     let hops = left.hops;
+    let even = left.even;
+    let odd = left.odd;
     let row = plain_search::row(plain_search::DISTANCES, own);
-    let farthest = got.number == read(sheet, plain_search::ECCENTRICITIES, own);
-    both(
-        both(got.word == b'D', farthest),
-        plain_search::numbers_are(&hops, sheet, row),
-    )
+    let e = read(sheet, plain_search::ECCENTRICITIES, own);
+    let reached = both(got.word == b'D', got.number == e);
+    let hopped = plain_search::numbers_are(&hops, sheet, row);
+    let last = is_last(even, odd, sheet, row, e);
+    let handed = hands_back(left, s, sheet, row, e);
+    both(both(reached, hopped), both(last, handed))
 }
 
 // Whether a map is that of the plain list, with the figures and farthest pairs of the plain search: every bit of the tables and the open set.

@@ -1,9 +1,10 @@
-// The test program: it runs openings, searches and reckonings beside the plain list and a simple search from every depot, and prints a line
+// The test program: it runs openings, searches, reckonings and reports beside the plain list and a simple search from every depot, and prints a line
 // for each group of cases: how many were tried, and whether all came out as expected. A difference shows in the output.
 mod calls;
 mod false_figures;
 mod histories;
 mod notices;
+mod reports;
 mod spoilt;
 mod tally;
 
@@ -30,4 +31,5 @@ fn main() {
     print(b"every growth of four depots: ", histories::all_four());
     print(b"false figures: ", false_figures::all());
     print(b"a spoilt bit: ", spoilt::all());
+    print(b"report lines: ", reports::all());
 }

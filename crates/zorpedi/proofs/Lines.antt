@@ -16,7 +16,7 @@ use Rattle.notice.specs.declared.Reading.the-variants.{Frame, Refused as NoRead
 use Rattle.notice.specs.declared.Writing.{Writing}
 use Rattle.notice.specs.declared.Writing.the-variants.{Line as Written, Refused as NoWriting}
 use Rattle.notice.proofs.Tests.{frame-parts}
-use Rattle.notice.proofs.Spelling.{length-line}
+use Rattle.notice.proofs.Ends.{length-line}
 use Rattle.notice.proofs.Theorems.{read-frame}
 use Rattle.outcome.specs.declared.Outcome.{Outcome}
 use Rattle.report.specs.Line.{reportLine, bufferLimit, reportDone, reportRefused, writtenOf, ReportLeft, reportLeft, reportCall}

@@ -4,7 +4,7 @@ use mathlib.Core.List.{[]}
 use Prim.Native.Nat.{_*_, _-_}
 use borrow.Author.Needs.{needs}
 use Rattle.map.specs.Memory.{networkOf}
-use Rattle.checks.specs.Sound.{soundPair}
+use Rattle.map.specs.Bits.{soundPair}
 use Rattle.checks.proofs.Scans.{BitsDone, WordsDone, RowsDone, bits-start, bits-next, words-start, words-next, rows-start, rows-next}
 use Rattle.checks.proofs.Scans.{scan-whole, scan-fault}
 use Rattle.checks.proofs.Checks.{figures-miscounted, figures-too-long, figures-scanned}

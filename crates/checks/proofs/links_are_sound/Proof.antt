@@ -3,7 +3,7 @@
 use Prim.Native.Nat.{_*_, _-_}
 use borrow.Author.Needs.{needs}
 use Rattle.map.specs.Memory.{networkOf}
-use Rattle.checks.specs.Sound.{soundLink}
+use Rattle.map.specs.Bits.{soundLink}
 use Rattle.checks.proofs.Scans.{BitsDone, WordsDone, RowsDone, bits-start, bits-next, words-start, words-next, rows-start, rows-next}
 use Rattle.checks.proofs.Scans.{scan-whole, scan-fault}
 use Rattle.checks.proofs.Checks.{links-miscounted, links-scanned}

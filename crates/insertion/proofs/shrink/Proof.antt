@@ -3,7 +3,7 @@
 use native.Mathlib.Omega.{arith}
 use Rattle.rounds.proofs.Turns.{begun-counted}
 use Rattle.insertion.proofs.Shrinking.{absorbed-counted, shrink-is}
-use Rattle.bounds.proofs.Ranks.{thinned-ranks}
+use Rattle.ranks.proofs.Ranks.{thinned-ranks}
 use borrow.Author.Needs.{needs}
 use Rattle.insertion.proofs.shrink.Statement.{statement}
 use Rattle.insertion.proofs.shrink.Tie as tie

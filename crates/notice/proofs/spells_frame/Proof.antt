@@ -2,7 +2,7 @@
 -- Assumes nothing.
 use mathlib.Core.Path.{sym, _∙_}
 use native.Mathlib.Omega.{arith}
-use Rattle.notice.proofs.Spelling.{length-bytes}
+use Rattle.hexadecimal.proofs.Spelling.{length-bytes}
 use Rattle.notice.proofs.Tests.{frame-kind, frame-count, spells-other, spells-odd, spells-even, spelt-short}
 use borrow.Author.Tests.{not-true, not-false}
 use borrow.Author.Needs.{needs}

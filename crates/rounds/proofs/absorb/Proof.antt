@@ -1,7 +1,7 @@
 -- `rounds::absorb` meets its contract: its four calls are the four parts of the definition.
 -- Assumes nothing.
 use Rattle.rounds.proofs.Turns.{absorb-is}
-use Rattle.bounds.proofs.Ranks.{thinned-twice}
+use Rattle.ranks.proofs.Ranks.{thinned-twice}
 use borrow.Author.Needs.{needs}
 use Rattle.rounds.proofs.absorb.Statement.{statement}
 use Rattle.rounds.proofs.absorb.Tie as tie

@@ -1,7 +1,7 @@
 -- `rounds::begin` meets its contract: each of the four buffers is filled by its call.
 -- Assumes nothing.
 use Rattle.rounds.proofs.Turns.{begin-is}
-use Rattle.bounds.proofs.Ranks.{ranked-row, ranked-all}
+use Rattle.ranks.proofs.Ranks.{ranked-row, ranked-all}
 use borrow.Author.Needs.{needs}
 use Rattle.rounds.proofs.begin.Statement.{statement}
 use Rattle.rounds.proofs.begin.Tie as tie

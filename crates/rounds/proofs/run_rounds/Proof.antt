@@ -8,9 +8,10 @@ use Rattle.lists.specs.Lists.{range, countb}
 use Rattle.rows.specs.Rows.{rowBit}
 use Rattle.layers.specs.Layers.{tables}
 use Rattle.pairs.specs.Pairs.{tally}
-use Rattle.bounds.specs.Bounds.{marks, pickIn, waitingOf, AreRanks, PickIs}
-use Rattle.bounds.proofs.Ranks.{waiting-fits, thinned-ranks}
-use Rattle.bounds.proofs.Picking.{ranked-pick, ranked-none}
+use Rattle.bounds.specs.Bounds.{marks}
+use Rattle.ranks.specs.Ranks.{pickIn, waitingOf, AreRanks, PickIs}
+use Rattle.ranks.proofs.Ranks.{waiting-fits, thinned-ranks}
+use Rattle.ranks.proofs.Picking.{ranked-pick, ranked-none}
 use Rattle.rounds.specs.Workspace.{workspace}
 use Rattle.rounds.proofs.Turns.{AtRound, at-start, at-next, going-end, picked-in, fewer-remain, room-left}
 use borrow.Author.Needs.{needs}

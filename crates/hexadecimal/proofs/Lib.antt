@@ -1,0 +1,4 @@
+-- The sixteen digits.
+pub mod Digits
+-- Bytes to digits and back.
+pub mod Spelling

@@ -1,0 +1,2 @@
+-- Hexadecimal digits, and the bytes that they spell.
+pub mod Hex

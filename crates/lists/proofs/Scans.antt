@@ -1,0 +1,31 @@
+-- A loop that goes through a list until an element decides: what is left decides as the whole does. Assumes nothing.
+use mathlib.Core.Path.{_≡_}
+use mathlib.Core.Bool.{Bool, true, false}
+use mathlib.Core.List.{List, [], _∷_}
+use Prim.Native.Nat.{ℕ, zero, suc, _+_, _≤_, _<_}
+use native.Mathlib.Numerals.{add-one}
+use native.Mathlib.Omega.{arith}
+use lib.ListN.{length, getD, drop, drop-of-length-le}
+use lib.Seq.{drop-cons}
+use Rattle.lists.specs.Lists.{allb}
+use Rattle.lists.proofs.Tests.{and-true}
+
+-- every element passes
+pub all-more {ℓ} : {A : Type ℓ} (p : A → Bool) (s : List A) (i : ℕ) (x : A) → i < length s → p (getD s i x) ≡ true → allb p (drop i s) ≡ allb p (drop (i + 1) s)
+unfolding allb
+all-more p s i x h e = rw (add-one, drop-cons s i x h, e)
+
+pub all-fault {ℓ} : {A : Type ℓ} (p : A → Bool) (s : List A) (i : ℕ) (x : A) → i < length s → p (getD s i x) ≡ false → allb p (drop i s) ≡ false
+unfolding allb
+all-fault p s i x h e = rw (drop-cons s i x h, e)
+
+pub all-out {ℓ} : {A : Type ℓ} (p : A → Bool) (s : List A) (i : ℕ) → length s ≤ i → allb p (drop i s) ≡ true
+unfolding allb
+all-out p s i h = rw (drop-of-length-le s h)
+
+-- of a list whose elements all pass, each does
+pub all-at {ℓ} : {A : Type ℓ} (p : A → Bool) (s : List A) (i : ℕ) (x : A) → i < length s → allb p s ≡ true → p (getD s i x) ≡ true
+unfolding allb
+all-at p [] i x h e = absurd (omega arith)
+all-at p (y ∷ ys) zero x h e = and-true (p y) (allb p ys) e .0
+all-at p (y ∷ ys) (suc i) x h e = all-at p ys i x (omega arith) (and-true (p y) (allb p ys) e .1)
