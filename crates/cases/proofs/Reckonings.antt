@@ -16,7 +16,7 @@ use Rattle.graph.specs.Rounds.{State, markOf, boundOf, reckon}
 use Rattle.graph.specs.Cases.{pairList, path}
 use Rattle.graph.proofs.Connected.{connected-iff}
 use Rattle.graph.proofs.Theorems.{reckoning-correct}
-use Rattle.map.specs.Memory.{base, networkOf}
+use Rattle.map.specs.Memory.{base, mapNetwork}
 use Rattle.checks.specs.Sound.{soundLinks}
 use Rattle.map.specs.declared.Record.{Record}
 use Rattle.checks.proofs.Theorems.{sound-links-iff}
@@ -59,12 +59,12 @@ module _ (k number : ℕ) (low : k ≤ 256) (counts : number ≡ countb (path k 
 
   -- ---- nothing refuses it
 
-  links-pass : soundLinks 256 (networkOf 4 (rec .codes) links) (rec .number) ≡ true
+  links-pass : soundLinks 256 (mapNetwork base rec links) (rec .number) ≡ true
   links-pass =
       sound-links-iff 4 (rec .codes) links (rec .number) .1
       (rw (lent .network, lent .counted) (record { isSound = held .net .sound; counted = counts }))
 
-  connected-pass : connected (networkOf 4 (rec .codes) links) ≡ true
+  connected-pass : connected (mapNetwork base rec links) ≡ true
   connected-pass = rw (lent .network) (connected-iff (path k) (held .net .sound) (held .net .small) .1 (held .net .connected))
 
   accepts : reckonRefusal base rec links (sizesOf links B) ≡ 0

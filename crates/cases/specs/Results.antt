@@ -12,7 +12,7 @@ use Rattle.graph.specs.Chart.{chart}
 use Rattle.graph.specs.Rounds.{reckon}
 use Rattle.graph.specs.Opening.{Notice}
 use Rattle.graph.specs.Cases.{pairList, AnswerLine}
-use Rattle.map.specs.Memory.{base, networkOf}
+use Rattle.map.specs.Memory.{base, mapNetwork}
 use Rattle.map.specs.declared.Record.{Record}
 use Rattle.rounds.specs.Leaves.{Lent}
 use Rattle.rounds.specs.Sizes.{sizesOf, longEnough}
@@ -34,7 +34,7 @@ repeated n x = mapl (λ i. x) (range n)
 
 -- a memory that means the network G with so many depots open, its buffers long enough, whatever else they hold
 pub record IsMapOf (G : Network) (number : ℕ) (rec : Record) (links : List ℕ) (B : Lent) : Type 0 where
-  pub network : networkOf 4 (rec .codes) links ≡ G
+  pub network : mapNetwork base rec links ≡ G
   pub counted : rec .number ≡ number
   pub long : longEnough base (sizesOf links B) ≡ true
 
@@ -58,7 +58,7 @@ resultOf step rec links B =
     record {
       refusal = reckoningNumber (l .reckoned .answer);
       searches = searchesOf (l .reckoned .answer);
-      references = reckon (chart (networkOf 4 (rec .codes) links)) .references;
+      references = reckon (chart (mapNetwork base rec links)) .references;
       number = l .reckoned .after .number;
       chain = l .reckoned .after .chain;
       count = l .reckoned .after .count;

@@ -11,7 +11,7 @@ use Rattle.lists.specs.Lists.{range, countb}
 use Rattle.lists.proofs.Counts.{count-none}
 use Rattle.lists.proofs.Tests.{t→true, true→t, false→not, and-true, and-intro}
 use Rattle.rows.specs.Rows.{tableBit}
-use Rattle.graph.specs.Network.{Network}
+use Rattle.graph.specs.Network.{Network, delivers}
 use Rattle.graph.specs.Chart.{Pairs, countPairs}
 use Rattle.map.specs.Memory.{networkOf}
 use Rattle.checks.specs.Sound.{allSet, soundLinks, soundFigures, AreLinksSound, AreFiguresSound}
@@ -73,7 +73,7 @@ module _ (W : ℕ) (codes links : List ℕ) (number : ℕ) where
 
 pub figures-any-links : (W : ℕ) (codes l k : List ℕ) (P : Pairs) (chain count : ℕ)
     → soundFigures (64 * W) (networkOf W codes l) P chain count ≡ soundFigures (64 * W) (networkOf W codes k) P chain count
-unfolding soundFigures soundPair networkOf
+unfolding soundFigures soundPair delivers networkOf
 figures-any-links W codes l k P chain count = refl
 
 module _ (n : ℕ) (G : Network) (P : Pairs) (chain count : ℕ) where
@@ -95,11 +95,11 @@ module _ (n : ℕ) (G : Network) (P : Pairs) (chain count : ℕ) where
       both : (allSet n P (soundPair G) ≡ true) × (counted ≡ true)
       both = and-true (allSet n P (soundPair G)) counted (all .0)
 
-      parts : (u v : ℕ) → u < n → v < n → T (P u v) → (u < v) × T (G .isOpen u) × T (G .isOpen v)
+      parts : (u v : ℕ) → u < n → v < n → T (P u v) → (u < v) × T (delivers G u) × T (delivers G v)
       parts u v l m p =
           let y : soundPair G u v ≡ true = all-set-elim n P (soundPair G) (both .0) u v l m (t→true (P u v) p) in
-          let a = and-true (ltb u v && G .isOpen u) (G .isOpen v) y in
-          let b = and-true (ltb u v) (G .isOpen u) (a .0) in
+          let a = and-true (ltb u v && delivers G u) (delivers G v) y in
+          let b = and-true (ltb u v) (delivers G u) (a .0) in
           (ltb-true u v (b .0), true→t (b .1), true→t (a .1))
 
   figures-sound-if : AreFiguresSound n G P chain count → soundFigures n G P chain count ≡ true
@@ -114,8 +114,8 @@ module _ (n : ℕ) (G : Network) (P : Pairs) (chain count : ℕ) where
       one u v l m e =
           let o = s .ends u v l m (true→t e) in
           let a : ltb u v ≡ true = lt-ltb u v (s .rising u v l m (true→t e)) in
-          let b : G .isOpen u ≡ true = t→true _ (o .0) in
-          let c : G .isOpen v ≡ true = t→true _ (o .1) in
+          let b : delivers G u ≡ true = t→true _ (o .0) in
+          let c : delivers G v ≡ true = t→true _ (o .1) in
           rw (a, b, c)
 
   pub sound-figures-iff : (soundFigures n G P chain count ≡ true) ↔ AreFiguresSound n G P chain count

@@ -6,7 +6,7 @@ use mathlib.Core.Bool.{Bool, not, _&&_, _||_}
 use Prim.Native.Nat.{ℕ, _<_}
 use lib.Dec.{T, eqb, ltb}
 use Rattle.lists.specs.Lists.{range, allb, countb}
-use Rattle.graph.specs.Network.{Network, IsSound}
+use Rattle.graph.specs.Network.{Network, IsSound, delivers}
 use Rattle.graph.specs.Chart.{Pairs, countPairs}
 use Rattle.map.specs.Bits.{soundPair, soundLink}
 
@@ -34,6 +34,6 @@ pub record AreLinksSound (n : ℕ) (G : Network) (number : ℕ) : Type 0 where
 
 pub record AreFiguresSound (n : ℕ) (G : Network) (P : Pairs) (chain count : ℕ) : Type 0 where
   pub rising : (u v : ℕ) → u < n → v < n → T (P u v) → u < v
-  pub ends : (u v : ℕ) → u < n → v < n → T (P u v) → T (G .isOpen u) × T (G .isOpen v)
+  pub ends : (u v : ℕ) → u < n → v < n → T (P u v) → T (delivers G u) × T (delivers G v)
   pub counted : count ≡ countPairs (range n) P
   pub below : chain < n

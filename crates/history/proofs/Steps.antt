@@ -10,10 +10,10 @@ use borrow.Author.Tests.{leb-true}
 use Rattle.lists.proofs.Tests.{and-true}
 use Rattle.rows.specs.Rows.{tableBit, encodeRow, encodeTable}
 use Rattle.rows.proofs.Written.{encode-row-length, encode-table-length}
-use Rattle.graph.specs.Network.{Network, AreTrue}
+use Rattle.graph.specs.Network.{Network, AreTrue, delivers}
 use Rattle.graph.specs.Chart.{diameter, farthest}
 use Rattle.graph.specs.Opening.{withDepot}
-use Rattle.map.specs.Memory.{Shape, IsShape, places, tableWords, networkOf}
+use Rattle.map.specs.Memory.{Shape, IsShape, places, tableWords, mapNetwork}
 use Rattle.rounds.specs.Leaves.{Lent}
 use Rattle.rounds.specs.Sizes.{Sizes, sizesOf, longEnough}
 use Rattle.opening.specs.OpenCall.{openRefusal, networkAfter, OpenLeft, openGiven, referencesBy}
@@ -125,7 +125,7 @@ module _ (K : Shape) (shape : IsShape K) (G : Network) (held : IsHeld K G) (c : 
     next-is : networkAfter K (M .rec) L (c .notice) ≡ withDepot G (c .notice)
     next-is = after-is K (M .rec) L (c .notice) ∙ ap (λ (N : Network). withDepot N (c .notice)) (says .network)
 
-    were : AreTrue (networkOf (K .words) (M .rec .codes) L) (networkOf (K .words) (M .rec .codes) L .isOpen) (M .rec .chain) (tableBit (K .words) (B .pairs))
+    were : AreTrue (mapNetwork K (M .rec) L) (delivers (mapNetwork K (M .rec) L)) (M .rec .chain) (tableBit (K .words) (B .pairs))
     were = says-true K G held (M .rec) L (B .pairs) says
 
     accepted-answer : openGiven zero K (M .rec) L B (c .notice) .report .outcome ≡ moved (diameter G) (diameter (withDepot G (c .notice)))

@@ -8,7 +8,7 @@ use mathlib.Core.List.{List, [], _∷_, _++_, List·Memᴰ}
 use Prim.Native.Nat.{ℕ, _<_}
 use lib.Dec.{T, ltb}
 use Rattle.lists.specs.Lists.{allb}
-use Rattle.graph.specs.Network.{IsDiameter}
+use Rattle.graph.specs.Network.{IsDiameter, delivers}
 use Rattle.graph.specs.Chart.{diameter}
 use Rattle.graph.specs.Opening.{Notice, emptyNetwork}
 use Rattle.map.specs.Memory.{Shape, places}
@@ -43,7 +43,7 @@ searchedIn K step cs c =
 pub record Demand3 (K : Shape) (step : Step) : Type 0 where
   -- (A) each answer is the plain list's, whose longest chain is the published diameter
   pub answers : (cs : List Call) → AreCalls K cs → runAnswers step (emptyMemory K) cs ≡ plainAfterAll K cs .answers
-  pub published : (cs : List Call) → AreCalls K cs → IsDiameter (plainAfterAll K cs .network) (plainAfterAll K cs .network .isOpen) (diameter (plainAfterAll K cs .network))
+  pub published : (cs : List Call) → AreCalls K cs → IsDiameter (plainAfterAll K cs .network) (delivers (plainAfterAll K cs .network)) (diameter (plainAfterAll K cs .network))
   -- (B) the map is that of the network of the accepted notices
   pub figures : (cs : List Call) → AreCalls K cs → Represents K (memoryAfterAll K step cs) (plainAfterAll K cs .network)
   -- (C) the last call's marks, and after a shrink the cover of what it did not search

@@ -5,7 +5,7 @@ use mathlib.Core.List.{List}
 use Prim.Native.Nat.{ℕ, _≤_, _<_}
 use lib.Dec.{T}
 use lib.ListN.{length}
-use Rattle.graph.specs.Network.{Network}
+use Rattle.graph.specs.Network.{Network, delivers}
 use Rattle.lists.specs.Lists.{range}
 use Rattle.graph.specs.Chart.{chart, countPairs}
 use Rattle.graph.specs.Opening as Steps
@@ -49,6 +49,6 @@ pub record IsFigurable (K : Shape) (codes links : List ℕ) (B : Lent) (a D coun
   pub net : IsNet (networkOf (K .words) codes links)
   pub present : T (networkOf (K .words) codes links .isOpen a)
   pub rising : (u v : ℕ) → T (tableBit (K .words) (B .pairs) u v) → u < v
-  pub ends : (u v : ℕ) → T (tableBit (K .words) (B .pairs) u v) → T (networkOf (K .words) codes links .isOpen u) × T (networkOf (K .words) codes links .isOpen v)
+  pub ends : (u v : ℕ) → T (tableBit (K .words) (B .pairs) u v) → T (delivers (networkOf (K .words) codes links) u) × T (delivers (networkOf (K .words) codes links) v)
   pub counted : count ≡ countPairs (range (places K)) (tableBit (K .words) (B .pairs))
   pub low : D < places K

@@ -15,6 +15,7 @@ use Rattle.pairs.specs.Pairs.{Tally, settleOf}
 use Rattle.bounds.specs.Once.{Marked, markOnce as marksOnce}
 use Rattle.rounds.specs.Leaves.{Lent}
 use Rattle.rounds.specs.Workspace.{lastRow}
+use Rattle.graph.specs.Network.{delivers}
 
 -- ---- the marks of a call that searched from a alone, with eccentricity e
 
@@ -55,4 +56,4 @@ pub record IsWhole (K : Shape) (codes links : List ℕ) (B : Lent) : Type 0 wher
 
 -- the stored pairs join open codes
 pub record AreOpen (K : Shape) (codes links pairs : List ℕ) : Type 0 where
-  pub ends : (u v : ℕ) → T (tableBit (K .words) pairs u v) → T (networkOf (K .words) codes links .isOpen u) × T (networkOf (K .words) codes links .isOpen v)
+  pub ends : (u v : ℕ) → T (tableBit (K .words) pairs u v) → T (delivers (networkOf (K .words) codes links) u) × T (delivers (networkOf (K .words) codes links) v)

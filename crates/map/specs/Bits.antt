@@ -4,7 +4,7 @@ use mathlib.Core.List.{List}
 use Prim.Native.Nat.{ℕ, _*_, _≤_, _<_}
 use lib.Dec.{eqb, ltb}
 use lib.ListN.{length}
-use Rattle.graph.specs.Network.{Network}
+use Rattle.graph.specs.Network.{Network, delivers}
 
 -- Bit v of row u of the link table may stand: u and v are open and differ, and bit u of row v is set too.
 unfoldable pub soundLink : Network → ℕ → ℕ → Bool
@@ -12,7 +12,7 @@ soundLink G u v = G .isOpen u && G .isOpen v && not (eqb u v) && G .linked v u
 
 -- Bit v of row u of the pair table may stand.
 unfoldable pub soundPair : Network → ℕ → ℕ → Bool
-soundPair G u v = ltb u v && G .isOpen u && G .isOpen v
+soundPair G u v = ltb u v && delivers G u && delivers G v
 
 -- ---- what a check is lent
 

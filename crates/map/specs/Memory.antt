@@ -7,6 +7,7 @@ use Prim.Native.Nat.{ℕ, _*_, _≤_, _<_}
 use Rattle.lists.specs.Lists.{range, filterb}
 use Rattle.graph.specs.Network.{Network}
 use Rattle.rows.specs.Rows.{rowBit, tableBit}
+use Rattle.map.specs.declared.Record.{Record}
 
 -- The shape of a map: words per row, and the skip table's marks of a searched depot and of any other.
 pub record Shape : Type 0 where
@@ -37,3 +38,7 @@ base = record { words = 4; searchedMark = 256; otherMark = 257 }
 -- the network that an open set (one row) and a link table mean, its depots in rising order
 unfoldable pub networkOf : ℕ → List ℕ → List ℕ → Network
 networkOf W codes links = record { depots = filterb (rowBit W codes) (range (64 * W)); isOpen = rowBit W codes; linked = tableBit W links }
+
+-- what a record and a link table mean as a network
+abbrev pub mapNetwork : Shape → Record → List ℕ → Network
+mapNetwork K rec links = networkOf (K .words) (rec .codes) links

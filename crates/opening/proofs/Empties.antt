@@ -14,7 +14,7 @@ use Rattle.lists.proofs.Fills.{fill-ext}
 use Rattle.words.specs.Bits.{wordOf}
 use Rattle.words.proofs.Bits.{wordOf-none}
 use Rattle.rows.specs.Rows.{encodeRow, encodeTable}
-use Rattle.graph.specs.Network.{Network, IsEcc}
+use Rattle.graph.specs.Network.{Network, IsEcc, delivers}
 use Rattle.graph.specs.Distance.{vertices}
 use Rattle.graph.specs.Chart.{diameter, farthest, countPairs}
 use Rattle.graph.specs.Opening.{emptyNetwork}
@@ -69,7 +69,7 @@ module _ (K : Shape) (shape : IsShape K) where
   pub none-diameter : diameter E ≡ 0
   none-diameter = go (diameter-is E (empty-held .net) .attained)
     where
-      go : (diameter E ≡ 0) ⊎ ((u : ℕ) × T (E .isOpen u) × IsEcc E (E .isOpen) u (diameter E)) → diameter E ≡ 0
+      go : (diameter E ≡ 0) ⊎ ((u : ℕ) × T (E .isOpen u) × IsEcc E (delivers E) u (diameter E)) → diameter E ≡ 0
       go (inl z) = z
       go (inr x) = absurd (false→not (all-closed (x .0)) (x .1))
 

@@ -15,7 +15,7 @@ use Rattle.lists.proofs.Members.{first-zero}
 use Rattle.lists.proofs.Distinct.{insert-filter}
 use Rattle.lists.proofs.RangeCounts.{count-with-new}
 use Rattle.rows.specs.Rows.{tableBit}
-use Rattle.graph.specs.Network.{Network, IsDist, IsEcc}
+use Rattle.graph.specs.Network.{Network, IsDist, IsEcc, delivers}
 use Rattle.graph.specs.Distance.{vertices, unreached, connected}
 use Rattle.graph.specs.Chart.{Pairs, diameter, farthest, countPairs}
 use Rattle.graph.specs.Opening.{Notice, byCode, withDepot, openFaults}
@@ -23,7 +23,7 @@ use Rattle.graph.specs.Correct.{IsNet}
 use Rattle.graph.proofs.Connected.{connected-iff}
 use Rattle.graph.proofs.Opened.{IsAdmitted, admitted-of, opened-net}
 use Rattle.graph.proofs.Theorems.{distance-below, diameter-is, farthest-is}
-use Rattle.map.specs.Memory.{Shape, IsShape, places, networkOf}
+use Rattle.map.specs.Memory.{Shape, IsShape, places, networkOf, mapNetwork}
 use Rattle.checks.specs.Sound.{soundLinks, soundFigures, AreLinksSound, AreFiguresSound}
 use Rattle.map.specs.declared.Record.{Record}
 use Rattle.map.proofs.Theorems.{network-most}
@@ -33,11 +33,11 @@ use Rattle.opening.specs.OpenCall.{openRefusal, networkAfter}
 use Rattle.opening.proofs.Memories.{IsHeld, Stores, number-is, depots-few}
 
 -- the definitions of specs/OpenCall.antt, opened one step
-pub after-is : (K : Shape) (rec : Record) (links : List ℕ) (o : Notice) → networkAfter K rec links o ≡ withDepot (networkOf (K .words) (rec .codes) links) o
+pub after-is : (K : Shape) (rec : Record) (links : List ℕ) (o : Notice) → networkAfter K rec links o ≡ withDepot (mapNetwork K rec links) o
 unfolding networkAfter
 after-is K rec links o = refl
 
-after-open : (K : Shape) (rec : Record) (links : List ℕ) (o : Notice) → networkAfter K rec links o .isOpen ≡ (λ k. eqb k (o .code) || networkOf (K .words) (rec .codes) links .isOpen k)
+after-open : (K : Shape) (rec : Record) (links : List ℕ) (o : Notice) → networkAfter K rec links o .isOpen ≡ (λ k. eqb k (o .code) || mapNetwork K rec links .isOpen k)
 unfolding networkAfter withDepot
 after-open K rec links o = refl
 
@@ -45,7 +45,7 @@ after-open K rec links o = refl
 
 module _ (K : Shape) (shape : IsShape K) (rec : Record) (links pairs : List ℕ) (sizes : Sizes) (o : Notice) (ok : openRefusal K rec links pairs sizes o ≡ 0) where
   abbrev N : Network
-  N = networkOf (K .words) (rec .codes) links
+  N = mapNetwork K rec links
 
   abbrev P : Pairs
   P = tableBit (K .words) pairs
@@ -117,7 +117,7 @@ module _ (K : Shape) (shape : IsShape K) (G : Network) (held : IsHeld K G) where
       reached u o (inl z) = let p : 0 < K .words = shape .positive in omega arith
       reached u o (inr x) = omega (arith, distance-below G (held .net) u (x .0) (diameter G) o (x .2), depots-few K G held)
 
-      go : (diameter G ≡ 0) ⊎ ((u : ℕ) × T (G .isOpen u) × IsEcc G (G .isOpen) u (diameter G)) → diameter G < places K
+      go : (diameter G ≡ 0) ⊎ ((u : ℕ) × T (G .isOpen u) × IsEcc G (delivers G) u (diameter G)) → diameter G < places K
       go (inl z) = let p : 0 < K .words = shape .positive in omega arith
       go (inr x) = reached (x .0) (x .1) (x .2 .attained)
 
@@ -134,19 +134,19 @@ module _ (K : Shape) (shape : IsShape K) (G : Network) (held : IsHeld K G) where
 
   module _ (D : ℕ) (P : Pairs) (sound : AreFiguresSound (places K) G P D (countPairs (range (places K)) P)) where
     module _ (rec : Record) (links pairs : List ℕ) (s : Stores K G D P rec links pairs) where
-      pub links-pass : soundLinks (places K) (networkOf (K .words) (rec .codes) links) (rec .number) ≡ true
+      pub links-pass : soundLinks (places K) (mapNetwork K rec links) (rec .number) ≡ true
       links-pass = sound-links-iff (K .words) (rec .codes) links (rec .number) .1 (rw (s .network, s .number) links-are-sound)
 
-      pub figures-pass : soundFigures (places K) (networkOf (K .words) (rec .codes) links) (tableBit (K .words) pairs) (rec .chain) (rec .count) ≡ true
+      pub figures-pass : soundFigures (places K) (mapNetwork K rec links) (tableBit (K .words) pairs) (rec .chain) (rec .count) ≡ true
       figures-pass = rw (s .network, s .pairs, s .chain, s .count) (sound-figures-iff (places K) G P D (countPairs (range (places K)) P) .1 sound)
 
-      pub connected-pass : connected (networkOf (K .words) (rec .codes) links) ≡ true
+      pub connected-pass : connected (mapNetwork K rec links) ≡ true
       connected-pass = rw (s .network) (connected-iff G (held .net .sound) (held .net .small) .1 (held .net .connected))
 
     -- it need store them only where the sizes are enough
     module _ (rec : Record) (links pairs : List ℕ) (sizes : Sizes) (o : Notice) (says : longEnough K sizes ≡ true → Stores K G D P rec links pairs) where
       abbrev R : Network
-      R = networkOf (K .words) (rec .codes) links
+      R = mapNetwork K rec links
 
       pub refused-alike : openRefusal K rec links pairs sizes o ≡ firstOf ((not (longEnough K sizes), 1) ∷ openFaults G o)
       unfolding openRefusal firstOf

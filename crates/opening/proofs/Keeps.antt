@@ -24,7 +24,7 @@ use Rattle.graph.proofs.Opened.{inserted}
 use Rattle.graph.proofs.Charts.{chart-metric}
 use Rattle.graph.proofs.SoundFigures.{AreSound, opening-sound, ecc-below}
 use Rattle.layers.specs.Layers.{layerBit, depthFrom, Tables, searchLeaves}
-use Rattle.map.specs.Memory.{Shape, IsShape, places, networkOf}
+use Rattle.map.specs.Memory.{Shape, IsShape, places, networkOf, mapNetwork}
 use Rattle.checks.specs.Sound.{AreFiguresSound}
 use Rattle.map.specs.declared.Record.{Record}
 use Rattle.map.proofs.Theorems.{network-linked-below}
@@ -81,7 +81,7 @@ module _ (K : Shape) (rec : Record) (links : List ℕ) (B : Lent) (o : Notice) w
 
   module _ (shape : IsShape K) (ok : openRefusal K rec links (B .pairs) (sizesOf links B) o ≡ 0) (low : o .code < places K) where
     abbrev G : Network
-    G = networkOf (K .words) (rec .codes) links
+    G = mapNetwork K rec links
 
     held : IsHeld K H
     held = held-after K shape rec links (B .pairs) (sizesOf links B) o ok low

@@ -22,7 +22,7 @@ use Rattle.graph.specs.Rounds.{Status, waiting, skipped, searched, State, markO
 use Rattle.graph.specs.Opening.{Notice, Change, grew, kept, shrank, Opened}
 use Rattle.graph.specs.Correct.{IsCovered, Stands, AreReferences, IsSearched}
 use Rattle.graph.proofs.Theorems.{opening-covered}
-use Rattle.map.specs.Memory.{Shape, IsShape, places, networkOf}
+use Rattle.map.specs.Memory.{Shape, IsShape, places, mapNetwork}
 use Rattle.map.specs.declared.Record.{Record}
 use Rattle.rounds.specs.Leaves.{Lent}
 use Rattle.rounds.specs.Sizes.{sizesOf}
@@ -123,7 +123,7 @@ module _ (K : Shape) (shape : IsShape K) (rec : Record) (links : List ℕ) (B : 
   pub opened-searched : IsSearched (networkAfter K rec links o) (openedBy K rec links (B .pairs) o)
   unfolding networkAfter openedBy
   opened-searched =
-      opening-covered (networkOf (K .words) (rec .codes) links) (granted-net K shape rec links (B .pairs) (sizesOf links B) o ok) o
+      opening-covered (mapNetwork K rec links) (granted-net K shape rec links (B .pairs) (sizesOf links B) o ok) o
       (granted-room K shape rec links (B .pairs) (sizesOf links B) o ok) (granted-notice K shape rec links (B .pairs) (sizesOf links B) o ok)
       (rec .chain) (tableBit (K .words) (B .pairs)) (granted-chain K shape rec links (B .pairs) (sizesOf links B) o ok)
 

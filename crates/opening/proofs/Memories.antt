@@ -15,13 +15,13 @@ use Rattle.lists.proofs.Members.{filter-ext, filter-out, range-out, length-rang
 use Rattle.lists.proofs.Counts.{count-le-length, length-count}
 use Rattle.rows.specs.Rows.{rowBit, tableBit, encodeRow, encodeTable}
 use Rattle.rows.proofs.Written.{row-at, row-read, table-at, table-read, encode-table-length}
-use Rattle.graph.specs.Network.{Network, IsFarthest}
+use Rattle.graph.specs.Network.{Network, IsFarthest, delivers}
 use Rattle.graph.specs.Distance.{vertices}
 use Rattle.graph.specs.Chart.{diameter, Pairs, farthest, countPairs}
 use Rattle.graph.specs.Correct.{IsNet}
 use Rattle.graph.proofs.Distances.{vertices-in}
 use Rattle.graph.proofs.Theorems.{diameter-is, farthest-is}
-use Rattle.map.specs.Memory.{Shape, places, tableWords, networkOf}
+use Rattle.map.specs.Memory.{Shape, places, tableWords, networkOf, mapNetwork}
 use Rattle.map.specs.declared.Record.{Record}
 use Rattle.opening.specs.Memory.{Memory}
 use Rattle.opening.specs.Represents.{Represents}
@@ -72,7 +72,7 @@ memoryFor K G = record {
 
 -- a record and tables store a network with the chain D and the pairs P
 pub record Stores (K : Shape) (G : Network) (D : ℕ) (P : Pairs) (rec : Record) (links stored : List ℕ) : Type 0 where
-  pub network : networkOf (K .words) (rec .codes) links ≡ G
+  pub network : mapNetwork K rec links ≡ G
   pub pairs : tableBit (K .words) stored ≡ P
   pub number : rec .number ≡ length (vertices G)
   pub chain : rec .chain ≡ D
@@ -147,7 +147,7 @@ module _ (K : Shape) (G : Network) (held : IsHeld K G) where
     number = refl;
     links = λ u v p q. table-at (K .words) (G .linked) (M .links) u v p q;
     chain = diameter-is G (held .net);
-    pairs = λ u v p q. subst (λ (b : Bool). T b ↔ IsFarthest G (G .isOpen) u v) (sym (table-at (K .words) (farthest G) (M .pairs) u v p q)) (farthest-is G (held .net) u v);
+    pairs = λ u v p q. subst (λ (b : Bool). T b ↔ IsFarthest G (delivers G) u v) (sym (table-at (K .words) (farthest G) (M .pairs) u v p q)) (farthest-is G (held .net) u v);
     count = ap (countPairs (range (places K))) (sym (pairs-read (farthest G) farthest-open (M .pairs)));
   }
 

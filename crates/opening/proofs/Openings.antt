@@ -10,13 +10,13 @@ use lib.ListN.{length}
 use borrow.Author.Tests.{lt-ltb, le-ltb, eq-eqb, ne-eqb}
 use Rattle.lists.specs.Lists.{range, mapl, overwrite}
 use Rattle.rows.specs.Rows.{tableBit, encodeRow, encodeTable}
-use Rattle.graph.specs.Network.{Network, AreTrue}
+use Rattle.graph.specs.Network.{Network, AreTrue, delivers}
 use Rattle.graph.specs.Rounds.{markOf}
 use Rattle.graph.specs.Chart.{Pairs, diameter, farthest, countPairs}
 use Rattle.graph.specs.Opening.{Notice, Change, grew, kept, shrank, Opened}
 use Rattle.graph.specs.Correct.{Moved, IsOpened}
 use Rattle.graph.proofs.Theorems.{true-chain, true-pairs, figures-are, opening-correct}
-use Rattle.map.specs.Memory.{Shape, IsShape, places, networkOf}
+use Rattle.map.specs.Memory.{Shape, IsShape, places, mapNetwork}
 use Rattle.map.specs.declared.Record.{Record}
 use Rattle.rounds.specs.Leaves.{Lent, roundsLeave}
 use Rattle.rounds.specs.Sizes.{sizesOf}
@@ -87,11 +87,11 @@ moved-is shrank D E l = rw (le-ltb D E (omega arith), ne-eqb D E (λ q. lt-irref
 -- ---- AN OPENING THAT IS NOT REFUSED, on true stored figures
 
 module _ (K : Shape) (shape : IsShape K) (rec : Record) (links : List ℕ) (B : Lent) (o : Notice) (ok : openRefusal K rec links (B .pairs) (sizesOf links B) o ≡ 0) (low : o .code < places K)
-    (were : AreTrue (networkOf (K .words) (rec .codes) links) (networkOf (K .words) (rec .codes) links .isOpen) (rec .chain) (tableBit (K .words) (B .pairs))) where
+    (were : AreTrue (mapNetwork K rec links) (delivers (mapNetwork K rec links)) (rec .chain) (tableBit (K .words) (B .pairs))) where
   opened-correct : IsOpened (networkAfter K rec links o) (rec .chain) (openedBy K rec links (B .pairs) o)
   unfolding networkAfter openedBy
   opened-correct =
-      opening-correct (networkOf (K .words) (rec .codes) links) (granted-net K shape rec links (B .pairs) (sizesOf links B) o ok) o
+      opening-correct (mapNetwork K rec links) (granted-net K shape rec links (B .pairs) (sizesOf links B) o ok) o
       (granted-room K shape rec links (B .pairs) (sizesOf links B) o ok) (granted-notice K shape rec links (B .pairs) (sizesOf links B) o ok)
       (rec .chain) (tableBit (K .words) (B .pairs)) were
 
@@ -124,5 +124,5 @@ module _ (K : Shape) (shape : IsShape K) (rec : Record) (links : List ℕ) (B : 
 
 -- a memory that says a network's figures stores true ones
 pub says-true : (K : Shape) (G : Network) → IsHeld K G → (rec : Record) (links pairs : List ℕ) → Says K G rec links pairs
-    → AreTrue (networkOf (K .words) (rec .codes) links) (networkOf (K .words) (rec .codes) links .isOpen) (rec .chain) (tableBit (K .words) pairs)
+    → AreTrue (mapNetwork K rec links) (delivers (mapNetwork K rec links)) (rec .chain) (tableBit (K .words) pairs)
 says-true K G held rec links pairs s = rw (s .network, s .pairs, s .chain) (figures-are G (held .net))

@@ -6,7 +6,7 @@ use Rattle.graph.specs.Opening.{Change, grew, kept, shrank, openFaults}
 use Rattle.graph.specs.Refusals.{noticeConditions}
 use Rattle.graph.proofs.Refusals.{notice-tells}
 use Rattle.rows.specs.Rows.{tableBit}
-use Rattle.map.specs.Memory.{Shape, IsShape, networkOf}
+use Rattle.map.specs.Memory.{Shape, IsShape, mapNetwork}
 use Rattle.map.proofs.Theorems.{network-listed}
 use Rattle.checks.proofs.Refusals.{map-tells}
 use Rattle.reckon.specs.Refusals.{roundsBuffers}
@@ -25,7 +25,7 @@ accepted-number shrank = refl
 pub open-refusals : (K : Shape) → IsShape K → OpenDemand1 K (openCall K)
 unfolding openCall openRefusal openGiven refusalOf
 open-refusals K shape rec links B o =
-    let G = networkOf (K .words) (rec .codes) links in
+    let G = mapNetwork K rec links in
     refuses-by _ (openConditions K rec links B o) (
       refl,
       rw (← long-is K links B) at (decides-short (roundsBuffers K links B)),

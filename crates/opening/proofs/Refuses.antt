@@ -12,7 +12,7 @@ use Rattle.graph.specs.Chart.{Pairs}
 use Rattle.graph.specs.Opening.{Notice, openFaults}
 use Rattle.rows.specs.Rows.{tableBit}
 use Rattle.layers.specs.Layers.{tables}
-use Rattle.map.specs.Memory.{Shape, places, networkOf}
+use Rattle.map.specs.Memory.{Shape, places, mapNetwork}
 use Rattle.checks.specs.Sound.{soundLinks, soundFigures}
 use Rattle.map.specs.declared.Record.{Record}
 use Rattle.rounds.specs.Leaves.{Lent, lent}
@@ -23,7 +23,7 @@ use Rattle.opening.specs.declared.Returned.{Returned}
 
 module _ (K : Shape) (rec : Record) (links pairs : List ℕ) (z : Sizes) where
   abbrev G : Network
-  G = networkOf (K .words) (rec .codes) links
+  G = mapNetwork K rec links
 
   abbrev P : Pairs
   P = tableBit (K .words) pairs

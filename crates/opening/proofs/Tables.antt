@@ -16,7 +16,7 @@ use Rattle.graph.specs.Correct.{AreReferences, IsSettled}
 use Rattle.graph.proofs.Skipped.{opening-says}
 use Rattle.rows.specs.Rows.{tableBit}
 use Rattle.rows.proofs.Written.{encode-table-length}
-use Rattle.map.specs.Memory.{Shape, IsShape, places, networkOf}
+use Rattle.map.specs.Memory.{Shape, IsShape, places, mapNetwork}
 use Rattle.map.specs.declared.Record.{Record}
 use Rattle.search.specs.SearchCall.{searchLeft}
 use Rattle.search.specs.Demand2.{IsSearch}
@@ -72,7 +72,7 @@ module _ (K : Shape) (shape : IsShape K) (rec : Record) (links : List ℕ) (B : 
   says : IsSettled H (o .code) x
   unfolding networkAfter openedBy
   says =
-      opening-says (networkOf (K .words) (rec .codes) links) (granted-net K shape rec links (B .pairs) (sizesOf links B) o ok) o
+      opening-says (mapNetwork K rec links) (granted-net K shape rec links (B .pairs) (sizesOf links B) o ok) o
       (granted-room K shape rec links (B .pairs) (sizesOf links B) o ok) (granted-notice K shape rec links (B .pairs) (sizesOf links B) o ok)
       (rec .chain) (granted-chain K shape rec links (B .pairs) (sizesOf links B) o ok) (tableBit (K .words) (B .pairs))
 

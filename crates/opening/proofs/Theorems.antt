@@ -3,9 +3,9 @@ use mathlib.Core.Path.{_≡_, sym, ap, _∙_, subst}
 use mathlib.Core.List.{List}
 use Prim.Native.Nat.{ℕ, _<_}
 use Rattle.rows.specs.Rows.{tableBit}
-use Rattle.graph.specs.Network.{AreTrue}
+use Rattle.graph.specs.Network.{AreTrue, delivers}
 use Rattle.graph.specs.Opening.{Notice}
-use Rattle.map.specs.Memory.{Shape, IsShape, places, base, networkOf}
+use Rattle.map.specs.Memory.{Shape, IsShape, places, base, mapNetwork}
 use Rattle.map.specs.declared.Record.{Record}
 use Rattle.rounds.specs.Leaves.{Lent}
 use Rattle.rounds.specs.Sizes.{sizesOf}
@@ -23,7 +23,7 @@ use Rattle.map.proofs.Theorems.{base-shape}
 
 module _ (K : Shape) (shape : IsShape K) (rec : Record) (links : List ℕ) (B : Lent) (o : Notice) (ok : openRefusal K rec links (B .pairs) (sizesOf links B) o ≡ 0) (low : o .code < places K) where
   -- on true stored figures the map afterwards is that of the network with the depot
-  opened-represents : AreTrue (networkOf (K .words) (rec .codes) links) (networkOf (K .words) (rec .codes) links .isOpen) (rec .chain) (tableBit (K .words) (B .pairs))
+  opened-represents : AreTrue (mapNetwork K rec links) (delivers (mapNetwork K rec links)) (rec .chain) (tableBit (K .words) (B .pairs))
       → Represents K (mapAfter (openCall K rec links B o)) (networkAfter K rec links o)
   unfolding openCall
   opened-represents were =

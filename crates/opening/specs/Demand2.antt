@@ -4,10 +4,10 @@
 use mathlib.Core.Path.{_≡_}
 use mathlib.Core.List.{List}
 use Prim.Native.Nat.{ℕ, _<_}
-use Rattle.graph.specs.Network.{AreTrue}
+use Rattle.graph.specs.Network.{AreTrue, delivers}
 use Rattle.graph.specs.Opening.{Notice}
 use Rattle.rows.specs.Rows.{tableBit}
-use Rattle.map.specs.Memory.{Shape, places, networkOf}
+use Rattle.map.specs.Memory.{Shape, places, mapNetwork}
 use Rattle.map.specs.declared.Record.{Record}
 use Rattle.rounds.specs.Leaves.{Lent}
 use Rattle.rounds.specs.Sizes.{sizesOf}
@@ -22,7 +22,7 @@ mapAfter l = record { links = l .links; pairs = l .lent .pairs; rec = l .after }
 
 pub record OpenDemand2 (K : Shape) (step : Step) : Type 0 where
   pub figures : (rec : Record) (links : List ℕ) (B : Lent) (o : Notice) → openRefusal K rec links (B .pairs) (sizesOf links B) o ≡ 0 → o .code < places K
-      → AreTrue (networkOf (K .words) (rec .codes) links) (networkOf (K .words) (rec .codes) links .isOpen) (rec .chain) (tableBit (K .words) (B .pairs))
+      → AreTrue (mapNetwork K rec links) (delivers (mapNetwork K rec links)) (rec .chain) (tableBit (K .words) (B .pairs))
       → Represents K (mapAfter (step rec links B o)) (networkAfter K rec links o)
   pub marks : (rec : Record) (links : List ℕ) (B : Lent) (o : Notice) → openRefusal K rec links (B .pairs) (sizesOf links B) o ≡ 0 → o .code < places K
       → IsMarked K (networkAfter K rec links o) (referencesOf K rec links B o) (step rec links B o)

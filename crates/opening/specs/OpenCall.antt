@@ -10,7 +10,7 @@ use Rattle.graph.specs.Distance.{connected}
 use Rattle.graph.specs.Chart.{chart, countPairs}
 use Rattle.graph.specs.Opening.{Notice, withDepot, openFaults, Change, grew, kept, shrank, Opened, opening}
 use Rattle.rows.specs.Rows.{tableBit, encodeRow, encodeTable}
-use Rattle.map.specs.Memory.{Shape, places, networkOf}
+use Rattle.map.specs.Memory.{Shape, places, mapNetwork}
 use Rattle.checks.specs.Sound.{soundLinks, soundFigures}
 use Rattle.map.specs.declared.Record.{Record}
 use Rattle.rounds.specs.Leaves.{Lent, roundsLeave}
@@ -30,7 +30,7 @@ changeOf shrank = Accepted Shrank
 -- the first refusal that holds: 1 short, 2 spoilt (links or figures), 3 apart, 5 taken, 6 lonely, 7 unsorted, 8 unknown; 0: none
 unfoldable pub openRefusal : Shape → Record → List ℕ → List ℕ → Sizes → Notice → ℕ
 openRefusal K rec links pairs sizes o =
-    let G = networkOf (K .words) (rec .codes) links in
+    let G = mapNetwork K rec links in
     firstOf
     ((not (longEnough K sizes), 1)
     ∷ (not (soundLinks (places K) G (rec .number) && soundFigures (places K) G (tableBit (K .words) pairs) (rec .chain) (rec .count)), 2)
@@ -39,7 +39,7 @@ openRefusal K rec links pairs sizes o =
 
 -- the network with the new depot, and what its opening does
 unfoldable pub networkAfter : Shape → Record → List ℕ → Notice → Network
-networkAfter K rec links o = withDepot (networkOf (K .words) (rec .codes) links) o
+networkAfter K rec links o = withDepot (mapNetwork K rec links) o
 
 unfoldable pub openedBy : Shape → Record → List ℕ → List ℕ → Notice → Opened
 openedBy K rec links pairs o = opening (chart (networkAfter K rec links o)) (o .code) (rec .chain) (tableBit (K .words) pairs)

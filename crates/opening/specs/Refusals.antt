@@ -7,7 +7,7 @@ use Rattle.lists.specs.Conditions.{Refuses, IsShort}
 use Rattle.graph.specs.Opening.{Notice}
 use Rattle.graph.specs.Refusals.{noticeConditions}
 use Rattle.rows.specs.Rows.{tableBit}
-use Rattle.map.specs.Memory.{Shape, places, networkOf}
+use Rattle.map.specs.Memory.{Shape, places, mapNetwork}
 use Rattle.checks.specs.Refusals.{mapConditions}
 use Rattle.map.specs.declared.Record.{Record}
 use Rattle.rounds.specs.Leaves.{Lent}
@@ -19,7 +19,7 @@ use Rattle.opening.specs.OpenCall.{OpenLeft, leftOf}
 -- 1 short, 2 spoilt (links or figures), 3 apart, 5 taken, 6 lonely, 7 unsorted, 8 unknown
 abbrev pub openConditions : Shape → Record → List ℕ → Lent → Notice → List (Type 0 × ℕ)
 openConditions K rec links B o =
-    let G = networkOf (K .words) (rec .codes) links in
+    let G = mapNetwork K rec links in
     (IsShort (roundsBuffers K links B), 1)
     ∷ mapConditions (places K) G (rec .number) (tableBit (K .words) (B .pairs)) (rec .chain) (rec .count)
     ++ noticeConditions G o

@@ -8,7 +8,7 @@ use Prim.Native.Nat.{ℕ, _≤_, _<_}
 use lib.Dec.{T, eqb}
 use lib.ListN.{length, getD}
 use Rattle.lists.specs.Lists.{range, countb, memb}
-use Rattle.graph.specs.Network.{Network, IsDiameter, IsFarthest}
+use Rattle.graph.specs.Network.{Network, IsDiameter, IsFarthest, delivers}
 use Rattle.graph.specs.Distance.{vertices}
 use Rattle.graph.specs.Chart.{countPairs}
 use Rattle.graph.specs.Correct.{IsCovered}
@@ -25,8 +25,8 @@ pub record Represents (K : Shape) (M : Memory) (G : Network) : Type 0 where
   pub codes : (c : ℕ) → c < places K → rowBit (K .words) (M .rec .codes) c ≡ G .isOpen c
   pub number : M .rec .number ≡ length (vertices G)
   pub links : (u v : ℕ) → u < places K → v < places K → tableBit (K .words) (M .links) u v ≡ G .linked u v
-  pub chain : IsDiameter G (G .isOpen) (M .rec .chain)
-  pub pairs : (u v : ℕ) → u < places K → v < places K → T (tableBit (K .words) (M .pairs) u v) ↔ IsFarthest G (G .isOpen) u v
+  pub chain : IsDiameter G (delivers G) (M .rec .chain)
+  pub pairs : (u v : ℕ) → u < places K → v < places K → T (tableBit (K .words) (M .pairs) u v) ↔ IsFarthest G (delivers G) u v
   pub count : M .rec .count ≡ countPairs (range (places K)) (tableBit (K .words) (M .pairs))
 
 -- a call's marks: references are the depots that the rules search from in the call, H the network after it, l what the call left

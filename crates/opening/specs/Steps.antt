@@ -7,7 +7,7 @@ use Rattle.lists.specs.Lists.{firstOf}
 use Rattle.graph.specs.Distance.{connected}
 use Rattle.graph.specs.Opening.{Notice}
 use Rattle.rows.specs.Rows.{tableBit}
-use Rattle.map.specs.Memory.{Shape, places, networkOf}
+use Rattle.map.specs.Memory.{Shape, places, mapNetwork}
 use Rattle.checks.specs.Sound.{soundLinks, soundFigures}
 use Rattle.map.specs.declared.Record.{Record}
 use Rattle.rounds.specs.Sizes.{Sizes, longEnough}
@@ -17,7 +17,7 @@ use Rattle.opening.specs.declared.Returned.{Returned}
 -- the first refusal of the lent memory alone, whatever the notice: 1 short, 2 spoilt, 3 apart; 0: none
 unfoldable pub mapRefusal : Shape → Record → List ℕ → List ℕ → Sizes → ℕ
 mapRefusal K rec links pairs sizes =
-    let G = networkOf (K .words) (rec .codes) links in
+    let G = mapNetwork K rec links in
     firstOf
     ((not (longEnough K sizes), 1)
     ∷ (not (soundLinks (places K) G (rec .number) && soundFigures (places K) G (tableBit (K .words) pairs) (rec .chain) (rec .count)), 2)

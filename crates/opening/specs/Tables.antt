@@ -8,7 +8,7 @@ use Prim.Native.Nat.{ℕ, _<_}
 use lib.Dec.{T}
 use lib.ListN.{getD}
 use Rattle.lists.specs.Lists.{memb, lastOr}
-use Rattle.graph.specs.Network.{Network, IsEcc}
+use Rattle.graph.specs.Network.{Network, IsEcc, delivers}
 use Rattle.graph.specs.Distance.{unreached}
 use Rattle.graph.specs.Correct.{IsSkipped}
 use Rattle.graph.specs.Opening.{Notice}
@@ -39,7 +39,7 @@ pub record AreTables (K : Shape) (H : Network) (a : ℕ) (references links : Lis
   pub first : references ≡ a ∷ later
   pub once : (l .report .outcome ≡ Accepted Shrank → ⊥) → later ≡ []
   -- skip and bound table: a searched depot has its eccentricity; after a shrink every other was skipped by right; else every other place is blank
-  pub eccentricity : (v : ℕ) → T (memb v references) → IsEcc H (H .isOpen) v (getD (l .lent .bounds) v 0)
+  pub eccentricity : (v : ℕ) → T (memb v references) → IsEcc H (delivers H) v (getD (l .lent .bounds) v 0)
   pub skipped : l .report .outcome ≡ Accepted Shrank → (v : ℕ) → T (H .isOpen v) → T (not (memb v references))
       → IsSkipped H references (l .after .chain) v (getD (l .lent .skips) v 0) (getD (l .lent .bounds) v 0)
   pub others : (l .report .outcome ≡ Accepted Shrank → ⊥) → (v : ℕ) → v < places K → (v ≡ a → ⊥) → IsBlank K l v

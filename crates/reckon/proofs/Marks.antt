@@ -15,7 +15,7 @@ use Rattle.lists.proofs.Members.{range-out, in-memb}
 use Rattle.lists.proofs.Counts.{count-le-length, count-ext}
 use Rattle.lists.proofs.Distinct.{memb-range, distinct-range, count-either}
 use Rattle.lists.proofs.Fills.{fill-at}
-use Rattle.graph.specs.Network.{Network, IsSound, IsEcc, IsFarthest}
+use Rattle.graph.specs.Network.{Network, IsSound, IsEcc, IsFarthest, delivers}
 use Rattle.graph.specs.Distance.{vertices, unreached}
 use Rattle.graph.specs.Rounds.{Status, waiting, skipped, searched, State, markOf, boundOf}
 use Rattle.graph.specs.Chart.{Pairs}
@@ -42,7 +42,7 @@ unguarded false false h = refl
 module _ (K : Shape) (G : Network) (sound : IsSound G) (below : (v : ℕ) → T (G .isOpen v) → v < places K) where
   -- ---- a pair table that tells the farthest pairs is read as it was written
 
-  pub pairs-read : (P : Pairs) (old : List ℕ) → ((u v : ℕ) → T (P u v) ↔ IsFarthest G (G .isOpen) u v) → tableBit (K .words) (overwrite (encodeTable (K .words) P) old) ≡ P
+  pub pairs-read : (P : Pairs) (old : List ℕ) → ((u v : ℕ) → T (P u v) ↔ IsFarthest G (delivers G) u v) → tableBit (K .words) (overwrite (encodeTable (K .words) P) old) ≡ P
   pairs-read P old tells = fun-ext (λ u. fun-ext (λ v. table-read (K .words) P old u v ∙ unguarded (ltb u (places K) && ltb v (places K)) (P u v) (low u v)))
     where
       low : (u v : ℕ) → P u v ≡ true → (ltb u (places K) && ltb v (places K)) ≡ true
@@ -99,13 +99,13 @@ module _ (K : Shape) (G : Network) (sound : IsSound G) (below : (v : ℕ) → T 
     pub few-searches : length (S .references) ≤ length (vertices G)
     few-searches = omega (arith, references .distinct, count-le-length (λ v. memb v (S .references)) (vertices G))
 
-    pub bound-ecc : (old : List ℕ) (v : ℕ) → T (memb v (S .references)) → IsEcc G (G .isOpen) v (getD (overwrite (mapl boundAt (range (places K))) old) v 0)
+    pub bound-ecc : (old : List ℕ) (v : ℕ) → T (memb v (S .references)) → IsEcc G (delivers G) v (getD (overwrite (mapl boundAt (range (places K))) old) v 0)
     bound-ecc old v h =
         let o = references .inside v h in
         let e : boundAt v ≡ boundOf (S .status v) = ap (λ (b : Bool). cond b (boundOf (S .status v)) unreached) (t→true (G .isOpen v) o) in
-        subst (λ (x : ℕ). IsEcc G (G .isOpen) v x) (sym (fill-at boundAt old (places K) v 0 (below v o) ∙ e)) (go (S .status v) (references .stands v o))
+        subst (λ (x : ℕ). IsEcc G (delivers G) v x) (sym (fill-at boundAt old (places K) v 0 (below v o) ∙ e)) (go (S .status v) (references .stands v o))
       where
-        go : (s : Status) → Stands G (S .references) v s → IsEcc G (G .isOpen) v (boundOf s)
+        go : (s : Status) → Stands G (S .references) v s → IsEcc G (delivers G) v (boundOf s)
         go (waiting b g) f = absurd (unmarked v f h)
         go (skipped b g) f = absurd (unmarked v (f .0) h)
         go (searched e) f = f .1

@@ -15,7 +15,7 @@ use Rattle.graph.specs.Rounds.{start, reckon}
 use Rattle.graph.specs.Correct.{IsNet}
 use Rattle.graph.proofs.Connected.{connected-iff}
 use Rattle.layers.specs.Layers.{tables}
-use Rattle.map.specs.Memory.{Shape, IsShape, places, networkOf}
+use Rattle.map.specs.Memory.{Shape, IsShape, places, networkOf, mapNetwork}
 use Rattle.map.proofs.Theorems.{network-most}
 use Rattle.checks.specs.Sound.{soundLinks}
 use Rattle.map.specs.declared.Record.{Record}
@@ -35,7 +35,7 @@ use Rattle.reckon.proofs.Longs.{AreLong, are-long}
 
 module _ (K : Shape) (rec : Record) (links : List ℕ) (z : Sizes) where
   abbrev G : Network
-  G = networkOf (K .words) (rec .codes) links
+  G = mapNetwork K rec links
 
   pub refused-short : longEnough K z ≡ false → 1 ≡ reckonRefusal K rec links z
   unfolding reckonRefusal linkFaults firstOf
@@ -58,7 +58,7 @@ module _ (K : Shape) (rec : Record) (links : List ℕ) (z : Sizes) where
   unfolding reckonRefusal
   granted-long e = are-long K z (not-false (longEnough K z) (first-zero (not (longEnough K z)) 0 (linkFaults K rec links) e .0))
 
-  pub granted-tests : reckonRefusal K rec links z ≡ 0 → (soundLinks (places K) (networkOf (K .words) (rec .codes) links) (rec .number) ≡ true) × (connected (networkOf (K .words) (rec .codes) links) ≡ true)
+  pub granted-tests : reckonRefusal K rec links z ≡ 0 → (soundLinks (places K) (mapNetwork K rec links) (rec .number) ≡ true) × (connected (mapNetwork K rec links) ≡ true)
   unfolding reckonRefusal linkFaults
   granted-tests e =
       let a = first-zero (not (longEnough K z)) 0 _ e in
@@ -66,7 +66,7 @@ module _ (K : Shape) (rec : Record) (links : List ℕ) (z : Sizes) where
       let c = first-zero (not (connected G)) 2 [] (b .1) in
       (not-false (soundLinks (places K) G (rec .number)) (b .0), not-false (connected G) (c .0))
 
-  pub granted-net : IsShape K → reckonRefusal K rec links z ≡ 0 → IsNet (networkOf (K .words) (rec .codes) links)
+  pub granted-net : IsShape K → reckonRefusal K rec links z ≡ 0 → IsNet (mapNetwork K rec links)
   granted-net shape e =
       let t = granted-tests e in
       let s : IsSound G = sound-links-iff (K .words) (rec .codes) links (rec .number) .0 (t .0) .isSound in
@@ -112,7 +112,7 @@ module _ (K : Shape) (shape : IsShape K) (rec : Record) (links p h b s x y : Lis
       go (suc k) n = refl
 
   pub accepted-call : 0 ≡ reckonRefusal K rec links z → (B′ : Lent) (c n k : ℕ)
-      → ran B′ c n k ≡ ranBy K (networkOf (K .words) (rec .codes) links) (reckon (chart (networkOf (K .words) (rec .codes) links))) B
+      → ran B′ c n k ≡ ranBy K (mapNetwork K rec links) (reckon (chart (mapNetwork K rec links))) B
       → reckonLeft (record { answer = Searches k; after = record { codes = rec .codes; number = rec .number; chain = c; count = n } }) B′ ≡ reckonCall K rec links B
   unfolding reckonCall reckonGiven ranBy figuredBy sizesOf
   accepted-call q B′ c n k e =

@@ -11,7 +11,7 @@ use Rattle.lists.specs.Lists.{range, allb, memb, lastOr}
 use Rattle.lists.proofs.Tests.{true→t}
 use Rattle.lists.proofs.Conditions.{allFit, decides-short, refuses-by}
 use Rattle.lists.proofs.Fills.{length-fill}
-use Rattle.graph.specs.Network.{Network, IsFarthest}
+use Rattle.graph.specs.Network.{Network, IsFarthest, delivers}
 use Rattle.graph.specs.Distance.{vertices}
 use Rattle.graph.specs.Chart.{chart, ecc, countPairs}
 use Rattle.graph.specs.Rounds.{State, reckon}
@@ -20,7 +20,7 @@ use Rattle.graph.proofs.Theorems.{reckoning-correct}
 use Rattle.graph.proofs.Skipped.{reckoning-skipped}
 use Rattle.rows.proofs.Written.{table-at, encode-table-length}
 use Rattle.layers.specs.Layers.{Tables, searchLeaves}
-use Rattle.map.specs.Memory.{Shape, IsShape, places, base, networkOf}
+use Rattle.map.specs.Memory.{Shape, IsShape, places, base, mapNetwork}
 use Rattle.map.specs.declared.Record.{Record}
 use Rattle.map.proofs.Theorems.{network-open-below, network-length, base-shape}
 use Rattle.checks.proofs.Theorems.{sound-links-iff}
@@ -42,10 +42,10 @@ use Rattle.reckon.proofs.Skips.{skip-bound, closed-at}
 
 module _ (K : Shape) (shape : IsShape K) (rec : Record) (links : List ℕ) (B : Lent) (ok : reckonRefusal K rec links (sizesOf links B) ≡ 0) where
   abbrev G : Network
-  G = networkOf (K .words) (rec .codes) links
+  G = mapNetwork K rec links
 
   abbrev S : State
-  S = reckon (chart (networkOf (K .words) (rec .codes) links))
+  S = reckon (chart (mapNetwork K rec links))
 
   net : IsNet G
   net = granted-net K rec links (sizesOf links B) shape ok
@@ -88,7 +88,7 @@ module _ (K : Shape) (shape : IsShape K) (rec : Record) (links : List ℕ) (B : 
   unfolding reckonGiven figuredBy roundsLeave sizesOf
   given-reckoning = record {
     chain = correct .figures .chain;
-    pairs = λ u v p q. subst (λ (b : Bool). T b ↔ IsFarthest G (G .isOpen) u v) (sym (table-at (K .words) (S .pairs) (B .pairs) u v p q)) (correct .figures .pairs u v);
+    pairs = λ u v p q. subst (λ (b : Bool). T b ↔ IsFarthest G (delivers G) u v) (sym (table-at (K .words) (S .pairs) (B .pairs) u v p q)) (correct .figures .pairs u v);
     count = ap (countPairs (range (places K))) (sym (pairs-read K G (net .sound) below (S .pairs) (B .pairs) (correct .figures .pairs)));
     codes = refl;
     number = refl;
@@ -108,7 +108,7 @@ module _ (K : Shape) (shape : IsShape K) (rec : Record) (links : List ℕ) (B : 
     skipsKept = over-keeps _ _ (B .skips) (length-fill _ (places K)) (long .skips-fit);
   }
 
-  call-reckoning : IsReckoning K (networkOf (K .words) (rec .codes) links) rec B (reckon (chart (networkOf (K .words) (rec .codes) links)) .references) (reckonCall K rec links B)
+  call-reckoning : IsReckoning K (mapNetwork K rec links) rec B (reckon (chart (mapNetwork K rec links)) .references) (reckonCall K rec links B)
   unfolding reckonCall
   call-reckoning = subst (λ (k : ℕ). IsReckoning K G rec B (S .references) (reckonGiven k K rec links B)) (sym ok) given-reckoning
 

@@ -10,13 +10,13 @@ use Prim.Native.Nat.{ℕ, suc, _≤_, _<_}
 use lib.Dec.{T, eqb}
 use lib.ListN.{getD}
 use Rattle.lists.specs.Lists.{range, countb, memb, lastOr}
-use Rattle.graph.specs.Network.{Network, IsEcc, IsDiameter, IsFarthest}
+use Rattle.graph.specs.Network.{Network, IsEcc, IsDiameter, IsFarthest, delivers}
 use Rattle.graph.specs.Distance.{unreached}
 use Rattle.graph.specs.Chart.{chart, countPairs}
 use Rattle.graph.specs.Rounds.{reckon}
 use Rattle.graph.specs.Correct.{IsCovered, IsSkipped}
 use Rattle.rows.specs.Rows.{tableBit}
-use Rattle.map.specs.Memory.{Shape, places, tableWords, networkOf}
+use Rattle.map.specs.Memory.{Shape, places, tableWords, mapNetwork}
 use Rattle.map.specs.declared.Record.{Record}
 use Rattle.search.specs.SearchCall.{searchLeft}
 use Rattle.search.specs.Demand2.{KeepsPast, IsSearch}
@@ -29,8 +29,8 @@ use Rattle.reckon.specs.declared.Reckoning.the-variants.{Searches, Refus
 -- A whole reckoning of G, lent the tables B; references are the depots that the rules search from, in order.
 pub record IsReckoning (K : Shape) (G : Network) (rec : Record) (B : Lent) (references : List ℕ) (left : ReckonLeft) : Type 0 where
   -- the figures; open set and number open stay
-  pub chain : IsDiameter G (G .isOpen) (left .reckoned .after .chain)
-  pub pairs : (u v : ℕ) → u < places K → v < places K → T (tableBit (K .words) (left .lent .pairs) u v) ↔ IsFarthest G (G .isOpen) u v
+  pub chain : IsDiameter G (delivers G) (left .reckoned .after .chain)
+  pub pairs : (u v : ℕ) → u < places K → v < places K → T (tableBit (K .words) (left .lent .pairs) u v) ↔ IsFarthest G (delivers G) u v
   pub count : left .reckoned .after .count ≡ countPairs (range (places K)) (tableBit (K .words) (left .lent .pairs))
   pub codes : left .reckoned .after .codes ≡ rec .codes
   pub number : left .reckoned .after .number ≡ rec .number
@@ -42,7 +42,7 @@ pub record IsReckoning (K : Shape) (G : Network) (rec : Record) (B : Lent) (refe
   pub marks : (v : ℕ) → v < places K → (getD (left .lent .skips) v 0 ≡ K .searchedMark) ↔ T (memb v references)
   pub inside : (v : ℕ) → T (memb v references) → T (G .isOpen v)
   pub cover : (v : ℕ) → T (G .isOpen v) → T (not (memb v references)) → IsCovered G references (left .reckoned .after .chain) v
-  pub eccentricity : (v : ℕ) → T (memb v references) → IsEcc G (G .isOpen) v (getD (left .lent .bounds) v 0)
+  pub eccentricity : (v : ℕ) → T (memb v references) → IsEcc G (delivers G) v (getD (left .lent .bounds) v 0)
   -- skip and bound table say so of each depot that was not searched; a closed code has the other mark and 65,535
   pub skipped : (v : ℕ) → T (G .isOpen v) → T (not (memb v references)) → IsSkipped G references (left .reckoned .after .chain) v (getD (left .lent .skips) v 0) (getD (left .lent .bounds) v 0)
   pub closed : (v : ℕ) → v < places K → (T (G .isOpen v) → ⊥) → (getD (left .lent .skips) v 0 ≡ K .otherMark) × (getD (left .lent .bounds) v 0 ≡ unreached)
@@ -58,6 +58,6 @@ pub record IsReckoning (K : Shape) (G : Network) (rec : Record) (B : Lent) (refe
 pub record ReckonDemand2 (K : Shape) (step : Record → List ℕ → Lent → ReckonLeft) : Type 0 where
   pub numbered : (rec : Record) (links : List ℕ) (B : Lent) → reckoningNumber (step rec links B .reckoned .answer) ≡ reckonRefusal K rec links (sizesOf links B)
   pub accepted : (rec : Record) (links : List ℕ) (B : Lent) → reckonRefusal K rec links (sizesOf links B) ≡ 0
-      → IsReckoning K (networkOf (K .words) (rec .codes) links) rec B (reckon (chart (networkOf (K .words) (rec .codes) links)) .references) (step rec links B)
+      → IsReckoning K (mapNetwork K rec links) rec B (reckon (chart (mapNetwork K rec links)) .references) (step rec links B)
   pub refused : (rec : Record) (links : List ℕ) (B : Lent) (k : ℕ) → reckonRefusal K rec links (sizesOf links B) ≡ suc k
       → step rec links B ≡ record { reckoned = record { answer = Refused (suc k); after = rec }; lent = B }

@@ -8,7 +8,7 @@ use Rattle.lists.specs.Lists.{range, firstOf}
 use Rattle.graph.specs.Distance.{connected}
 use Rattle.graph.specs.Chart.{chart, countPairs}
 use Rattle.graph.specs.Rounds.{State, reckon}
-use Rattle.map.specs.Memory.{Shape, places, networkOf}
+use Rattle.map.specs.Memory.{Shape, places, mapNetwork}
 use Rattle.checks.specs.Sound.{soundLinks}
 use Rattle.map.specs.declared.Record.{Record}
 use Rattle.rounds.specs.Leaves.{Lent, roundsLeave}
@@ -20,7 +20,7 @@ use Rattle.reckon.specs.declared.Reckoned.{Reckoned}
 -- refusals 2 and 3 of a map's links, each with its number
 unfoldable pub linkFaults : Shape → Record → List ℕ → List (Bool × ℕ)
 linkFaults K rec links =
-    let G = networkOf (K .words) (rec .codes) links in
+    let G = mapNetwork K rec links in
     (not (soundLinks (places K) G (rec .number)), 2) ∷ (not (connected G), 3) ∷ []
 
 -- the first refusal that holds: short, spoilt (links alone: a reckoning repairs figures), apart; 0: none
@@ -50,7 +50,7 @@ reckonLeft r B = record { reckoned = r; lent = B }
 
 unfoldable pub reckonGiven : ℕ → Shape → Record → List ℕ → Lent → ReckonLeft
 reckonGiven zero K rec links B =
-    let G = networkOf (K .words) (rec .codes) links in
+    let G = mapNetwork K rec links in
     let S = reckon (chart G) in
     record { reckoned = record { answer = Searches (length (S .references)); after = figuredBy K rec S }; lent = roundsLeave K G S B }
 reckonGiven (suc k) K rec links B = record { reckoned = record { answer = Refused (suc k); after = rec }; lent = B }

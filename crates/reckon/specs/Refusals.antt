@@ -5,7 +5,7 @@ use mathlib.Core.List.{List, [], _∷_}
 use Prim.Native.Nat.{ℕ}
 use lib.ListN.{length}
 use Rattle.lists.specs.Conditions.{Refuses, IsShort}
-use Rattle.map.specs.Memory.{Shape, places, tableWords, networkOf}
+use Rattle.map.specs.Memory.{Shape, places, tableWords, mapNetwork}
 use Rattle.checks.specs.Refusals.{linkConditions}
 use Rattle.map.specs.declared.Record.{Record}
 use Rattle.rounds.specs.Leaves.{Lent}
@@ -26,7 +26,7 @@ roundsBuffers K links B =
 
 -- 1 short, 2 spoilt (links alone: whatever figures are stored), 3 apart
 abbrev pub reckonConditions : Shape → Record → List ℕ → Lent → List (Type 0 × ℕ)
-reckonConditions K rec links B = (IsShort (roundsBuffers K links B), 1) ∷ linkConditions (places K) (networkOf (K .words) (rec .codes) links) (rec .number)
+reckonConditions K rec links B = (IsShort (roundsBuffers K links B), 1) ∷ linkConditions (places K) (mapNetwork K rec links) (rec .number)
 
 -- DEMAND 1 of a program whose reckoning call is `step`: refused with the first that holds, and then nothing changes
 abbrev pub ReckonDemand1 : Shape → (Record → List ℕ → Lent → ReckonLeft) → Type 0

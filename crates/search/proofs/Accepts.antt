@@ -19,7 +19,7 @@ use Rattle.graph.proofs.Connected.{connected-iff}
 use Rattle.rows.specs.Rows.{tableBit}
 use Rattle.layers.specs.Layers.{Tables, tables, Searched, searched, searchLeaves, searchTable}
 use Rattle.layers.proofs.Theorems.{table-depth, table-leaves, depth-is}
-use Rattle.map.specs.Memory.{Shape, places, tableWords, IsShape, networkOf}
+use Rattle.map.specs.Memory.{Shape, places, tableWords, IsShape, networkOf, mapNetwork}
 use Rattle.checks.specs.Sound.{soundLinks}
 use Rattle.map.specs.declared.Record.{Record}
 use Rattle.map.proofs.Theorems.{network-open-below, network-most}
@@ -67,13 +67,13 @@ pub record IsGranted (K : Shape) (rec : Record) (links : List ℕ) (hops even od
   pub hops-fit : places K ≤ hops
   pub even-fit : K .words ≤ even
   pub odd-fit : K .words ≤ odd
-  pub links-sound : soundLinks (places K) (networkOf (K .words) (rec .codes) links) (rec .number) ≡ true
-  pub joined : connected (networkOf (K .words) (rec .codes) links) ≡ true
-  pub present : networkOf (K .words) (rec .codes) links .isOpen code ≡ true
+  pub links-sound : soundLinks (places K) (mapNetwork K rec links) (rec .number) ≡ true
+  pub joined : connected (mapNetwork K rec links) ≡ true
+  pub present : mapNetwork K rec links .isOpen code ≡ true
 
 module _ (K : Shape) (rec : Record) (links : List ℕ) (hops even odd code : ℕ) where
   abbrev G : Network
-  G = networkOf (K .words) (rec .codes) links
+  G = mapNetwork K rec links
 
   pub granted : searchRefusal K rec links hops even odd code ≡ 0 → IsGranted K rec links hops even odd code
   unfolding searchRefusal
@@ -123,7 +123,7 @@ sound-by W codes links number e = sound-links-iff W codes links number .0 e .isS
 
 module _ (K : Shape) (shape : IsShape K) (rec : Record) (links : List ℕ) (B : Tables) (code : ℕ) where
   abbrev N : Network
-  N = networkOf (K .words) (rec .codes) links
+  N = mapNetwork K rec links
 
   pub refused-call : (k : ℕ) → k ≡ searchRefusal K rec links (length (B .hops)) (length (B .even)) (length (B .odd)) code → (k ≡ 0 → ⊥) → searchLeft (Refused k) B ≡ searchCall K rec links B code
   unfolding searchCall searchGiven
@@ -134,7 +134,7 @@ module _ (K : Shape) (shape : IsShape K) (rec : Record) (links : List ℕ) (B : 
       go (suc k) e n = refl
 
   -- a network that the call accepts
-  pub accepted-net : searchRefusal K rec links (length (B .hops)) (length (B .even)) (length (B .odd)) code ≡ 0 → IsNet (networkOf (K .words) (rec .codes) links)
+  pub accepted-net : searchRefusal K rec links (length (B .hops)) (length (B .even)) (length (B .odd)) code ≡ 0 → IsNet (mapNetwork K rec links)
   accepted-net z =
       let g = granted K rec links (length (B .hops)) (length (B .even)) (length (B .odd)) code z in
       let s = sound-by (K .words) (rec .codes) links (rec .number) (g .links-sound) in

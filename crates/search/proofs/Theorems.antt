@@ -26,7 +26,7 @@ use Rattle.rows.specs.Rows.{rowBit, encodeRow}
 use Rattle.rows.proofs.Written.{row-past, row-at, row-of-table, table-zero, encode-row-length}
 use Rattle.layers.specs.Layers.{depthFrom, layerBit, Tables, searchLeaves}
 use Rattle.layers.proofs.Theorems.{depth-is, layer-is}
-use Rattle.map.specs.Memory.{Shape, places, IsShape, networkOf}
+use Rattle.map.specs.Memory.{Shape, places, IsShape, mapNetwork}
 use Rattle.map.proofs.Theorems.{network-open-below}
 use Rattle.checks.proofs.Refusals.{links-tell}
 use Rattle.search.specs.SearchCall.{searchRoom, searchRefusal, SearchLeft, searchLeft, searchGiven, searchCall, lastLayer, searchNumber}
@@ -46,7 +46,7 @@ room-is K links B = simp (and-assoc, and-with-true)
 pub search-refusals : (K : Shape) → IsShape K → SearchDemand1 K (searchCall K)
 unfolding searchCall searchRefusal searchGiven
 search-refusals K shape rec links B code =
-    let G = networkOf (K .words) (rec .codes) links in
+    let G = mapNetwork K rec links in
     let b = G .isOpen code in
     let test : List (Bool × ℕ) = (not b, 4) ∷ [] in
     let absent : Tells test ((IsAbsent G code, 4) ∷ []) = (refl, decides-not b (decides-test b), λ g. tt) in
@@ -185,7 +185,7 @@ module _ (K : Shape) (G : Network) (net : IsNet G) (inside : (v : ℕ) → T (G 
 pub search-demand2 : (K : Shape) → IsShape K → SearchDemand2 K
 unfolding searchCall searchGiven
 search-demand2 K shape rec links B code z =
-    let G = networkOf (K .words) (rec .codes) links in
+    let G = mapNetwork K rec links in
     let g = granted K rec links (length (B .hops)) (length (B .even)) (length (B .odd)) code z in
     subst (λ (left : SearchLeft). IsSearch K G code B left) (ap (λ (k : ℕ). searchGiven k K rec links B code) (sym z))
     (leaves-search K G (accepted-net K shape rec links B code z) (network-open-below (K .words) (rec .codes) links) code (true→t (g .present))

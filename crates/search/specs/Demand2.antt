@@ -8,11 +8,11 @@ use mathlib.Core.List.{List}
 use Prim.Native.Nat.{ℕ, zero, suc, _%_, _<_}
 use lib.Dec.{T}
 use lib.ListN.{length, getD, drop}
-use Rattle.graph.specs.Network.{Network, IsDist, IsEcc}
+use Rattle.graph.specs.Network.{Network, IsDist, IsEcc, delivers}
 use Rattle.graph.specs.Distance.{unreached}
 use Rattle.rows.specs.Rows.{rowBit}
 use Rattle.layers.specs.Layers.{Tables}
-use Rattle.map.specs.Memory.{Shape, places, networkOf}
+use Rattle.map.specs.Memory.{Shape, places, mapNetwork}
 use Rattle.map.specs.declared.Record.{Record}
 use Rattle.search.specs.SearchCall.{searchRefusal, SearchLeft, searchCall, lastLayer}
 use Rattle.search.specs.declared.Found.the-variants.{Reached}
@@ -36,7 +36,7 @@ pub record KeepsPast (n : ℕ) (old new : List ℕ) : Type 0 where
 pub record IsSearch (K : Shape) (G : Network) (s : ℕ) (B : Tables) (left : SearchLeft) : Type 0 where
   pub ecc : ℕ
   pub answer : left .answer ≡ Reached ecc
-  pub isEcc : IsEcc G (G .isOpen) s ecc
+  pub isEcc : IsEcc G (delivers G) s ecc
   pub isHop : (v : ℕ) → T (G .isOpen v) → IsDist G s v (getD (left .lent .hops) v 0)
   pub closed : (v : ℕ) → v < places K → (T (G .isOpen v) → ⊥) → getD (left .lent .hops) v 0 ≡ unreached
   pub evenLast : ecc % 2 ≡ 0 → HoldsLayer (K .words) G s ecc (left .lent .even) × HoldsBefore (K .words) G s ecc (left .lent .odd)
@@ -48,4 +48,4 @@ pub record IsSearch (K : Shape) (G : Network) (s : ℕ) (B : Tables) (left : Sea
 
 abbrev pub SearchDemand2 : Shape → Type 0
 SearchDemand2 K = (rec : Record) (links : List ℕ) (B : Tables) (code : ℕ) → searchRefusal K rec links (length (B .hops)) (length (B .even)) (length (B .odd)) code ≡ 0
-    → IsSearch K (networkOf (K .words) (rec .codes) links) code B (searchCall K rec links B code)
+    → IsSearch K (mapNetwork K rec links) code B (searchCall K rec links B code)

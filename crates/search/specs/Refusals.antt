@@ -7,7 +7,7 @@ use lib.ListN.{length}
 use Rattle.lists.specs.Conditions.{Refuses, IsShort}
 use Rattle.graph.specs.Refusals.{IsAbsent}
 use Rattle.layers.specs.Layers.{Tables}
-use Rattle.map.specs.Memory.{Shape, places, tableWords, networkOf}
+use Rattle.map.specs.Memory.{Shape, places, tableWords, mapNetwork}
 use Rattle.checks.specs.Refusals.{linkConditions}
 use Rattle.map.specs.declared.Record.{Record}
 use Rattle.search.specs.SearchCall.{SearchLeft, searchLeft, searchNumber}
@@ -21,7 +21,7 @@ searchBuffers K links B =
 -- 1 short, 2 spoilt (links alone), 3 apart, 4 absent
 abbrev pub searchConditions : Shape → Record → List ℕ → Tables → ℕ → List (Type 0 × ℕ)
 searchConditions K rec links B code =
-    let G = networkOf (K .words) (rec .codes) links in
+    let G = mapNetwork K rec links in
     (IsShort (searchBuffers K links B), 1) ∷ linkConditions (places K) G (rec .number) ++ (IsAbsent G code, 4) ∷ []
 
 -- DEMAND 1 of a program whose search call is `step`: refused with the first that holds, and then nothing changes

@@ -9,7 +9,7 @@ use Rattle.lists.specs.Lists.{firstOf}
 use Rattle.graph.specs.Distance.{connected}
 use Rattle.graph.specs.Chart.{chart, ecc}
 use Rattle.layers.specs.Layers.{Tables, searchLeaves}
-use Rattle.map.specs.Memory.{Shape, places, tableWords, networkOf}
+use Rattle.map.specs.Memory.{Shape, places, tableWords, mapNetwork}
 use Rattle.checks.specs.Sound.{soundLinks}
 use Rattle.map.specs.declared.Record.{Record}
 use Rattle.search.specs.declared.Found.{Found}
@@ -22,7 +22,7 @@ searchRoom K links hops even odd = leb (tableWords K) links && leb (places K) ho
 -- the first refusal that holds, by the lengths of the lent tables: short, spoilt (links alone), apart, absent; 0: none
 unfoldable pub searchRefusal : Shape → Record → List ℕ → ℕ → ℕ → ℕ → ℕ → ℕ
 searchRefusal K rec links hops even odd code =
-    let G = networkOf (K .words) (rec .codes) links in
+    let G = mapNetwork K rec links in
     firstOf
     ((not (searchRoom K (length links) hops even odd), 1)
     ∷ (not (soundLinks (places K) G (rec .number)), 2)
@@ -40,7 +40,7 @@ searchLeft r B = record { answer = r; lent = B }
 
 unfoldable pub searchGiven : ℕ → Shape → Record → List ℕ → Tables → ℕ → SearchLeft
 searchGiven zero K rec links B code =
-    let G = networkOf (K .words) (rec .codes) links in
+    let G = mapNetwork K rec links in
     record { answer = Reached (ecc (chart G) code); lent = searchLeaves (K .words) G code B }
 searchGiven (suc k) K rec links B code = record { answer = Refused (suc k); lent = B }
 
