@@ -143,7 +143,7 @@ module _ (key : ℕ → ℕ) (G : Network) (net : IsNet G) (a : ℕ) (beside : �
       join u v p q = (p .0 + q .0, append (p .1) (reverse opened-sound (q .1)))
 
   -- an old destination stays one; the new depot is one (decision 21), and nothing else is
-  delivers-old : (v : ℕ) → T (delivers G v) → T (delivers H v)
+  pub delivers-old : (v : ℕ) → T (delivers G v) → T (delivers H v)
   unfolding delivers
   delivers-old v t = open-old v t
 
@@ -151,7 +151,7 @@ module _ (key : ℕ → ℕ) (G : Network) (net : IsNet G) (a : ℕ) (beside : �
   unfolding delivers
   delivers-back v t = open-cases v t
 
-  delivers-new : T (delivers H a)
+  pub delivers-new : T (delivers H a)
   unfolding delivers
   delivers-new = open-new
 

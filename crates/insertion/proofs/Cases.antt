@@ -11,11 +11,11 @@ use lib.ListN.{length}
 use borrow.Author.Tests.{eqb-true, eq-eqb, ne-eqb, ltb-true, lt-ltb, le-ltb}
 use Rattle.lists.specs.Lists.{overwrite}
 use Rattle.lists.proofs.Tests.{look, true→t, and-true, or-true}
-use Rattle.graph.specs.Network.{Network}
+use Rattle.graph.specs.Network.{Network, delivers}
 use Rattle.graph.specs.Distance.{dist}
 use Rattle.graph.specs.Chart.{Pairs, chart, ecc, ownPairs}
 use Rattle.graph.specs.Rounds.{State, joinPairs, round, rounds, start}
-use Rattle.graph.specs.Opening.{opening, openCase, stayingPairs, anyPair}
+use Rattle.graph.specs.Opening.{opening, openCase, stayingPairs, anyPair, via}
 use Rattle.graph.specs.Correct.{IsNet}
 use Rattle.graph.proofs.Charts.{chart-metric, depot-in}
 use Rattle.rows.specs.Rows.{tableBit, encodeTable}
@@ -25,7 +25,7 @@ use Rattle.map.specs.Memory.{base, networkOf}
 use Rattle.map.proofs.Theorems.{network-open-below}
 use Rattle.outcome.specs.declared.Change.the-variants.{Grew, Kept, Shrank}
 use Rattle.pairs.specs.Pairs.{Tally, tally, tallyOf, pairsWith, settleOf}
-use Rattle.stale_pairs.specs.Stale.{dropped, dropOf}
+use Rattle.stale_pairs.specs.Stale.{dropped, wayBy, dropOf}
 use Rattle.pairs.proofs.Tallies.{tally-ext, table-over}
 use Rattle.rounds.specs.Leaves.{Lent, lent, Ran, ran, ranBy, roundsLeave}
 use Rattle.rounds.specs.Workspace.{lastRow}
@@ -170,9 +170,9 @@ module _ (codes links : List ℕ) (B : Lent) (a e D : ℕ) (I : HoldsSearch base
 
   -- ---- the stale pairs are gone
 
-  module _ (ends : (u v : ℕ) → T (tableBit 4 (B .pairs) u v) → T (networkOf 4 codes links .isOpen u) × T (networkOf 4 codes links .isOpen v)) (low : e ≤ D) (t : List ℕ) (k w : ℕ) (drops : dropped (tally t k) w ≡ dropOf 4 (B .searched .hops) D (B .pairs)) where
-    drops-by : dropped (tally t k) w ≡ dropOf 4 (searchLeaves 4 G a (B .searched) .hops) D (B .pairs)
-    drops-by = drops ∙ ap (λ (T : Tables). dropOf 4 (T .hops) D (B .pairs)) (I .stands)
+  module _ (ends : (u v : ℕ) → T (tableBit 4 (B .pairs) u v) → T (delivers (networkOf 4 codes links) u) × T (delivers (networkOf 4 codes links) v)) (low : e ≤ D) (t : List ℕ) (k w : ℕ) (drops : dropped (tally t k) w ≡ dropOf 4 (wayBy (B .searched .hops)) D (B .pairs)) where
+    drops-by : dropped (tally t k) w ≡ dropOf 4 (wayBy (searchLeaves 4 G a (B .searched) .hops)) D (B .pairs)
+    drops-by = drops ∙ ap (λ (T : Tables). dropOf 4 (wayBy (T .hops)) D (B .pairs)) (I .stands)
 
     tally-left : tally t k ≡ tallyOf 4 Left (B .pairs)
     tally-left = left-is 4 G (I .net) below a (B .searched) D (B .pairs) ends drops-by

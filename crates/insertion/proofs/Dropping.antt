@@ -22,10 +22,12 @@ use Rattle.graph.proofs.Charts.{depot-in, depot-out}
 use Rattle.rows.specs.Rows.{tableBit}
 use Rattle.layers.specs.Layers.{Tables, searchLeaves}
 use Rattle.pairs.specs.Pairs.{Tally, tally, tallyOf}
-use Rattle.stale_pairs.specs.Stale.{Dropped, dropped, staying, greatestWay, dropOf}
+use Rattle.stale_pairs.specs.Stale.{Dropped, dropped, wayBy, dropOf}
 use Rattle.pairs.proofs.PairCounts.{pairs-none, pairs-zero}
 use Rattle.pairs.proofs.Tallies.{tally-ext}
 use Rattle.stale_pairs.proofs.Theorems.{drop-way}
+use Rattle.graph.proofs.Delivers.{delivers-open}
+use Rattle.graph.specs.Network.{delivers}
 
 -- ---- the greatest of a list
 
@@ -37,7 +39,7 @@ max-ext f g (x ∷ xs) h = ap₂ max (h x (List·Memᴰ·head refl)) (max-ext f 
 -- ---- the stored pairs t, on the network G with the new depot a
 
 module _ (W : ℕ) (G : Network) (net : IsNet G) (below : (v : ℕ) → T (G .isOpen v) → v < 64 * W) (a : ℕ) (T₀ : Tables) (D : ℕ) (t : List ℕ)
-    (ends : (u v : ℕ) → T (tableBit W t u v) → T (G .isOpen u) × T (G .isOpen v)) where
+    (ends : (u v : ℕ) → T (tableBit W t u v) → T (delivers G u) × T (delivers G v)) where
   abbrev hops : List ℕ
   hops = searchLeaves W G a T₀ .hops
 
@@ -52,8 +54,8 @@ module _ (W : ℕ) (G : Network) (net : IsNet G) (below : (v : ℕ) → T (G .is
   unfolding via chart
   way u v l m = ap₂ (λ (x y : ℕ). x + y) (hop u l) (hop v m)
 
-  stay : (u v : ℕ) → u < 64 * W → v < 64 * W → staying W hops D t u v ≡ Left u v
-  unfolding staying stayingPairs
+  stay : (u v : ℕ) → u < 64 * W → v < 64 * W → stayingPairs (wayBy hops) D (tableBit W t) u v ≡ Left u v
+  unfolding stayingPairs
   stay u v l m = ap (λ (x : ℕ). tableBit W t u v && not (ltb x D)) (way u v l m)
 
   left-stored : (u v : ℕ) → Left u v ≡ true → T (tableBit W t u v)
@@ -66,14 +68,14 @@ module _ (W : ℕ) (G : Network) (net : IsNet G) (below : (v : ℕ) → T (G .is
   closed-row u v q = go (look (tableBit W t u v))
     where
       go : (tableBit W t u v ≡ true) ⊎ (tableBit W t u v ≡ false) → tableBit W t u v ≡ false
-      go (inl h) = absurd (clash (t→true (G .isOpen u) (ends u v (true→t h) .0)) q)
+      go (inl h) = absurd (clash (t→true (G .isOpen u) (delivers-open G u (ends u v (true→t h) .0))) q)
       go (inr h) = h
 
   closed-column : (u v : ℕ) → G .isOpen v ≡ false → tableBit W t u v ≡ false
   closed-column u v q = go (look (tableBit W t u v))
     where
       go : (tableBit W t u v ≡ true) ⊎ (tableBit W t u v ≡ false) → tableBit W t u v ≡ false
-      go (inl h) = absurd (clash (t→true (G .isOpen v) (ends u v (true→t h) .1)) q)
+      go (inl h) = absurd (clash (t→true (G .isOpen v) (delivers-open G v (ends u v (true→t h) .1))) q)
       go (inr h) = h
 
   abbrev reach : ℕ → ℕ → ℕ
@@ -96,8 +98,8 @@ module _ (W : ℕ) (G : Network) (net : IsNet G) (below : (v : ℕ) → T (G .is
       go v (inr c) = omega (arith, h v c)
 
   -- THE GREATEST WAY IS THE CANDIDATE
-  pub way-is : greatestWay W hops D t ≡ shrunkCandidate (chart G .depots) (via (chart G) a) D (tableBit W t)
-  unfolding greatestWay shrunkCandidate
+  pub way-is : shrunkCandidate (range (64 * W)) (wayBy hops) D (tableBit W t) ≡ shrunkCandidate (chart G .depots) (via (chart G) a) D (tableBit W t)
+  unfolding shrunkCandidate
   way-is =
       max-ext (λ u. maxOf (λ v. cond (tableBit W t u v) (min D (getD hops u 0 + getD hops v 0)) 0) (range (64 * W))) (λ u. maxOf (reach u) (chart G .depots)) (range (64 * W))
       (λ u l. max-ext (λ v. cond (tableBit W t u v) (min D (getD hops u 0 + getD hops v 0)) 0) (reach u) (range (64 * W))
@@ -107,13 +109,13 @@ module _ (W : ℕ) (G : Network) (net : IsNet G) (below : (v : ℕ) → T (G .is
 
   -- ---- what is left
 
-  module _ {t′ : List ℕ} {n w : ℕ} (q : dropped (tally t′ n) w ≡ dropOf W hops D t) where
+  module _ {t′ : List ℕ} {n w : ℕ} (q : dropped (tally t′ n) w ≡ dropOf W (wayBy hops) D t) where
     pub left-is : tally t′ n ≡ tallyOf W Left t
     unfolding dropOf
-    left-is = ap (λ (x : Dropped). x .left) q ∙ tally-ext W (staying W hops D t) Left t stay
+    left-is = ap (λ (x : Dropped). x .left) q ∙ tally-ext W (stayingPairs (wayBy hops) D (tableBit W t)) Left t stay
 
     pub candidate-is : w ≡ shrunkCandidate (chart G .depots) (via (chart G) a) D (tableBit W t)
-    candidate-is = drop-way W hops D t q ∙ way-is
+    candidate-is = drop-way W (wayBy hops) D t q ∙ way-is
 
     count-is : n ≡ countPairs (range (64 * W)) Left
     unfolding tallyOf
@@ -145,4 +147,4 @@ module _ (W : ℕ) (G : Network) (net : IsNet G) (below : (v : ℕ) → T (G .is
             at u v (inr k) = k
             at u v (inl k) =
                 let o = ends u v (left-stored u v k) in
-                absurd (clash (any-intro (λ u. anyb (λ v. Left u v) (chart G .depots)) (chart G .depots) (depot-in G net u (o .0)) (any-intro (λ v. Left u v) (chart G .depots) (depot-in G net v (o .1)) k)) h)
+                absurd (clash (any-intro (λ u. anyb (λ v. Left u v) (chart G .depots)) (chart G .depots) (depot-in G net u (delivers-open G u (o .0))) (any-intro (λ v. Left u v) (chart G .depots) (depot-in G net v (delivers-open G v (o .1))) k)) h)

@@ -11,7 +11,7 @@ use Rattle.graph.specs.Network.{Network}
 use Rattle.graph.specs.Distance.{unreached}
 use Rattle.graph.specs.Chart.{chart, ecc, Pairs, ownPairs}
 use Rattle.graph.specs.Rounds.{State, round, rounds, pick, remaining, orStop, start}
-use Rattle.graph.specs.Opening.{opening, openCase, searchedOnce, stayingPairs, shrunkCandidate, anyPair}
+use Rattle.graph.specs.Opening.{opening, openCase, searchedOnce, stayingPairs, shrunkCandidate, anyPair, via}
 use Rattle.graph.proofs.Charts.{depot-in}
 use Rattle.rows.specs.Rows.{tableBit}
 use Rattle.layers.specs.Layers.{Tables, searchLeaves}

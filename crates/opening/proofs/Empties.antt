@@ -25,6 +25,7 @@ use Rattle.lists.proofs.Ranges.{sum-none}
 use Rattle.map.proofs.Empties.{none-zeros}
 use Rattle.opening.specs.Memory.{emptyMemory}
 use Rattle.opening.proofs.Memories.{IsHeld, record-path, memory-path, memoryFor, number-is}
+use Rattle.graph.proofs.Delivers.{delivers-open}
 
 -- a table without a bit is zeros
 none-table : (W : ℕ) → encodeTable W (λ u v. false) ≡ zeros (W * (64 * W))
@@ -61,7 +62,7 @@ module _ (K : Shape) (shape : IsShape K) where
   all-closed u = refl
 
   pub none-farthest : farthest E ≡ (λ u v. false)
-  none-farthest = fun-ext (λ u. fun-ext (λ v. not→false (farthest E u v) (λ h. false→not (all-closed u) (farthest-is E (empty-held .net) u v .0 h .first))))
+  none-farthest = fun-ext (λ u. fun-ext (λ v. not→false (farthest E u v) (λ h. false→not (all-closed u) (delivers-open E u (farthest-is E (empty-held .net) u v .0 h .first)))))
 
   none-number : length (vertices E) ≡ 0
   none-number = number-is K E empty-held ∙ count-none (E .isOpen) (range (places K)) (λ u m. all-closed u)
@@ -69,9 +70,9 @@ module _ (K : Shape) (shape : IsShape K) where
   pub none-diameter : diameter E ≡ 0
   none-diameter = go (diameter-is E (empty-held .net) .attained)
     where
-      go : (diameter E ≡ 0) ⊎ ((u : ℕ) × T (E .isOpen u) × IsEcc E (delivers E) u (diameter E)) → diameter E ≡ 0
+      go : (diameter E ≡ 0) ⊎ ((u : ℕ) × T (delivers E u) × IsEcc E (delivers E) u (diameter E)) → diameter E ≡ 0
       go (inl z) = z
-      go (inr x) = absurd (false→not (all-closed (x .0)) (x .1))
+      go (inr x) = absurd (false→not (all-closed (x .0)) (delivers-open E (x .0) (x .1)))
 
   none-count : countPairs (range (places K)) (farthest E) ≡ 0
   none-count = ap (countPairs (range (places K))) none-farthest ∙ no-pairs (places K)

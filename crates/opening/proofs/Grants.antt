@@ -31,6 +31,9 @@ use Rattle.checks.proofs.Theorems.{sound-links-iff, sound-figures-iff}
 use Rattle.rounds.specs.Sizes.{Sizes, longEnough}
 use Rattle.opening.specs.OpenCall.{openRefusal, networkAfter}
 use Rattle.opening.proofs.Memories.{IsHeld, Stores, number-is, depots-few}
+use Rattle.graph.proofs.Delivers.{delivers-open}
+use Rattle.graph.specs.Updates.{opens, updateFaults, IsLawful}
+use Rattle.graph.proofs.Updates.{update-lawful}
 
 -- the definitions of specs/OpenCall.antt, opened one step
 pub after-is : (K : Shape) (rec : Record) (links : List ℕ) (o : Notice) → networkAfter K rec links o ≡ withDepot (mapNetwork K rec links) o
@@ -85,6 +88,11 @@ module _ (K : Shape) (shape : IsShape K) (rec : Record) (links pairs : List ℕ)
   pub granted-chain : rec .chain ≤ unreached
   granted-chain = omega (arith, granted-figures .below, shape .most)
 
+  -- so the opening keeps its promises
+  pub granted-lawful : IsLawful N (opens o)
+  unfolding updateFaults
+  granted-lawful = update-lawful N granted-net (opens o) granted-room granted-notice
+
   pub admitted : IsAdmitted N (o .code) (λ v. memb v (o .neighbours))
   admitted = admitted-of N granted-net o granted-room granted-notice
 
@@ -113,13 +121,13 @@ module _ (K : Shape) (shape : IsShape K) (G : Network) (held : IsHeld K G) where
   diameter-below : diameter G < places K
   diameter-below = go (diameter-is G (held .net) .attained)
     where
-      reached : (u : ℕ) → T (G .isOpen u) → (diameter G ≡ 0) ⊎ ((v : ℕ) × T (G .isOpen v) × IsDist G u v (diameter G)) → diameter G < places K
+      reached : (u : ℕ) → T (G .isOpen u) → (diameter G ≡ 0) ⊎ ((v : ℕ) × T (delivers G v) × IsDist G u v (diameter G)) → diameter G < places K
       reached u o (inl z) = let p : 0 < K .words = shape .positive in omega arith
       reached u o (inr x) = omega (arith, distance-below G (held .net) u (x .0) (diameter G) o (x .2), depots-few K G held)
 
-      go : (diameter G ≡ 0) ⊎ ((u : ℕ) × T (G .isOpen u) × IsEcc G (delivers G) u (diameter G)) → diameter G < places K
+      go : (diameter G ≡ 0) ⊎ ((u : ℕ) × T (delivers G u) × IsEcc G (delivers G) u (diameter G)) → diameter G < places K
       go (inl z) = let p : 0 < K .words = shape .positive in omega arith
-      go (inr x) = reached (x .0) (x .1) (x .2 .attained)
+      go (inr x) = reached (x .0) (delivers-open G (x .0) (x .1)) (x .2 .attained)
 
   links-are-sound : AreLinksSound (places K) G (length (vertices G))
   links-are-sound = record { isSound = held .net .sound; counted = number-is K G held }

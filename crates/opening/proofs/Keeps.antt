@@ -4,25 +4,21 @@ use mathlib.Core.Path.{_≡_, refl, sym, ap, ap₂, _∙_}
 use mathlib.Core.Bool.{Bool, true, cond}
 use mathlib.Core.List.{List, [], _∷_}
 use Prim.Native.Nat.{ℕ, zero, suc, _*_, _≤_, _<_}
-use native.Mathlib.Nat.{lt-of-lt-of-le}
 use native.Mathlib.Omega.{arith}
 use lib.Dec.{T}
 use lib.ListN.{length}
-use borrow.Author.Tests.{ltb-true, lt-ltb}
-use Rattle.lists.specs.Lists.{range, memb, lastOr}
-use Rattle.lists.proofs.Tests.{t→true, true→t}
+use Rattle.lists.specs.Lists.{range, lastOr}
 use Rattle.lists.proofs.Fills.{overwrite-length, fill-length}
 use Rattle.rows.specs.Rows.{tableBit, encodeRow, encodeTable}
 use Rattle.rows.proofs.Written.{encode-row-length, encode-table-length}
 use Rattle.graph.specs.Network.{Network}
 use Rattle.graph.specs.Distance.{unreached, dist}
-use Rattle.graph.specs.Chart.{chart, countPairs}
+use Rattle.graph.specs.Chart.{countPairs}
 use Rattle.graph.specs.Rounds.{markOf, boundOf}
-use Rattle.graph.specs.Opening.{Notice, byCode, withDepot, Opened}
-use Rattle.graph.proofs.OpeningCases.{IsInserted}
-use Rattle.graph.proofs.Opened.{inserted}
-use Rattle.graph.proofs.Charts.{chart-metric}
-use Rattle.graph.proofs.SoundFigures.{AreSound, opening-sound, ecc-below}
+use Rattle.graph.specs.Opening.{Notice, Opened}
+use Rattle.graph.specs.Correct.{AreSound}
+use Rattle.graph.specs.Updates.{applied, steps}
+use Rattle.graph.proofs.Delivers.{delivers-open}
 use Rattle.layers.specs.Layers.{layerBit, depthFrom, Tables, searchLeaves}
 use Rattle.map.specs.Memory.{Shape, IsShape, places, networkOf, mapNetwork}
 use Rattle.checks.specs.Sound.{AreFiguresSound}
@@ -34,7 +30,7 @@ use Rattle.reckon.proofs.Longs.{are-long}
 use Rattle.opening.specs.OpenCall.{openRefusal, networkAfter, openedBy, openGiven, openCall}
 use Rattle.opening.specs.Steps.{mapRefusal}
 use Rattle.opening.proofs.Memories.{IsHeld, Stores, depots-few, network-read, pairs-read}
-use Rattle.opening.proofs.Grants.{granted-long, granted-figures, granted-net, admitted, held-after, number-after, links-pass, figures-pass, connected-pass}
+use Rattle.opening.proofs.Grants.{granted-long, granted-figures, granted-lawful, held-after, number-after, links-pass, figures-pass, connected-pass}
 use Rattle.opening.proofs.Openings.{given-number, given-chain, given-codes, given-count, given-links, given-pairs}
 use Rattle.opening.proofs.Refuses.{refused-never}
 
@@ -86,43 +82,31 @@ module _ (K : Shape) (rec : Record) (links : List ℕ) (B : Lent) (o : Notice) w
     held : IsHeld K H
     held = held-after K shape rec links (B .pairs) (sizesOf links B) o ok low
 
-    was-inserted : IsInserted (chart G) (chart H) (o .code)
-    unfolding networkAfter withDepot
-    was-inserted =
-        inserted byCode G (granted-net K shape rec links (B .pairs) (sizesOf links B) o ok) (o .code) (λ v. memb v (o .neighbours))
-        (admitted K shape rec links (B .pairs) (sizesOf links B) o ok)
-
-    -- the stored figures are sound for the network with the depot too
-    stored-sound : AreSound (chart H) (places K) (rec .chain) (tableBit (K .words) (B .pairs))
-    unfolding chart networkOf networkAfter withDepot
+    stored-sound : AreSound G (places K) (rec .chain) (tableBit (K .words) (B .pairs))
+    unfolding networkOf
     stored-sound =
         let f = granted-figures K shape rec links (B .pairs) (sizesOf links B) o ok in
         record {
           below = f .below;
           pairs = λ u v h.
-              let l = network-linked-below (K .words) (rec .codes) (B .pairs) u v (true→t h) in
-              let e = f .ends u v (l .0) (l .1) (true→t h) in (
-                lt-ltb u v (f .rising u v (l .0) (l .1) (true→t h)),
-                was-inserted .old u (t→true (G .isOpen u) (e .0)),
-                was-inserted .old v (t→true (G .isOpen v) (e .1)),
-              );
+              let l = network-linked-below (K .words) (rec .codes) (B .pairs) u v h in
+              let e = f .ends u v (l .0) (l .1) h in
+              (f .rising u v (l .0) (l .1) h, e .0, e .1);
         }
 
-    left-sound : AreSound (chart H) (places K) (x .final .candidate) (x .final .pairs)
-    unfolding openedBy
+    left-sound : AreSound H (places K) (x .final .candidate) (x .final .pairs)
+    unfolding openedBy networkAfter applied steps
     left-sound =
-        opening-sound (chart H) (chart-metric H (held .net)) (places K) (λ v t. lt-of-lt-of-le (ecc-below H (held .net) v t) (depots-few K H held)) (o .code) (was-inserted .new)
-        (rec .chain) (tableBit (K .words) (B .pairs)) stored-sound
+        granted-lawful K shape rec links (B .pairs) (sizesOf links B) o ok .sound (places K) (rec .chain) (tableBit (K .words) (B .pairs)) (depots-few K H held) stored-sound
 
     pub left-ends : (u v : ℕ) → T (openedBy K rec links (B .pairs) o .final .pairs u v) → T (networkAfter K rec links o .isOpen u) × T (networkAfter K rec links o .isOpen v)
-    unfolding chart
-    left-ends u v h = let p = left-sound .pairs u v (t→true (x .final .pairs u v) h) in (true→t (p .1), true→t (p .2))
+    left-ends u v h = let p = left-sound .pairs u v h in (delivers-open H u (p .1), delivers-open H v (p .2))
 
     left-figures : AreFiguresSound (places K) (networkAfter K rec links o) (openedBy K rec links (B .pairs) o .final .pairs)
         (openedBy K rec links (B .pairs) o .final .candidate) (countPairs (range (places K)) (openedBy K rec links (B .pairs) o .final .pairs))
     left-figures = record {
-      rising = λ u v l m h. ltb-true u v (left-sound .pairs u v (t→true (x .final .pairs u v) h) .0);
-      ends = λ u v l m h. left-ends u v h;
+      rising = λ u v l m h. left-sound .pairs u v h .0;
+      ends = λ u v l m h. let p = left-sound .pairs u v h in (p .1, p .2);
       counted = refl;
       below = left-sound .below;
     }

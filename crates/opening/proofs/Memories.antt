@@ -26,6 +26,7 @@ use Rattle.map.specs.declared.Record.{Record}
 use Rattle.opening.specs.Memory.{Memory}
 use Rattle.opening.specs.Represents.{Represents}
 use Rattle.lists.proofs.Buffers.{overwrite-all}
+use Rattle.graph.proofs.Delivers.{delivers-open}
 
 -- ---- networks and memories are equal by their fields
 
@@ -100,7 +101,7 @@ module _ (K : Shape) (G : Network) (held : IsHeld K G) where
   linked-open u v l = (held .net .sound .ends v u (held .net .sound .symmetric u v l), held .net .sound .ends u v l)
 
   farthest-open : (u v : ℕ) → T (farthest G u v) → T (G .isOpen u) × T (G .isOpen v)
-  farthest-open u v h = let p = farthest-is G (held .net) u v .0 h in (p .first, p .second)
+  farthest-open u v h = let p = farthest-is G (held .net) u v .0 h in (delivers-open G u (p .first), delivers-open G v (p .second))
 
   both-below : (f : ℕ → ℕ → Bool) → ((u v : ℕ) → T (f u v) → T (G .isOpen u) × T (G .isOpen v)) → (u v : ℕ) → f u v ≡ true → (ltb u (places K) && ltb v (places K)) ≡ true
   both-below f ends u v e =

@@ -10,10 +10,10 @@ use lib.Dec.{T, eqb, ltb}
 use lib.ListN.{length, getD}
 use borrow.Author.Tests.{eq-eqb, ne-eqb, ltb-false}
 use Rattle.lists.specs.Lists.{memb, overwrite}
-use Rattle.lists.proofs.Tests.{look, or-left, or-right, true→t, t→true}
-use Rattle.graph.specs.Network.{Network}
+use Rattle.lists.proofs.Tests.{look, or-left, true→t}
+use Rattle.graph.specs.Network.{Network, delivers}
 use Rattle.graph.specs.Chart.{chart}
-use Rattle.graph.specs.Opening.{Notice, withDepot, opening, grew, kept, shrank}
+use Rattle.graph.specs.Opening.{Notice, byCode, withDepot, opening, grew, kept, shrank}
 use Rattle.graph.specs.Opening as Graph
 use Rattle.graph.specs.Correct.{IsNet}
 use Rattle.rows.specs.Rows.{rowBit, tableBit, encodeRow, encodeTable, putBit}
@@ -36,7 +36,8 @@ use Rattle.insertion.specs.Figured.{changeAs, Figured, figured, figuredBy, IsFi
 use Rattle.opening.specs.OpenCall.{changeOf, openRefusal, networkAfter, openedBy, OpenLeft, openGiven}
 use Rattle.opening.specs.Steps.{noticeOf}
 use Rattle.opening.proofs.Memories.{depots-few}
-use Rattle.opening.proofs.Grants.{granted-long, granted-figures, admitted, held-after, number-after}
+use Rattle.opening.proofs.Grants.{granted-long, granted-net, granted-figures, admitted, held-after, number-after}
+use Rattle.graph.proofs.Opened.{delivers-old}
 
 -- ---- the open set
 
@@ -115,9 +116,9 @@ module _ (rec : Record) (links p h b s x y : List ℕ) (code : ℕ) (ns : List �
     figures-are : AreFiguresSound 256 G (tableBit 4 p) (rec .chain) (rec .count)
     figures-are = granted-figures base base-shape rec links p z o ok
 
-    open-still : (v : ℕ) → T (G .isOpen v) → T (H .isOpen v)
+    still : (v : ℕ) → T (delivers G v) → T (delivers H v)
     unfolding networkAfter withDepot
-    open-still v t = true→t (or-right (eqb v code) (t→true (G .isOpen v) t))
+    still v t = delivers-old byCode G (granted-net base base-shape rec links p z o ok) code (λ v. memb v ns) (admitted base base-shape rec links p z o ok) v t
 
     open-new : T (H .isOpen code)
     unfolding networkAfter withDepot
@@ -144,7 +145,7 @@ module _ (rec : Record) (links p h b s x y : List ℕ) (code : ℕ) (ns : List �
           rising = λ u v t. f .rising u v (below u v t .0) (below u v t .1) t;
           ends = λ u v t.
               let d = f .ends u v (below u v t .0) (below u v t .1) t in
-              (subst (λ (N : Network). T (N .isOpen u)) (sym e) (open-still u (d .0)), subst (λ (N : Network). T (N .isOpen v)) (sym e) (open-still v (d .1)));
+              (subst (λ (N : Network). T (delivers N u)) (sym e) (still u (d .0)), subst (λ (N : Network). T (delivers N v)) (sym e) (still v (d .1)));
           counted = f .counted;
           low = f .below;
         }

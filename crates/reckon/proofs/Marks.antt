@@ -23,6 +23,7 @@ use Rattle.graph.specs.Correct.{Stands, AreReferences}
 use Rattle.rows.specs.Rows.{tableBit, encodeTable}
 use Rattle.rows.proofs.Written.{table-read}
 use Rattle.map.specs.Memory.{Shape, IsShape, places}
+use Rattle.graph.proofs.Delivers.{delivers-open}
 
 -- the last of a list is in it
 last-in : (r : ℕ) (rs : List ℕ) → List·Memᴰ (lastOr r rs) (r ∷ rs)
@@ -48,7 +49,7 @@ module _ (K : Shape) (G : Network) (sound : IsSound G) (below : (v : ℕ) → T 
       low : (u v : ℕ) → P u v ≡ true → (ltb u (places K) && ltb v (places K)) ≡ true
       low u v h =
           let f = tells u v .0 (true→t h) in
-          and-intro (lt-ltb u (places K) (below u (f .first))) (lt-ltb v (places K) (below v (f .second)))
+          and-intro (lt-ltb u (places K) (below u (delivers-open G u (f .first)))) (lt-ltb v (places K) (below v (delivers-open G v (f .second))))
 
   -- ---- skip and bound table tell the searched depots and their eccentricities
 

@@ -14,7 +14,7 @@ use Rattle.lists.specs.Lists.{range, allb, mapl, overwrite}
 use Rattle.lists.proofs.Tests.{look, true→t, false→not, lt-or-ge}
 use Rattle.lists.proofs.Conditions.{allFit, Tells, decides-test, decides-not, decides-short, refuses-by}
 use Rattle.lists.proofs.Fills.{length-fill, overwrite-length, fill-at}
-use Rattle.graph.specs.Network.{Network, IsDist}
+use Rattle.graph.specs.Network.{Network, IsDist, delivers}
 use Rattle.graph.specs.Distance.{unreached, dist}
 use Rattle.graph.specs.Chart.{chart, ecc}
 use Rattle.graph.specs.Correct.{IsNet}
@@ -113,7 +113,7 @@ module _ (W : ℕ) (G : Network) (net : IsNet G) (inside : (v : ℕ) → T (G .i
   ecc-low : ecc (chart G) s < unreached
   ecc-low = go (eccentricity-is G net s o .attained)
     where
-      go : (ecc (chart G) s ≡ 0) ⊎ ((v : ℕ) × T (G .isOpen v) × IsDist G s v (ecc (chart G) s)) → ecc (chart G) s < unreached
+      go : (ecc (chart G) s ≡ 0) ⊎ ((v : ℕ) × T (delivers G v) × IsDist G s v (ecc (chart G) s)) → ecc (chart G) s < unreached
       go (inl z) = omega (arith, z)
       go (inr d) = omega (arith, distance-below G net s (d .0) (ecc (chart G) s) o (d .2), net .small)
 

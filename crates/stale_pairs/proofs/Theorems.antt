@@ -4,7 +4,7 @@ use mathlib.Core.List.{List}
 use Prim.Native.Nat.{ℕ, _*_}
 use Rattle.pairs.specs.Pairs.{tally, Counted}
 use Rattle.pairs.proofs.Tallies.{HoldsPairs, holds-counted}
-use Rattle.stale_pairs.specs.Stale.{Dropped, dropped, dropOf, HasHops}
+use Rattle.stale_pairs.specs.Stale.{Dropped, dropped, wayBy, dropOf, HasHops}
 use Rattle.graph.specs.Opening.{stayingPairs, shrunkCandidate}
 use Rattle.lists.specs.Lists.{range}
 use Rattle.rows.specs.Rows.{tableBit}
@@ -18,5 +18,5 @@ module _ (W : ℕ) (far : ℕ → ℕ → ℕ) (D : ℕ) (t : List ℕ) {t′ : 
   unfolding dropOf
   drop-way = ap (λ (x : Dropped). x .way) q
 
-  pub drop-counted : {hops : List ℕ} → HasHops W t hops → Counted W t′ n
-  drop-counted a = holds-counted drop-holds (a .positive) (a .most) (a .table)
+pub drop-counted : (W : ℕ) (hops : List ℕ) (D : ℕ) (t : List ℕ) {t′ : List ℕ} {n w : ℕ} → dropped (tally t′ n) w ≡ dropOf W (wayBy hops) D t → HasHops W t hops → Counted W t′ n
+drop-counted W hops D t q a = holds-counted (drop-holds W (wayBy hops) D t q) (a .positive) (a .most) (a .table)
