@@ -33,6 +33,7 @@ use Rattle.opening.proofs.Keeps.{left-ends, left-stores}
 use Rattle.cases.specs.Results.{pairsIn, answerOf, answersOf, noticesOf, AllLong}
 use Rattle.cases.proofs.Listings.{pairs-open, count-open}
 use Rattle.map.proofs.Theorems.{base-shape}
+use Rattle.graph.proofs.Delivers.{delivers-open}
 
 -- a network with its own figures
 abbrev pub figuredFor : Network → PlainMap
@@ -182,7 +183,7 @@ module _ (G : Network) (held : IsHeld base G) (c : Call) (call : IsCall base c) 
   -- ---- refused
 
   own-ends : (u v : ℕ) → farthest G u v ≡ true → (G .isOpen u ≡ true) × (G .isOpen v ≡ true)
-  own-ends u v h = let f = farthest-is G (held .net) u v .0 (true→t h) in (t→true (G .isOpen u) (f .first), t→true (G .isOpen v) (f .second))
+  own-ends u v h = let f = farthest-is G (held .net) u v .0 (true→t h) in (t→true (G .isOpen u) (delivers-open G u (f .first)), t→true (G .isOpen v) (delivers-open G v (f .second)))
 
   refused-line : (k : ℕ) → answerOf (openGiven (suc k) base R L B o) ≡ followOne (suc k) (figuredFor G) o .1
   unfolding openGiven Outcome.letterOf Outcome.refusalOf

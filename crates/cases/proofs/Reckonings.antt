@@ -29,6 +29,7 @@ use Rattle.opening.proofs.Memories.{IsHeld, pairs-read}
 use Rattle.cases.specs.Results.{pairsIn, IsMapOf, Result, resultOf}
 use Rattle.cases.proofs.Listings.{pairs-open, count-open}
 use Rattle.cases.proofs.Paths.{path-held}
+use Rattle.graph.proofs.Delivers.{delivers-open}
 
 -- the result of the path's own reckoning
 unfoldable pub pathResult : ℕ → ℕ → Result
@@ -89,7 +90,7 @@ module _ (k number : ℕ) (low : k ≤ 256) (counts : number ≡ countb (path k 
 
   -- the pairs join open depots
   ends : (u v : ℕ) → T (S .pairs u v) → T (path k .isOpen u) × T (path k .isOpen v)
-  ends u v h = let f = reckoning-correct (path k) (held .net) .figures .pairs u v .0 h in (f .first, f .second)
+  ends u v h = let f = reckoning-correct (path k) (held .net) .figures .pairs u v .0 h in (delivers-open (path k) u (f .first), delivers-open (path k) v (f .second))
 
   tests : (u v : ℕ) → S .pairs u v ≡ true → (path k .isOpen u ≡ true) × (path k .isOpen v ≡ true)
   tests u v h = let e = ends u v (true→t h) in (t→true (path k .isOpen u) (e .0), t→true (path k .isOpen v) (e .1))

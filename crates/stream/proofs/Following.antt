@@ -39,6 +39,7 @@ use Rattle.transcript.specs.Transcript.{noticeIn, Followed, searchesBy, followB
 use Rattle.line_buffer.specs.Lines.{reportOf}
 use Rattle.stream.specs.Feeding.{answerTo}
 use Rattle.map.proofs.Theorems.{base-shape}
+use Rattle.graph.proofs.Delivers.{delivers-open}
 
 -- ---- the number of farthest pairs is that of pairs of open depots
 
@@ -49,9 +50,9 @@ pairs-counted G held =
     sym (
     ap (λ (vs : List ℕ). sumOf (λ u. countb (λ v. farthest G u v) vs) vs) (held .depots)
     ∙ sum-filter (G .isOpen) (λ u. countb (λ v. farthest G u v) (filterb (G .isOpen) all)) all
-    (λ u closed. count-none (λ v. farthest G u v) (filterb (G .isOpen) all) (λ v m. not→false (farthest G u v) (λ t. clash (t→true (G .isOpen u) (farthest-is G (held .net) u v .0 t .first)) closed)))
+    (λ u closed. count-none (λ v. farthest G u v) (filterb (G .isOpen) all) (λ v m. not→false (farthest G u v) (λ t. clash (t→true (G .isOpen u) (delivers-open G u (farthest-is G (held .net) u v .0 t .first))) closed)))
     ∙ sum-ext (λ u. countb (λ v. farthest G u v) (filterb (G .isOpen) all)) (λ u. countb (λ v. farthest G u v) all) all
-    (λ u. count-filter (G .isOpen) (λ v. farthest G u v) all (λ v t. t→true (G .isOpen v) (farthest-is G (held .net) u v .0 (true→t t) .second)))
+    (λ u. count-filter (G .isOpen) (λ v. farthest G u v) all (λ v t. t→true (G .isOpen v) (delivers-open G v (farthest-is G (held .net) u v .0 (true→t t) .second))))
     )
 
 -- ---- the empty map
