@@ -10,7 +10,7 @@ use lib.Dec.{eqb, ltb}
 use lib.ListN.{length}
 use borrow.Author.Tests.{eqb-true, eq-eqb, ne-eqb, lt-ltb, le-ltb}
 use Rattle.lists.specs.Lists.{range, mapl, anyb, countb, maxOf, overwrite}
-use Rattle.lists.proofs.Members.{any-elim, range-out, length-range, filter-all}
+use Rattle.lists.proofs.Members.{any-elim, range-out, length-range}
 use Rattle.lists.proofs.Counts.{max-ge, max-le-of, count-le-length}
 use Rattle.lists.proofs.Fills.{fill-ext, overwrite-twice, length-fill}
 use Rattle.graph.specs.Distance.{vertices, unreached, hops, dist}

@@ -2,8 +2,7 @@
 use mathlib.Core.Path.{_≡_, refl, sym, ap, _∙_, fun-ext}
 use mathlib.Core.Logic.{_⊎_, inl, inr}
 use mathlib.Core.Bool.{false}
-use Prim.Native.Nat.{ℕ, _*_, _<_}
-use native.Mathlib.Omega.{arith}
+use Prim.Native.Nat.{ℕ, _*_}
 use lib.Dec.{T, lit<}
 use lib.ListN.{length}
 use Rattle.lists.specs.Lists.{range, countb, distinct}

@@ -1,6 +1,6 @@
 -- WHAT NO REFUSAL SAYS, on any lent memory: the words mean a network that a map can hold, and the notice can be opened in it. And of a memory that
 -- stores a network with sound figures, refusals 2 and 3 never come. Assumes nothing.
-use mathlib.Core.Path.{_≡_, refl, sym, ap, _∙_, subst}
+use mathlib.Core.Path.{_≡_, refl, ap}
 use mathlib.Core.Logic.{_⊎_, inl, inr}
 use mathlib.Core.Bool.{Bool, true, false, not, _&&_, _||_}
 use mathlib.Core.List.{List, _∷_}

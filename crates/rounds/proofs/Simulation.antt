@@ -2,21 +2,21 @@
 use mathlib.Core.Path.{_≡_, refl, sym, ap, ap₂, _∙_, subst}
 use mathlib.Core.Logic.{_⊎_, inl, inr}
 use mathlib.Core.Bool.{Bool, true, false, cond, _&&_}
-use mathlib.Core.List.{List, [], _∷_, List·Memᴰ, List·Memᴰ·head, List·Memᴰ·tail}
+use mathlib.Core.List.{List, [], _∷_, List·Memᴰ}
 use mathlib.Core.Option.{Option, none, some}
 use Prim.Native.Nat.{ℕ, zero, suc, _+_, _*_, _≤_, _<_, min, max}
 use native.Mathlib.Nat.{le-of-lt, le-refl}
 use native.Mathlib.Omega.{arith}
 use lib.Dec.{T, eqb, ltb}
 use lib.ListN.{getD, length-append}
-use borrow.Author.Tests.{ltb-true, ltb-false, lt-ltb}
+use borrow.Author.Tests.{ltb-true, ltb-false}
 use Rattle.lists.specs.Lists.{range, filterb, memb, overwrite}
 use Rattle.lists.proofs.Tests.{look, t→true, true→t, clash}
 use Rattle.lists.proofs.Members.{filter-ext, filter-out, range-out}
 use Rattle.lists.proofs.Counts.{count-filter}
 use Rattle.lists.proofs.Fills.{fill-at}
 use Rattle.graph.specs.Network.{Network}
-use Rattle.graph.specs.Distance.{vertices, unreached, dist}
+use Rattle.graph.specs.Distance.{unreached, dist}
 use Rattle.graph.specs.Chart.{Chart, chart, ecc, Pairs, countPairs}
 use Rattle.graph.specs.Rounds.{Status, waiting, skipped, searched, isWaiting, State, offer, raise, joinPairs, round, better, pick, remaining, orStop, rounds}
 use Rattle.graph.specs.Correct.{IsNet}
