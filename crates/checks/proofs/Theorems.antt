@@ -122,7 +122,8 @@ module _ (n : ℕ) (G : Network) (P : Pairs) (chain count : ℕ) where
 
 -- ---- AN EMPTY MAP IS SOUND
 
-pub empty-links-sound : (W : ℕ) (left : EmptyLeft) → IsEmpty W left → soundLinks (64 * W) (networkOf W (left .after .codes) (left .links)) (left .after .number) ≡ true
+pub empty-links-sound : (W : ℕ) (left : EmptyLeft) → IsEmpty W left
+    → soundLinks (64 * W) (networkOf W (left .after .codes) (left .links)) (left .after .number) ≡ true
 unfolding networkOf
 empty-links-sound W left e =
     sound-links-iff W (left .after .codes) (left .links) (left .after .number) .1

@@ -53,7 +53,9 @@ module _ (G : Network) (net : IsNet G) where
   unfolding chart
   chart-metric = record {
     inside = λ v t. vertices-in G (net .sound) v (true→t t);
-    symmetric = λ u v mu mv. let ou = vertices-out G (net .sound) mu in let ov = vertices-out G (net .sound) mv in chart-only u v (chart G .distance v u) ou ov (dist-sym (net .sound) (chart-dist v u ov ou));
+    symmetric = λ u v mu mv.
+        let ou = vertices-out G (net .sound) mu in let ov = vertices-out G (net .sound) mv in
+        chart-only u v (chart G .distance v u) ou ov (dist-sym (net .sound) (chart-dist v u ov ou));
     triangle = λ u v w mu mv mw.
         let ou = vertices-out G (net .sound) mu in let ov = vertices-out G (net .sound) mv in let ow = vertices-out G (net .sound) mw in
         dist-triangle (chart-dist u v ou ov) (chart-dist v w ov ow) (chart-dist u w ou ow);
@@ -62,7 +64,9 @@ module _ (G : Network) (net : IsNet G) where
         let a : chart G .distance u v < length (vertices G) = dist-below G (net .sound) (net .small) u ou (chart G .distance u v) v (chart-dist u v ou ov) in
         omega (arith, net .small);
     self = λ u mu. let ou = vertices-out G (net .sound) mu in chart-only u u 0 ou ou dist-self;
-    apart = λ u v mu mv z. let ou = vertices-out G (net .sound) mu in let ov = vertices-out G (net .sound) mv in walk-zero (cast z (chart-dist u v ou ov .walk));
+    apart = λ u v mu mv z.
+        let ou = vertices-out G (net .sound) mu in let ov = vertices-out G (net .sound) mv in
+        walk-zero (cast z (chart-dist u v ou ov .walk));
   }
 
   -- ---- right figures are the published ones

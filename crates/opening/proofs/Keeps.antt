@@ -111,7 +111,8 @@ module _ (K : Shape) (rec : Record) (links : List ℕ) (B : Lent) (o : Notice) w
     left-sound : AreSound (chart H) (places K) (x .final .candidate) (x .final .pairs)
     unfolding openedBy
     left-sound =
-        opening-sound (chart H) (chart-metric H (held .net)) (places K) (λ v t. lt-of-lt-of-le (ecc-below H (held .net) v t) (depots-few K H held)) (o .code) (was-inserted .new)
+        opening-sound (chart H) (chart-metric H (held .net)) (places K)
+        (λ v t. lt-of-lt-of-le (ecc-below H (held .net) v t) (depots-few K H held)) (o .code) (was-inserted .new)
         (rec .chain) (tableBit (K .words) (B .pairs)) stored-sound
 
     pub left-ends : (u v : ℕ) → T (openedBy K rec links (B .pairs) o .final .pairs u v) → T (networkAfter K rec links o .isOpen u) × T (networkAfter K rec links o .isOpen v)
