@@ -8,7 +8,7 @@ use native.Mathlib.Omega.{arith}
 use lib.Dec.{T, eqb, ltb}
 use borrow.Author.Tests.{ltb-true, lt-ltb, eqb-true, eqb-false, eq-eqb, ne-eqb, not-true}
 use Rattle.lists.specs.Lists.{range, countb}
-use Rattle.lists.proofs.Counts.{count-none}
+use Rattle.lists.proofs.Counts.{count-none, sum-none}
 use Rattle.lists.proofs.Tests.{t→true, true→t, false→not, and-true, and-intro}
 use Rattle.rows.specs.Rows.{tableBit}
 use Rattle.graph.specs.Network.{Network}
@@ -16,7 +16,6 @@ use Rattle.graph.specs.Chart.{Pairs, countPairs}
 use Rattle.map.specs.Memory.{networkOf}
 use Rattle.checks.specs.Sound.{allSet, soundLink, soundLinks, soundPair, soundFigures, AreLinksSound, AreFiguresSound}
 use Rattle.map.specs.Empty.{EmptyLeft, IsEmpty}
-use Rattle.lists.proofs.Ranges.{sum-none}
 use Rattle.checks.proofs.Sets.{all-set-intro, all-set-elim}
 use Rattle.map.proofs.Theorems.{network-listed, network-once, network-linked-below}
 
