@@ -62,16 +62,19 @@ module _ (W : ℕ) (codes : List ℕ) (code : ℕ) (ns : List ℕ) where
   unfolding openFaults noticeFaults firstOf networkOf
   refused-lonely a b = rw (a, b)
 
-  pub refused-unsorted : rowBit W codes code ≡ false → (isEmpty ns && ltb 0 (length (vertices G))) ≡ false → strictlyRising ns ≡ false → 7 ≡ firstOf (openFaults G O)
+  pub refused-unsorted : rowBit W codes code ≡ false → (isEmpty ns && ltb 0 (length (vertices G))) ≡ false → strictlyRising ns ≡ false
+      → 7 ≡ firstOf (openFaults G O)
   unfolding openFaults noticeFaults firstOf networkOf
   refused-unsorted a b c = rw (a, b, c)
 
-  pub refused-unknown : rowBit W codes code ≡ false → (isEmpty ns && ltb 0 (length (vertices G))) ≡ false → strictlyRising ns ≡ true → allb (rowBit W codes) ns ≡ false
+  pub refused-unknown : rowBit W codes code ≡ false → (isEmpty ns && ltb 0 (length (vertices G))) ≡ false → strictlyRising ns ≡ true
+      → allb (rowBit W codes) ns ≡ false
       → 8 ≡ firstOf (openFaults G O)
   unfolding openFaults noticeFaults firstOf networkOf
   refused-unknown a b c d = rw (a, b, c, d)
 
-  pub refused-never : rowBit W codes code ≡ false → (isEmpty ns && ltb 0 (length (vertices G))) ≡ false → strictlyRising ns ≡ true → allb (rowBit W codes) ns ≡ true
+  pub refused-never : rowBit W codes code ≡ false → (isEmpty ns && ltb 0 (length (vertices G))) ≡ false → strictlyRising ns ≡ true
+      → allb (rowBit W codes) ns ≡ true
       → 0 ≡ firstOf (openFaults G O)
   unfolding openFaults noticeFaults firstOf networkOf
   refused-never a b c d = rw (a, b, c, d)

@@ -23,7 +23,8 @@ faults-any-links W codes l k o = refl
 
 -- what `link_depot` encodes is the links of the network with the new depot
 pub linked-is : (W : ℕ) (codes links : List ℕ) (code : ℕ) (ns : List ℕ)
-    → withDepot (networkOf W codes links) (record { code = code; neighbours = ns }) .linked ≡ (λ u v. (eqb u code && memb v ns) || (eqb v code && memb u ns) || tableBit W links u v)
+    → withDepot (networkOf W codes links) (record { code = code; neighbours = ns }) .linked
+    ≡ (λ u v. (eqb u code && memb v ns) || (eqb v code && memb u ns) || tableBit W links u v)
 unfolding withDepot networkOf
 linked-is W codes links code ns = refl
 
@@ -78,7 +79,7 @@ module _ (W code : ℕ) (ns : List ℕ) (wide : 4 ≤ W) (byte : code < 256) (by
   linked-after codes after links left new h e = λ i. record { depots = listed i; isOpen = λ c. h c i; linked = joined i }
     where
       listed : filterb (rowBit W after) (range (64 * W)) ≡ insertBy byCode code (filterb (rowBit W codes) (range (64 * W)))
-      listed = ap (λ (p : ℕ → Bool). filterb p (range (64 * W))) (fun-ext h) ∙ sym (insert-filter (rowBit W codes) code (64 * W) (omega arith) new)
+      listed = ap (λ (p : ℕ → Bool). filterb p (range (64 * W))) (fun-ext h) ∙ sym (insert-filter (rowBit W codes) code new (64 * W) (omega arith))
 
       joined : tableBit W left ≡ (λ u v. (eqb u code && memb v ns) || (eqb v code && memb u ns) || tableBit W links u v)
       joined = ap (tableBit W) e ∙ fun-ext (λ u. fun-ext (λ v. table-linked links u v))

@@ -72,7 +72,8 @@ follow-cons M o os = refl
 
 -- ---- a line read from a memory that stores a network with figures
 
-line-read : (N : Network) (D : ℕ) (P : Pairs) → vertices N ≡ filterb (N .isOpen) (range 256) → ((u v : ℕ) → P u v ≡ true → (N .isOpen u ≡ true) × (N .isOpen v ≡ true))
+line-read : (N : Network) (D : ℕ) (P : Pairs) → vertices N ≡ filterb (N .isOpen) (range 256)
+    → ((u v : ℕ) → P u v ≡ true → (N .isOpen u ≡ true) × (N .isOpen v ≡ true))
     → (l : OpenLeft) → Stores base N D P (l .after) (l .links) (l .lent .pairs)
     → answerOf l ≡ lineFor (Outcome.letterOf (l .report .outcome)) (Outcome.refusalOf (l .report .outcome)) (l .report .searches) (record { net = N; chain = D; pairs = P })
 unfolding answerOf pairsIn
@@ -163,7 +164,8 @@ module _ (G : Network) (held : IsHeld base G) (c : Call) (call : IsCall base c) 
     accepted-line : answerOf (openGiven zero base R L B o) ≡ followOne zero (figuredFor G) o .1
     accepted-line =
         let same = opened-is G (diameter G) (farthest G) R L (B .pairs) o says in
-        line-read H (x .final .candidate) (x .final .pairs) (held-after base base-shape R L (B .pairs) (sizesOf L B) o ok (call .code) .depots) ends l (left-stores base R L B o base-shape ok (call .code))
+        line-read H (x .final .candidate) (x .final .pairs) (held-after base base-shape R L (B .pairs) (sizesOf L B) o ok (call .code) .depots) ends l
+        (left-stores base R L B o base-shape ok (call .code))
         ∙ given-line
         ∙ ap₂ lineBy (same .0) (same .1)
         ∙ sym (ap (λ (r : PlainMap × AnswerLine). r .1) (accepted-is (figuredFor G) o))

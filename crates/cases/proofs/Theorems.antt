@@ -74,8 +74,13 @@ module _ (rec : Record) (links pairs : List ℕ) (l : 1024 ≤ length links) (p 
   emptied-path : (networkOf 4 (emptyCall base rec links pairs .after .codes) (emptyCall base rec links pairs .links) ≡ Graph.path 0) × (emptyCall base rec links pairs .after .number ≡ 0)
   unfolding networkOf Graph.path
   emptied-path =
-      let e = emptied-is-empty base rec links pairs emptied-done in
-      (network-path (filter-ext _ (λ c. false) (range 256) (λ c m. e .closed c) ∙ filter-none (range 256)) (λ c. e .closed c ∙ sym (none c)) (λ u v. e .unlinked u v ∙ sym (ap (λ (b : Bool). b && ltb v 0 && (eqb (suc u) v || eqb u (suc v))) (none u))), e .number)
+      let e = emptied-is-empty base rec links pairs emptied-done in (
+        network-path
+            (filter-ext _ (λ c. false) (range 256) (λ c m. e .closed c) ∙ filter-none (range 256))
+            (λ c. e .closed c ∙ sym (none c))
+            (λ u v. e .unlinked u v ∙ sym (ap (λ (b : Bool). b && ltb v 0 && (eqb (suc u) v || eqb u (suc v))) (none u))),
+        e .number,
+      )
     where
       none : (c : ℕ) → ltb c 0 ≡ false
       none c = le-ltb c 0 zero-le

@@ -8,7 +8,7 @@ use native.Mathlib.Omega.{arith}
 use lib.Dec.{T, eqb, ltb}
 use borrow.Author.Tests.{ltb-true, lt-ltb, eqb-true, eqb-false, eq-eqb, ne-eqb, not-true}
 use Rattle.lists.specs.Lists.{range, countb}
-use Rattle.lists.proofs.Counts.{count-none}
+use Rattle.lists.proofs.Counts.{count-none, sum-none}
 use Rattle.lists.proofs.Tests.{t→true, true→t, false→not, and-true, and-intro}
 use Rattle.rows.specs.Rows.{tableBit}
 use Rattle.graph.specs.Network.{Network, delivers}
@@ -17,7 +17,6 @@ use Rattle.map.specs.Memory.{networkOf}
 use Rattle.checks.specs.Sound.{allSet, soundLinks, soundFigures, AreLinksSound, AreFiguresSound}
 use Rattle.map.specs.Bits.{soundLink, soundPair}
 use Rattle.map.specs.Empty.{EmptyLeft, IsEmpty}
-use Rattle.lists.proofs.Ranges.{sum-none}
 use Rattle.checks.proofs.Sets.{all-set-intro, all-set-elim}
 use Rattle.map.proofs.Theorems.{network-listed, network-once, network-linked-below}
 
@@ -123,7 +122,8 @@ module _ (n : ℕ) (G : Network) (P : Pairs) (chain count : ℕ) where
 
 -- ---- AN EMPTY MAP IS SOUND
 
-pub empty-links-sound : (W : ℕ) (left : EmptyLeft) → IsEmpty W left → soundLinks (64 * W) (networkOf W (left .after .codes) (left .links)) (left .after .number) ≡ true
+pub empty-links-sound : (W : ℕ) (left : EmptyLeft) → IsEmpty W left
+    → soundLinks (64 * W) (networkOf W (left .after .codes) (left .links)) (left .after .number) ≡ true
 unfolding networkOf
 empty-links-sound W left e =
     sound-links-iff W (left .after .codes) (left .links) (left .after .number) .1

@@ -32,7 +32,8 @@ pub record IsAdmitted (G : Network) (a : ℕ) (beside : ℕ → Bool) : Type 0 w
   pub known : (v : ℕ) → beside v ≡ true → T (G .isOpen v)
   pub joined : (v : ℕ) → T (G .isOpen v) → (w : ℕ) × (beside w ≡ true)
 
-pub admitted-of : (G : Network) (net : IsNet G) (o : Notice) → suc (length (vertices G)) < unreached → firstOf (openFaults G o) ≡ 0 → IsAdmitted G (o .code) (λ v. memb v (o .neighbours))
+pub admitted-of : (G : Network) (net : IsNet G) (o : Notice) → suc (length (vertices G)) < unreached → firstOf (openFaults G o) ≡ 0
+    → IsAdmitted G (o .code) (λ v. memb v (o .neighbours))
 unfolding openFaults noticeFaults
 admitted-of G net o room ok =
     let f5 = first-zero (G .isOpen (o .code)) 4 _ ok in
@@ -107,7 +108,13 @@ module _ (key : ℕ → ℕ) (G : Network) (net : IsNet G) (a : ℕ) (beside : �
   link-kept u v l = true→t (or-right ((eqb u a && beside v) || (eqb v a && beside u)) (t→true (G .linked u v) l))
 
   pub opened-sound : IsSound H
-  opened-sound = record { listed = new-listed; once = new-once; ends = λ u v l. end u v (link-cases u v l); loopless = λ u v l. loop u v (link-cases u v l); symmetric = λ u v l. turn u v (link-cases u v l) }
+  opened-sound = record {
+    listed = new-listed;
+    once = new-once;
+    ends = λ u v l. end u v (link-cases u v l);
+    loopless = λ u v l. loop u v (link-cases u v l);
+    symmetric = λ u v l. turn u v (link-cases u v l);
+  }
     where
       end : (u v : ℕ) → ((u ≡ a) × (beside v ≡ true)) ⊎ (((v ≡ a) × (beside u ≡ true)) ⊎ T (G .linked u v)) → T (H .isOpen v)
       end u v (inl x) = open-old v (good .known v (x .1))

@@ -98,7 +98,8 @@ module _ (C : Chart) where
         go false false true n = once D (stayingPairs (via C a) D P)
         go false false false n = absurd (n refl)
 
-module _ (G : Network) (net : IsNet G) (o : Notice) (room : suc (length (vertices G)) < unreached) (ok : firstOf (openFaults G o) ≡ 0) (D : ℕ) (small : D ≤ unreached) (P : Pairs) where
+module _ (G : Network) (net : IsNet G) (o : Notice) (room : suc (length (vertices G)) < unreached) (ok : firstOf (openFaults G o) ≡ 0)
+    (D : ℕ) (small : D ≤ unreached) (P : Pairs) where
   abbrev H : Network
   H = withDepot G o
 

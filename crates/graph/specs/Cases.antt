@@ -59,16 +59,16 @@ reckoning G =
 
 -- ---- the order of the depots
 
--- rows 0, 1 and 2 opened in turn for the codes 30, 10 and 20, each beside the first, are listed by their codes
-unfoldable pub rowsByCode : Network
+-- the depots 0, 1 and 2, opened in turn with the keys 30, 10 and 20, each beside the first, are listed by their keys
+unfoldable pub listedByKey : Network
 unfolding emptyNetwork addDepot
-rowsByCode =
-    let code : ℕ → ℕ = λ r. getD (30 ∷ 10 ∷ 20 ∷ []) r 0 in
-    let one = addDepot code emptyNetwork 0 (λ v. false) in
-    addDepot code (addDepot code one 1 (λ v. eqb v 0)) 2 (λ v. eqb v 0)
+listedByKey =
+    let key : ℕ → ℕ = λ v. getD (30 ∷ 10 ∷ 20 ∷ []) v 0 in
+    let one = addDepot key emptyNetwork 0 (λ v. false) in
+    addDepot key (addDepot key one 1 (λ v. eqb v 0)) 2 (λ v. eqb v 0)
 
-pub listing : rowsByCode .depots ≡ 1 ∷ 2 ∷ 0 ∷ []
-unfolding rowsByCode
+pub listing : listedByKey .depots ≡ 1 ∷ 2 ∷ 0 ∷ []
+unfolding listedByKey
 listing = refl
 
 -- ---- the seven stream lines

@@ -55,7 +55,10 @@ module _ (codes links : List ℕ) (p b s : List ℕ) (a e : ℕ) (T₀ T₁ : Ta
   search-stands net o q = record {
     net = net;
     present = o;
-    depth = ap (λ (X : Searched). X .depth) q ∙ table-depth H (net .sound) 256 (network-open-below 4 codes links) (lit< tt) a o 4 links refl refl ∙ depth-is H net a o;
+    depth =
+        ap (λ (X : Searched). X .depth) q
+        ∙ table-depth H (net .sound) 256 (network-open-below 4 codes links) (lit< tt) a o 4 links refl refl
+        ∙ depth-is H net a o;
     stands = left-search net o q ∙ sym (ap (searchLeaves 4 H a) (left-search net o q) ∙ leaves-over 4 H a a T₀);
   }
 

@@ -120,7 +120,8 @@ module _ (G : Network) (sound : IsSound G) (n : ℕ) (inside : (v : ℕ) → T (
       lower : maxOf f (vertices G) ≤ maxOf f (range n)
       lower = max-le-of f (vertices G) (maxOf f (range n)) (λ v m. max-ge f (range n) (range-in n (inside v (vertices-out G sound m))))
 
-  pub table-leaves : (W : ℕ) (links : List ℕ) (B : Tables) → n ≡ 64 * W → G .linked ≡ tableBit W links → searchLeaves W (tableNetwork W links) s B ≡ searchLeaves W G s B
+  pub table-leaves : (W : ℕ) (links : List ℕ) (B : Tables) → n ≡ 64 * W → G .linked ≡ tableBit W links
+      → searchLeaves W (tableNetwork W links) s B ≡ searchLeaves W G s B
   unfolding searchLeaves
   table-leaves W links B a b = rw (table-search W links a b, table-depth W links a b)
 

@@ -140,6 +140,11 @@ module _ {ℓ} {A : Type ℓ} where
       go true q ih = omega arith
       go false q ih = let z : f y ≡ 0 = h y q in omega arith
 
+  pub sum-none : (f : A → ℕ) (xs : List A) → ((x : A) → f x ≡ 0) → sumOf f xs ≡ 0
+  unfolding sumOf
+  sum-none f [] h = refl
+  sum-none f (x ∷ xs) h = rw (h x, sum-none f xs h)
+
   pub sum-ext : (f g : A → ℕ) (xs : List A) → ((x : A) → f x ≡ g x) → sumOf f xs ≡ sumOf g xs
   unfolding sumOf
   sum-ext f g [] h = refl

@@ -92,7 +92,8 @@ module _ (key : ℕ → ℕ) (x : ℕ) where
       swap false true c = refl
       swap false false c = refl
 
-      go : (b : Bool) → memb v (insertBy key x ys) ≡ (eqb v x || memb v ys) → memb v (cond b (x ∷ y ∷ ys) (y ∷ insertBy key x ys)) ≡ (eqb v x || memb v (y ∷ ys))
+      go : (b : Bool) → memb v (insertBy key x ys) ≡ (eqb v x || memb v ys)
+          → memb v (cond b (x ∷ y ∷ ys) (y ∷ insertBy key x ys)) ≡ (eqb v x || memb v (y ∷ ys))
       go true ih = memb-cons v x (y ∷ ys)
       go false ih = memb-cons v y (insertBy key x ys) ∙ rw (ih, memb-cons v y ys) (swap (eqb v x) (eqb v y) (memb v ys))
 
@@ -152,7 +153,8 @@ count-member a (y ∷ ys) d m = go (eqb y a) refl (λ k. count-member a ys (dist
 pub IsCounted : List ℕ → Type 0
 IsCounted xs = (vs : List ℕ) → distinct vs ≡ true → ((v : ℕ) → memb v xs ≡ true → memb v vs ≡ true) → countb (λ v. memb v xs) vs ≡ length xs
 
-pub counted-use : (xs : List ℕ) → IsCounted xs → (vs : List ℕ) → distinct vs ≡ true → ((v : ℕ) → memb v xs ≡ true → memb v vs ≡ true) → countb (λ v. memb v xs) vs ≡ length xs
+pub counted-use : (xs : List ℕ) → IsCounted xs → (vs : List ℕ) → distinct vs ≡ true
+    → ((v : ℕ) → memb v xs ≡ true → memb v vs ≡ true) → countb (λ v. memb v xs) vs ≡ length xs
 unfolding IsCounted
 counted-use xs h vs d l = h vs d l
 
@@ -175,7 +177,8 @@ counted-distinct (x ∷ xs) d vs e l =
 pub counted-snoc : (xs : List ℕ) (r : ℕ) → IsCounted xs → memb r xs ≡ false → IsCounted (xs ++ (r ∷ []))
 unfolding IsCounted
 counted-snoc xs r h new vs d l =
-    let a : countb (λ v. memb v (xs ++ (r ∷ []))) vs ≡ countb (λ v. memb v xs || eqb v r) vs = count-ext (λ v. memb v (xs ++ (r ∷ []))) (λ v. memb v xs || eqb v r) vs (λ v k. memb-snoc v xs r) in
+    let a : countb (λ v. memb v (xs ++ (r ∷ []))) vs ≡ countb (λ v. memb v xs || eqb v r) vs =
+    count-ext (λ v. memb v (xs ++ (r ∷ []))) (λ v. memb v xs || eqb v r) vs (λ v k. memb-snoc v xs r) in
     let b : countb (λ v. memb v xs || eqb v r) vs ≡ countb (λ v. memb v xs) vs + countb (λ v. eqb v r) vs =
     count-or (λ v. memb v xs) (λ v. eqb v r) vs (λ v e. ne-eqb v r (λ q. clash (subst (λ (w : ℕ). memb w xs ≡ true) q e) new)) in
     let c : countb (λ v. memb v xs) vs ≡ length xs = h vs d (λ v e. l v (memb-snoc v xs r ∙ or-left (eqb v r) e)) in
@@ -199,7 +202,8 @@ count-either p xs ys d e f g =
     let a : countb (λ v. memb v (filterb p xs)) ys ≡ length (filterb p xs) =
     counted-use (filterb p xs) (counted-distinct (filterb p xs) (distinct-filter p xs d)) ys e
     (λ v h. g v (and-true (memb v xs) (p v) (sym (memb-filter p xs v) ∙ h) .1)) in
-    let b : countb (λ v. memb v (filterb p xs)) ys ≡ countb p ys = count-ext (λ v. memb v (filterb p xs)) p ys (λ v m. memb-filter p xs v ∙ both (memb v xs) (p v) (f v)) in
+    let b : countb (λ v. memb v (filterb p xs)) ys ≡ countb p ys =
+    count-ext (λ v. memb v (filterb p xs)) p ys (λ v m. memb-filter p xs v ∙ both (memb v xs) (p v) (f v)) in
     let c : length (filterb p xs) ≡ countb p xs = length-count p xs in
     sym c ∙ sym a ∙ b
   where
@@ -215,30 +219,39 @@ unfolding insertBy
 insert-least a [] low = refl
 insert-least a (y ∷ ys) low = rw (lt-ltb a y (low y (List·Memᴰ·head refl)))
 
-insert-from : (p : ℕ → Bool) (a i k : ℕ) → i ≤ a → a < i + k → p a ≡ false → insertBy (λ c. c) a (filterb p (from i k)) ≡ filterb (λ c. eqb c a || p c) (from i k)
-unfolding from filterb insertBy
-insert-from p a i zero l m f = absurd (lt-irrefl a (omega (arith, l, m)))
-insert-from p a i (suc k) l m f = go (eq-or-lt-of-le l) (λ n. insert-from p a (suc i) k n (omega (arith, m)) f)
-  where
-    rest : List ℕ
-    rest = filterb p (from (suc i) k)
+module _ (p : ℕ → Bool) (a : ℕ) (new : p a ≡ false) where
+  -- the test that passes a too
+  with-new : ℕ → Bool
+  with-new c = eqb c a || p c
 
-    above : (v : ℕ) → List·Memᴰ v rest → i < v
-    above v n = from-out (suc i) k (filter-out p (from (suc i) k) n .0) .0
+  insert-from : (i k : ℕ) → i ≤ a → a < i + k → insertBy (λ c. c) a (filterb p (from i k)) ≡ filterb with-new (from i k)
+  unfolding from filterb insertBy with-new
+  insert-from i zero l m = absurd (lt-irrefl a (omega (arith, l, m)))
+  insert-from i (suc k) l m = go (eq-or-lt-of-le l) (λ n. insert-from (suc i) k n (omega (arith, m)))
+    where
+      rest : List ℕ
+      rest = filterb p (from (suc i) k)
 
-    others : i ≡ a → filterb (λ c. eqb c a || p c) (from (suc i) k) ≡ rest
-    others q = filter-ext (λ c. eqb c a || p c) p (from (suc i) k) (λ c n. rw (ne-eqb c a (λ e. lt-irrefl i (omega (arith, from-out (suc i) k n .0, q, e)))))
+      more : List ℕ
+      more = filterb with-new (from (suc i) k)
 
-    passed : (b : Bool) → i < a → insertBy (λ c. c) a rest ≡ filterb (λ c. eqb c a || p c) (from (suc i) k)
-        → insertBy (λ c. c) a (cond b (i ∷ rest) rest) ≡ cond b (i ∷ filterb (λ c. eqb c a || p c) (from (suc i) k)) (filterb (λ c. eqb c a || p c) (from (suc i) k))
-    passed true n ih = rw (le-ltb a i (omega (arith, n)), ih)
-    passed false n ih = ih
+      above : (v : ℕ) → List·Memᴰ v rest → i < v
+      above v n = from-out (suc i) k (filter-out p (from (suc i) k) n .0) .0
 
-    go : (i ≡ a) ⊎ (i < a) → (i < a → insertBy (λ c. c) a rest ≡ filterb (λ c. eqb c a || p c) (from (suc i) k))
-        → insertBy (λ c. c) a (cond (p i) (i ∷ rest) rest) ≡ cond (eqb i a || p i) (i ∷ filterb (λ c. eqb c a || p c) (from (suc i) k)) (filterb (λ c. eqb c a || p c) (from (suc i) k))
-    go (inl q) ih = rw (ap p q ∙ f, eq-eqb i a q, others q) (insert-least a rest (λ v n. omega (arith, above v n, q)) ∙ ap (λ (c : ℕ). c ∷ rest) (sym q))
-    go (inr n) ih = rw (ne-eqb i a (λ e. lt-irrefl i (omega (arith, n, e)))) (passed (p i) n (ih n))
+      others : i ≡ a → more ≡ rest
+      others q = filter-ext with-new p (from (suc i) k) (λ c n. rw (ne-eqb c a (λ e. lt-irrefl i (omega (arith, from-out (suc i) k n .0, q, e)))))
 
-pub insert-filter : (p : ℕ → Bool) (a n : ℕ) → a < n → p a ≡ false → insertBy (λ c. c) a (filterb p (range n)) ≡ filterb (λ c. eqb c a || p c) (range n)
-unfolding range
-insert-filter p a n l f = insert-from p a 0 n zero-le (omega (arith, l)) f
+      passed : (b : Bool) → i < a → insertBy (λ c. c) a rest ≡ more → insertBy (λ c. c) a (cond b (i ∷ rest) rest) ≡ cond b (i ∷ more) more
+      passed true n ih = rw (le-ltb a i (omega (arith, n)), ih)
+      passed false n ih = ih
+
+      go : (i ≡ a) ⊎ (i < a) → (i < a → insertBy (λ c. c) a rest ≡ more)
+          → insertBy (λ c. c) a (cond (p i) (i ∷ rest) rest) ≡ cond (eqb i a || p i) (i ∷ more) more
+      go (inl q) ih =
+          rw (ap p q ∙ new, eq-eqb i a q, others q)
+          (insert-least a rest (λ v n. omega (arith, above v n, q)) ∙ ap (λ (c : ℕ). c ∷ rest) (sym q))
+      go (inr n) ih = rw (ne-eqb i a (λ e. lt-irrefl i (omega (arith, n, e)))) (passed (p i) n (ih n))
+
+  pub insert-filter : (n : ℕ) → a < n → insertBy (λ c. c) a (filterb p (range n)) ≡ filterb (λ c. eqb c a || p c) (range n)
+  unfolding range with-new
+  insert-filter n l = insert-from 0 n zero-le (omega (arith, l))

@@ -4,6 +4,8 @@ pub mod Tests
 pub mod Members
 -- counts, sums and greatest values
 pub mod Counts
+-- sums in two orders, and counts by halves
+pub mod Sums
 -- lists without repeats
 pub mod Distinct
 -- counts of the numbers below n

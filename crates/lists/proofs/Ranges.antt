@@ -2,7 +2,6 @@
 use mathlib.Core.Path.{_≡_, refl, sym, ap, _∙_}
 use mathlib.Core.Logic.{_≢_, _⊎_, inl, inr}
 use mathlib.Core.Bool.{Bool}
-use mathlib.Core.List.{List, [], _∷_}
 use Prim.Native.Nat.{ℕ, zero, suc, _+_, _-_, _*_, _≤_, _<_, max}
 use native.Mathlib.Nat.{not-suc-le-zero, mul-suc}
 use native.Mathlib.Numerals.{add-one}
@@ -10,13 +9,6 @@ use native.Mathlib.Omega.{arith}
 use Rattle.lists.specs.Lists.{from, range, countb, sumOf, maxOf}
 use Rattle.lists.proofs.Tests.{eq-or-ne}
 use Rattle.lists.proofs.RangeCounts.{count-same, count-split}
-
--- ---- nothing to add, over any list
-
-pub sum-none : (f : ℕ → ℕ) (xs : List ℕ) → ((x : ℕ) → f x ≡ 0) → sumOf f xs ≡ 0
-unfolding sumOf
-sum-none f [] h = refl
-sum-none f (x ∷ xs) h = rw (h x, sum-none f xs h)
 
 -- ---- one number more
 

@@ -5,7 +5,7 @@ use mathlib.Core.Bool.{false}
 use Prim.Native.Nat.{ℕ, _*_}
 use lib.Dec.{T, lit<}
 use lib.ListN.{length}
-use Rattle.lists.specs.Lists.{range, countb, distinct}
+use Rattle.lists.specs.Lists.{range, distinct}
 use Rattle.lists.proofs.Tests.{not→false, false→not}
 use Rattle.lists.proofs.Members.{filter-none}
 use Rattle.lists.proofs.Counts.{count-none}
@@ -21,8 +21,8 @@ use Rattle.graph.specs.Opening.{emptyNetwork}
 use Rattle.graph.proofs.Theorems.{diameter-is, farthest-is}
 use Rattle.map.specs.Memory.{Shape, IsShape, places}
 use Rattle.map.specs.Empty.{zeros, emptyRecord}
-use Rattle.lists.proofs.Ranges.{sum-none}
 use Rattle.map.proofs.Empties.{none-zeros}
+use Rattle.rounds.proofs.Finish.{count-no-pairs}
 use Rattle.opening.specs.Memory.{emptyMemory}
 use Rattle.opening.proofs.Memories.{IsHeld, record-path, memory-path, memoryFor, number-is}
 use Rattle.graph.proofs.Delivers.{delivers-open}
@@ -31,10 +31,6 @@ use Rattle.graph.proofs.Delivers.{delivers-open}
 none-table : (W : ℕ) → encodeTable W (λ u v. false) ≡ zeros (W * (64 * W))
 unfolding encodeTable zeros
 none-table W = fill-ext (λ i. wordOf 64 (λ b. false)) (λ i. 0) (W * (64 * W)) (λ i l. wordOf-none 64)
-
-no-pairs : (n : ℕ) → countPairs (range n) (λ u v. false) ≡ 0
-unfolding countPairs
-no-pairs n = sum-none (λ u. countb (λ v. false) (range n)) (range n) (λ u. count-none (λ v. false) (range n) (λ v m. refl))
 
 linked-none : emptyNetwork .linked ≡ (λ u v. false)
 unfolding emptyNetwork
@@ -75,7 +71,7 @@ module _ (K : Shape) (shape : IsShape K) where
       go (inr x) = absurd (false→not (all-closed (x .0)) (delivers-open E (x .0) (x .1)))
 
   none-count : countPairs (range (places K)) (farthest E) ≡ 0
-  none-count = ap (countPairs (range (places K))) none-farthest ∙ no-pairs (places K)
+  none-count = ap (countPairs (range (places K))) none-farthest ∙ count-no-pairs (places K)
 
   -- ---- THE EMPTY MEMORY
 

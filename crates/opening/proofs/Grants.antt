@@ -58,7 +58,8 @@ module _ (K : Shape) (shape : IsShape K) (rec : Record) (links pairs : List ℕ)
   unfolding openRefusal
   granted-long = not-false (longEnough K sizes) (first-zero (not (longEnough K sizes)) 0 _ ok .0)
 
-  granted-sound : (soundLinks (places K) N (rec .number) ≡ true) × (soundFigures (places K) N P (rec .chain) (rec .count) ≡ true) × (connected N ≡ true) × (firstOf (openFaults N o) ≡ 0)
+  granted-sound : (soundLinks (places K) N (rec .number) ≡ true) × (soundFigures (places K) N P (rec .chain) (rec .count) ≡ true)
+      × (connected N ≡ true) × (firstOf (openFaults N o) ≡ 0)
   unfolding openRefusal
   granted-sound =
       let a = first-zero (not (longEnough K sizes)) 0 _ ok in
@@ -102,7 +103,7 @@ module _ (K : Shape) (shape : IsShape K) (rec : Record) (links pairs : List ℕ)
     unfolding networkAfter withDepot networkOf
     held-after = record {
       net = opened-net byCode N granted-net (o .code) (λ v. memb v (o .neighbours)) admitted;
-      depots = insert-filter (N .isOpen) (o .code) (places K) low (admitted .fresh);
+      depots = insert-filter (N .isOpen) (o .code) (admitted .fresh) (places K) low;
     }
 
     pub number-after : rec .number + 1 ≡ length (vertices (networkAfter K rec links o))

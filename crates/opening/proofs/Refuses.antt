@@ -36,16 +36,19 @@ module _ (K : Shape) (rec : Record) (links pairs : List ℕ) (z : Sizes) where
   unfolding mapRefusal firstOf
   refused-links a b = rw (a, b)
 
-  pub refused-figures : longEnough K z ≡ true → soundLinks (places K) G (rec .number) ≡ true → soundFigures (places K) G P (rec .chain) (rec .count) ≡ false → 2 ≡ mapRefusal K rec links pairs z
+  pub refused-figures : longEnough K z ≡ true → soundLinks (places K) G (rec .number) ≡ true
+      → soundFigures (places K) G P (rec .chain) (rec .count) ≡ false → 2 ≡ mapRefusal K rec links pairs z
   unfolding mapRefusal firstOf
   refused-figures a b c = rw (a, b, c)
 
-  pub refused-apart : longEnough K z ≡ true → soundLinks (places K) G (rec .number) ≡ true → soundFigures (places K) G P (rec .chain) (rec .count) ≡ true → connected G ≡ false
+  pub refused-apart : longEnough K z ≡ true → soundLinks (places K) G (rec .number) ≡ true
+      → soundFigures (places K) G P (rec .chain) (rec .count) ≡ true → connected G ≡ false
       → 3 ≡ mapRefusal K rec links pairs z
   unfolding mapRefusal firstOf
   refused-apart a b c d = rw (a, b, c, d)
 
-  pub refused-never : longEnough K z ≡ true → soundLinks (places K) G (rec .number) ≡ true → soundFigures (places K) G P (rec .chain) (rec .count) ≡ true → connected G ≡ true
+  pub refused-never : longEnough K z ≡ true → soundLinks (places K) G (rec .number) ≡ true
+      → soundFigures (places K) G P (rec .chain) (rec .count) ≡ true → connected G ≡ true
       → 0 ≡ mapRefusal K rec links pairs z
   unfolding mapRefusal firstOf
   refused-never a b c d = rw (a, b, c, d)
@@ -68,11 +71,13 @@ module _ (K : Shape) (rec : Record) (links pairs : List ℕ) (z : Sizes) where
 
   pub refused-by-map : (o : Notice) (k : ℕ) → k ≡ mapRefusal K rec links pairs z → (k ≡ 0 → ⊥) → k ≡ openRefusal K rec links pairs z o
   unfolding mapRefusal openRefusal
-  refused-by-map o k e n = before (not (longEnough K z)) (not (soundLinks (places K) G (rec .number) && soundFigures (places K) G P (rec .chain) (rec .count))) (not (connected G)) (openFaults G o) k e n
+  refused-by-map o k e n =
+      before (not (longEnough K z)) (not (soundLinks (places K) G (rec .number) && soundFigures (places K) G P (rec .chain) (rec .count))) (not (connected G)) (openFaults G o) k e n
 
   pub refused-by-notice : (o : Notice) → 0 ≡ mapRefusal K rec links pairs z → firstOf (openFaults G o) ≡ openRefusal K rec links pairs z o
   unfolding mapRefusal openRefusal
-  refused-by-notice o e = after (not (longEnough K z)) (not (soundLinks (places K) G (rec .number) && soundFigures (places K) G P (rec .chain) (rec .count))) (not (connected G)) (openFaults G o) e
+  refused-by-notice o e =
+      after (not (longEnough K z)) (not (soundLinks (places K) G (rec .number) && soundFigures (places K) G P (rec .chain) (rec .count))) (not (connected G)) (openFaults G o) e
 
 -- ---- the call
 

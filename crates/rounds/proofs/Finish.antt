@@ -2,17 +2,17 @@
 use mathlib.Core.Path.{_≡_, refl, sym, ap, _∙_, subst}
 use mathlib.Core.Logic.{_⊎_, inl, inr}
 use mathlib.Core.Bool.{Bool, true, false, cond, _&&_}
-use mathlib.Core.List.{List, [], _∷_}
+use mathlib.Core.List.{List}
 use mathlib.Core.Option.{Option, none, some}
 use Prim.Native.Nat.{ℕ, zero, suc, _+_, _-_, _*_, _≤_}
 use native.Mathlib.Nat.{le-of-lt, le-refl, suc-add, zero-add}
 use native.Mathlib.Omega.{arith}
 use lib.Dec.{eqb}
 use lib.ListN.{length}
-use Rattle.lists.specs.Lists.{range, mapl, countb, sumOf, overwrite}
+use Rattle.lists.specs.Lists.{range, mapl, countb, overwrite}
 use Rattle.lists.proofs.Tests.{look, true→t, clash}
 use Rattle.lists.proofs.Members.{filter-out}
-use Rattle.lists.proofs.Counts.{count-le-length, count-none}
+use Rattle.lists.proofs.Counts.{count-le-length, count-none, sum-none}
 use Rattle.lists.proofs.Fills.{fill-ext}
 use Rattle.graph.specs.Network.{Network}
 use Rattle.graph.specs.Distance.{unreached}
@@ -36,14 +36,9 @@ use Rattle.rounds.proofs.Simulation.{Running, run-holds}
 
 -- ---- no pair
 
-sum-zero : (f : ℕ → ℕ) (xs : List ℕ) → ((x : ℕ) → f x ≡ 0) → sumOf f xs ≡ 0
-unfolding sumOf
-sum-zero f [] h = refl
-sum-zero f (x ∷ xs) h = rw (h x, sum-zero f xs h)
-
 pub count-no-pairs : (n : ℕ) → countPairs (range n) (λ u v. false) ≡ 0
 unfolding countPairs
-count-no-pairs n = sum-zero (λ u. countb (λ v. false) (range n)) (range n) (λ u. count-none (λ v. false) (range n) (λ v m. refl))
+count-no-pairs n = sum-none (λ u. countb (λ v. false) (range n)) (range n) (λ u. count-none (λ v. false) (range n) (λ v m. refl))
 
 -- a table cleared as one long row has no pair
 pub cleared-table : (W : ℕ) (t : List ℕ) → overwrite (encodeRow (W * (64 * W)) (λ v. false)) t ≡ overwrite (encodeTable W (λ u v. false)) t

@@ -99,19 +99,23 @@ module _ (K : Shape) (rec : Record) (links : List ℕ) (hops even odd code : ℕ
   unfolding searchRefusal firstOf
   refused-short e = rw e
 
-  pub refused-spoilt : searchRoom K (length links) hops even odd ≡ true → soundLinks (places K) G (rec .number) ≡ false → 2 ≡ searchRefusal K rec links hops even odd code
+  pub refused-spoilt : searchRoom K (length links) hops even odd ≡ true
+      → soundLinks (places K) G (rec .number) ≡ false → 2 ≡ searchRefusal K rec links hops even odd code
   unfolding searchRefusal firstOf
   refused-spoilt a b = rw (a, b)
 
-  pub refused-apart : searchRoom K (length links) hops even odd ≡ true → soundLinks (places K) G (rec .number) ≡ true → connected G ≡ false → 3 ≡ searchRefusal K rec links hops even odd code
+  pub refused-apart : searchRoom K (length links) hops even odd ≡ true
+      → soundLinks (places K) G (rec .number) ≡ true → connected G ≡ false → 3 ≡ searchRefusal K rec links hops even odd code
   unfolding searchRefusal firstOf
   refused-apart a b c = rw (a, b, c)
 
-  pub refused-absent : searchRoom K (length links) hops even odd ≡ true → soundLinks (places K) G (rec .number) ≡ true → connected G ≡ true → G .isOpen code ≡ false → 4 ≡ searchRefusal K rec links hops even odd code
+  pub refused-absent : searchRoom K (length links) hops even odd ≡ true
+      → soundLinks (places K) G (rec .number) ≡ true → connected G ≡ true → G .isOpen code ≡ false → 4 ≡ searchRefusal K rec links hops even odd code
   unfolding searchRefusal firstOf
   refused-absent a b c d = rw (a, b, c, d)
 
-  pub refused-never : searchRoom K (length links) hops even odd ≡ true → soundLinks (places K) G (rec .number) ≡ true → connected G ≡ true → G .isOpen code ≡ true → 0 ≡ searchRefusal K rec links hops even odd code
+  pub refused-never : searchRoom K (length links) hops even odd ≡ true
+      → soundLinks (places K) G (rec .number) ≡ true → connected G ≡ true → G .isOpen code ≡ true → 0 ≡ searchRefusal K rec links hops even odd code
   unfolding searchRefusal firstOf
   refused-never a b c d = rw (a, b, c, d)
 
