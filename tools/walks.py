@@ -15,15 +15,16 @@ import subprocess
 
 from walk import CRATE, Walk, laid
 
-ASKED = 'openCall baseShape h links (lent pairs (tables hops even odd) bounds skips) (noticeOf code neighbours)'
+ASKED = 'updateCall baseShape h links (lent pairs (tables hops even odd) bounds skips) (opensDepot (noticeOf code neighbours))'
 LEFT = 'links′ (lent pairs′ (tables hops′ even′ odd′) bounds′ skips′)'
-STEP_SAYS = f'openLeft r {LEFT} ≡ {ASKED}'
+STEP_SAYS = f'updateLeft r {LEFT} ≡ {ASKED}'
 OPEN_SAYS = f'leftOf r h′ {LEFT} ≡ {ASKED}'
 CITED = '''\
+use Rattle.graph.specs.Updates.{opens as opensDepot}
 use Rattle.layers.specs.Layers.{tables}
 use Rattle.map.specs.Memory.{base as baseShape}
 use Rattle.rounds.specs.Leaves.{lent}
-use Rattle.opening.specs.OpenCall.{leftOf, openLeft, openCall}
+use Rattle.opening.specs.UpdateCall.{leftOf, updateLeft, updateCall}
 use Rattle.opening.specs.Steps.{noticeOf}'''
 
 

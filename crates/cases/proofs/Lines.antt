@@ -11,15 +11,16 @@ use Rattle.lists.proofs.Tests.{t→true, true→t}
 use Rattle.graph.specs.Network.{Network}
 use Rattle.graph.specs.Distance.{vertices, unreached}
 use Rattle.graph.specs.Chart.{chart, Pairs, diameter, farthest, countPairs}
-use Rattle.graph.specs.Opening.{Notice, Change, grew, kept, shrank, withDepot, openFaults, Opened, opening}
+use Rattle.graph.specs.Opening.{Change, grew, kept, shrank, Opened}
+use Rattle.graph.specs.Updates.{Update, updateFaults, applied, steps}
 use Rattle.graph.specs.Cases.{pairList, AnswerLine, caseLetter, PlainMap, lineFor, followOne, followAll}
-use Rattle.graph.proofs.Theorems.{figures-are, true-chain, true-pairs, farthest-is, net-after, opening-correct}
+use Rattle.graph.proofs.Theorems.{figures-are, true-chain, true-pairs, farthest-is}
 use Rattle.map.specs.Memory.{base}
 use Rattle.map.specs.declared.Record.{Record}
 use Rattle.rounds.specs.Leaves.{Lent}
 use Rattle.rounds.specs.Sizes.{sizesOf, longEnough}
 use Rattle.outcome.specs.Outcome as Outcome
-use Rattle.opening.specs.OpenCall.{changeOf, openRefusal, networkAfter, openedBy, OpenLeft, openGiven, openCall}
+use Rattle.opening.specs.UpdateCall.{changeOf, updateRefusal, networkAfter, updatedBy, UpdateLeft, updateGiven, updateCall}
 use Rattle.history.specs.PlainRun.{plainRefusal}
 use Rattle.plain_list.specs.PlainList.{plainNext}
 use Rattle.opening.specs.Memory.{Memory}
@@ -30,10 +31,11 @@ use Rattle.opening.proofs.Grants.{held-after}
 use Rattle.history.proofs.Steps.{lent-says, refusal-is, one-step}
 use Rattle.history.proofs.Runs.{call-memory}
 use Rattle.opening.proofs.Keeps.{left-ends, left-stores}
-use Rattle.cases.specs.Results.{pairsIn, answerOf, answersOf, noticesOf, AllLong}
+use Rattle.cases.specs.Results.{pairsIn, answerOf, answersOf, asksOf, AllLong}
 use Rattle.cases.proofs.Listings.{pairs-open, count-open}
 use Rattle.map.proofs.Theorems.{base-shape}
 use Rattle.graph.proofs.Delivers.{delivers-open}
+use Rattle.graph.proofs.Updates.{update-lawful}
 
 -- a network with its own figures
 abbrev pub figuredFor : Network → PlainMap
@@ -53,28 +55,27 @@ figuredBy N x = record { net = N; chain = x .final .candidate; pairs = x .final 
 abbrev lineBy : Network → Opened → AnswerLine
 lineBy N x = lineFor (caseLetter (x .change)) 0 (length (x .final .references)) (figuredBy N x)
 
-accepted-is : (M : PlainMap) (o : Notice)
+accepted-is : (M : PlainMap) (o : Update)
     → followOne zero M o ≡ (
-      figuredBy (withDepot (M .net) o) (opening (chart (withDepot (M .net) o)) (o .code) (M .chain) (M .pairs)),
-      lineBy (withDepot (M .net) o) (opening (chart (withDepot (M .net) o)) (o .code) (M .chain) (M .pairs)),
+      figuredBy (applied (M .net) o) (steps (chart (applied (M .net) o)) o (M .chain) (M .pairs)),
+      lineBy (applied (M .net) o) (steps (chart (applied (M .net) o)) o (M .chain) (M .pairs)),
     )
 unfolding followOne
 accepted-is M o = refl
 
-refused-is : (k : ℕ) (M : PlainMap) (o : Notice) → followOne (suc k) M o ≡ (M, lineFor 82 (suc k) 0 M)
+refused-is : (k : ℕ) (M : PlainMap) (o : Update) → followOne (suc k) M o ≡ (M, lineFor 82 (suc k) 0 M)
 unfolding followOne
 refused-is k M o = refl
 
-follow-cons : (M : PlainMap) (o : Notice) (os : List Notice)
-    → followAll M (o ∷ os) ≡ followOne (firstOf (openFaults (M .net) o)) M o .1 ∷ followAll (followOne (firstOf (openFaults (M .net) o)) M o .0) os
+follow-cons : (M : PlainMap) (o : Update) (os : List Update)
+    → followAll M (o ∷ os) ≡ followOne (firstOf (updateFaults (M .net) o)) M o .1 ∷ followAll (followOne (firstOf (updateFaults (M .net) o)) M o .0) os
 unfolding followAll
 follow-cons M o os = refl
 
 -- ---- a line read from a memory that stores a network with figures
 
-line-read : (N : Network) (D : ℕ) (P : Pairs) → vertices N ≡ filterb (N .isOpen) (range 256)
-    → ((u v : ℕ) → P u v ≡ true → (N .isOpen u ≡ true) × (N .isOpen v ≡ true))
-    → (l : OpenLeft) → Stores base N D P (l .after) (l .links) (l .lent .pairs)
+line-read : (N : Network) (D : ℕ) (P : Pairs) → vertices N ≡ filterb (N .isOpen) (range 256) → ((u v : ℕ) → P u v ≡ true → (N .isOpen u ≡ true) × (N .isOpen v ≡ true))
+    → (l : UpdateLeft) → Stores base N D P (l .after) (l .links) (l .lent .pairs)
     → answerOf l ≡ lineFor (Outcome.letterOf (l .report .outcome)) (Outcome.refusalOf (l .report .outcome)) (l .report .searches) (record { net = N; chain = D; pairs = P })
 unfolding answerOf pairsIn
 line-read N D P depots ends l s =
@@ -109,16 +110,16 @@ accepted-none kept = refl
 accepted-none shrank = refl
 
 -- an opening on memory that stores a network with figures is the network's
-opened-is : (G : Network) (D : ℕ) (P : Pairs) (rec : Record) (links stored : List ℕ) (o : Notice) → Stores base G D P rec links stored
-    → (networkAfter base rec links o ≡ withDepot G o) × (openedBy base rec links stored o ≡ opening (chart (withDepot G o)) (o .code) D P)
-unfolding networkAfter openedBy
+opened-is : (G : Network) (D : ℕ) (P : Pairs) (rec : Record) (links stored : List ℕ) (o : Update) → Stores base G D P rec links stored
+    → (networkAfter base rec links o ≡ applied G o) × (updatedBy base rec links stored o ≡ steps (chart (applied G o)) o D P)
+unfolding networkAfter updatedBy
 opened-is G D P rec links stored o s = (rw (s .network), rw (s .network, s .chain, s .pairs))
 
 -- ---- ONE CALL
 
 module _ (G : Network) (held : IsHeld base G) (c : Call) (call : IsCall base c) (long : longEnough base (feedOf base c .sizes) ≡ true) where
-  abbrev o : Notice
-  o = c .notice
+  abbrev o : Update
+  o = c .ask
 
   abbrev R : Record
   R = memoryFor base G .rec
@@ -130,56 +131,55 @@ module _ (G : Network) (held : IsHeld base G) (c : Call) (call : IsCall base c) 
   B = lentOf (memoryFor base G) c
 
   abbrev N : Network
-  N = withDepot G (c .notice)
+  N = applied G (c .ask)
 
   abbrev y : Opened
-  y = opening (chart (withDepot G (c .notice))) (c .notice .code) (diameter G) (farthest G)
+  y = steps (chart (applied G (c .ask))) (c .ask) (diameter G) (farthest G)
 
   says : Stores base G (diameter G) (farthest G) R L (B .pairs)
   says = lent-says base base-shape G held c long
 
-  plain-is : plainRefusal base G (feedOf base c) ≡ firstOf (openFaults G o)
+  plain-is : plainRefusal base G (feedOf base c) ≡ firstOf (updateFaults G o)
   unfolding plainRefusal feedOf firstOf
   plain-is = rw long
 
   -- ---- accepted
 
-  module _ (ok : openRefusal base R L (B .pairs) (sizesOf L B) o ≡ 0) where
-    abbrev l : OpenLeft
-    l = openGiven zero base R L B o
+  module _ (ok : updateRefusal base R L (B .pairs) (sizesOf L B) o ≡ 0) where
+    abbrev l : UpdateLeft
+    l = updateGiven zero base R L B o
 
     abbrev H : Network
     H = networkAfter base R L o
 
     abbrev x : Opened
-    x = openedBy base R L (B .pairs) o
+    x = updatedBy base R L (B .pairs) o
 
     ends : (u v : ℕ) → x .final .pairs u v ≡ true → (H .isOpen u ≡ true) × (H .isOpen v ≡ true)
-    ends u v h = let e = left-ends base R L B o base-shape ok (call .code) u v (true→t h) in (t→true (H .isOpen u) (e .0), t→true (H .isOpen v) (e .1))
+    ends u v h = let e = left-ends base R L B o base-shape ok (call .within) u v (true→t h) in (t→true (H .isOpen u) (e .0), t→true (H .isOpen v) (e .1))
 
     given-line : lineFor (Outcome.letterOf (l .report .outcome)) (Outcome.refusalOf (l .report .outcome)) (l .report .searches) (figuredBy H x) ≡ lineBy H x
-    unfolding openGiven
+    unfolding updateGiven
     given-line = rw (letter-same (x .change), accepted-none (x .change))
 
-    accepted-line : answerOf (openGiven zero base R L B o) ≡ followOne zero (figuredFor G) o .1
+    accepted-line : answerOf (updateGiven zero base R L B o) ≡ followOne zero (figuredFor G) o .1
     accepted-line =
         let same = opened-is G (diameter G) (farthest G) R L (B .pairs) o says in
-        line-read H (x .final .candidate) (x .final .pairs) (held-after base base-shape R L (B .pairs) (sizesOf L B) o ok (call .code) .depots) ends l
-        (left-stores base R L B o base-shape ok (call .code))
+        line-read H (x .final .candidate) (x .final .pairs) (held-after base base-shape R L (B .pairs) (sizesOf L B) o ok (call .within) .depots) ends l (left-stores base R L B o base-shape ok (call .within))
         ∙ given-line
         ∙ ap₂ lineBy (same .0) (same .1)
         ∙ sym (ap (λ (r : PlainMap × AnswerLine). r .1) (accepted-is (figuredFor G) o))
 
-  accepted-next : firstOf (openFaults G o) ≡ 0 → followOne zero (figuredFor G) o .0 ≡ figuredFor N
+  accepted-next : firstOf (updateFaults G o) ≡ 0 → followOne zero (figuredFor G) o .0 ≡ figuredFor N
   accepted-next ok =
       let room : suc (length (vertices G)) < unreached = omega (arith, depots-few base G held) in
-      let net = net-after G (held .net) o room ok (diameter G) (farthest G) in
-      let figures = opening-correct G (held .net) o room ok (diameter G) (farthest G) (figures-are G (held .net)) .figures in
+      let lawful = update-lawful G (held .net) o room ok in
+      let figures = lawful .correct (diameter G) (farthest G) (figures-are G (held .net)) .figures in
       ap (λ (r : PlainMap × AnswerLine). r .0) (accepted-is (figuredFor G) o)
       ∙ (λ i. record {
         net = N;
-        chain = true-chain N net (y .final .candidate) (y .final .pairs) figures i;
-        pairs = true-pairs N net (y .final .candidate) (y .final .pairs) figures i;
+        chain = true-chain N (lawful .net) (y .final .candidate) (y .final .pairs) figures i;
+        pairs = true-pairs N (lawful .net) (y .final .candidate) (y .final .pairs) figures i;
       })
 
   -- ---- refused
@@ -187,51 +187,51 @@ module _ (G : Network) (held : IsHeld base G) (c : Call) (call : IsCall base c) 
   own-ends : (u v : ℕ) → farthest G u v ≡ true → (G .isOpen u ≡ true) × (G .isOpen v ≡ true)
   own-ends u v h = let f = farthest-is G (held .net) u v .0 (true→t h) in (t→true (G .isOpen u) (delivers-open G u (f .first)), t→true (G .isOpen v) (delivers-open G v (f .second)))
 
-  refused-line : (k : ℕ) → answerOf (openGiven (suc k) base R L B o) ≡ followOne (suc k) (figuredFor G) o .1
-  unfolding openGiven Outcome.letterOf Outcome.refusalOf
+  refused-line : (k : ℕ) → answerOf (updateGiven (suc k) base R L B o) ≡ followOne (suc k) (figuredFor G) o .1
+  unfolding updateGiven Outcome.letterOf Outcome.refusalOf
   refused-line k =
-      line-read G (diameter G) (farthest G) (held .depots) own-ends (openGiven (suc k) base R L B o) says
+      line-read G (diameter G) (farthest G) (held .depots) own-ends (updateGiven (suc k) base R L B o) says
       ∙ sym (ap (λ (r : PlainMap × AnswerLine). r .1) (refused-is k (figuredFor G) o))
 
   -- ---- either
 
-  call-line : answerOf (callStep (openCall base) (memoryFor base G) c) ≡ followOne (firstOf (openFaults G o)) (figuredFor G) o .1
-  unfolding callStep openCall
-  call-line = go (openRefusal base R L (B .pairs) (sizesOf L B) o) refl ∙ ap (λ (k : ℕ). followOne k (figuredFor G) o .1) (refusal-is base base-shape G held c ∙ plain-is)
+  call-line : answerOf (callStep (updateCall base) (memoryFor base G) c) ≡ followOne (firstOf (updateFaults G o)) (figuredFor G) o .1
+  unfolding callStep updateCall
+  call-line = go (updateRefusal base R L (B .pairs) (sizesOf L B) o) refl ∙ ap (λ (k : ℕ). followOne k (figuredFor G) o .1) (refusal-is base base-shape G held c ∙ plain-is)
     where
-      go : (k : ℕ) → openRefusal base R L (B .pairs) (sizesOf L B) o ≡ k → answerOf (openGiven k base R L B o) ≡ followOne k (figuredFor G) o .1
+      go : (k : ℕ) → updateRefusal base R L (B .pairs) (sizesOf L B) o ≡ k → answerOf (updateGiven k base R L B o) ≡ followOne k (figuredFor G) o .1
       go zero ok = accepted-line ok
       go (suc k) ko = refused-line k
 
-  call-next : followOne (firstOf (openFaults G o)) (figuredFor G) o .0 ≡ figuredFor (plainNext (firstOf (openFaults G o)) G o)
+  call-next : followOne (firstOf (updateFaults G o)) (figuredFor G) o .0 ≡ figuredFor (plainNext (firstOf (updateFaults G o)) G o)
   unfolding plainNext
-  call-next = go (firstOf (openFaults G o)) refl
+  call-next = go (firstOf (updateFaults G o)) refl
     where
-      go : (k : ℕ) → firstOf (openFaults G o) ≡ k → followOne k (figuredFor G) o .0 ≡ figuredFor (plainNext k G o)
+      go : (k : ℕ) → firstOf (updateFaults G o) ≡ k → followOne k (figuredFor G) o .0 ≡ figuredFor (plainNext k G o)
       go zero ok = accepted-next ok
       go (suc k) ko = ap (λ (r : PlainMap × AnswerLine). r .0) (refused-is k (figuredFor G) o)
 
 -- ---- A LIST OF CALLS
 
 lines-cons : (M : Memory) (c : Call) (cs : List Call)
-    → answersOf (openCall base) M (c ∷ cs) ≡ answerOf (callStep (openCall base) M c) ∷ answersOf (openCall base) (memoryAfter M c (callStep (openCall base) M c)) cs
+    → answersOf (updateCall base) M (c ∷ cs) ≡ answerOf (callStep (updateCall base) M c) ∷ answersOf (updateCall base) (memoryAfter M c (callStep (updateCall base) M c)) cs
 unfolding answersOf
 lines-cons M c cs = refl
 
-lines-nil : (M : Memory) (F : PlainMap) → answersOf (openCall base) M [] ≡ followAll F []
+lines-nil : (M : Memory) (F : PlainMap) → answersOf (updateCall base) M [] ≡ followAll F []
 unfolding answersOf followAll
 lines-nil M F = refl
 
-pub lines-are : (G : Network) → IsHeld base G → (cs : List Call) → AreCalls base cs → AllLong cs → answersOf (openCall base) (memoryFor base G) cs ≡ followAll (figuredFor G) (noticesOf cs)
-unfolding noticesOf
+pub lines-are : (G : Network) → IsHeld base G → (cs : List Call) → AreCalls base cs → AllLong cs → answersOf (updateCall base) (memoryFor base G) cs ≡ followAll (figuredFor G) (asksOf cs)
+unfolding asksOf
 lines-are G held [] calls lent = lines-nil (memoryFor base G) (figuredFor G)
 lines-are G held (c ∷ cs) calls lent =
     let call = calls c (List·Memᴰ·head refl) in
     let long = lent c (List·Memᴰ·head refl) in
-    let H = plainNext (plainRefusal base G (feedOf base c)) G (c .notice) in
-    let same = ap (λ (k : ℕ). figuredFor (plainNext k G (c .notice))) (plain-is G held c call long) in
+    let H = plainNext (plainRefusal base G (feedOf base c)) G (c .ask) in
+    let same = ap (λ (k : ℕ). figuredFor (plainNext k G (c .ask))) (plain-is G held c call long) in
     lines-cons (memoryFor base G) c cs
-    ∙ ap₂ (λ (r : AnswerLine) (M : Memory). r ∷ answersOf (openCall base) M cs) (call-line G held c call long) (call-memory base base-shape G held c call)
+    ∙ ap₂ (λ (r : AnswerLine) (M : Memory). r ∷ answersOf (updateCall base) M cs) (call-line G held c call long) (call-memory base base-shape G held c call)
     ∙ ap₂ (λ (r : AnswerLine) (rs : List AnswerLine). r ∷ rs) refl (lines-are H (one-step base base-shape G held c call .isHeld) cs (λ d m. calls d (List·Memᴰ·tail m)) (λ d m. lent d (List·Memᴰ·tail m)))
-    ∙ ap (λ (M : PlainMap). followOne (firstOf (openFaults G (c .notice))) (figuredFor G) (c .notice) .1 ∷ followAll M (noticesOf cs)) (same ∙ sym (call-next G held c call long))
-    ∙ sym (follow-cons (figuredFor G) (c .notice) (noticesOf cs))
+    ∙ ap (λ (M : PlainMap). followOne (firstOf (updateFaults G (c .ask))) (figuredFor G) (c .ask) .1 ∷ followAll M (asksOf cs)) (same ∙ sym (call-next G held c call long))
+    ∙ sym (follow-cons (figuredFor G) (c .ask) (asksOf cs))

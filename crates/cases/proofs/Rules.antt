@@ -4,7 +4,7 @@ use mathlib.Core.Bool.{true}
 use Rattle.lists.specs.Lists.{allb}
 use Rattle.graph.specs.Cases.{followAll, noDepot}
 use Rattle.map.specs.Memory.{base}
-use Rattle.opening.specs.OpenCall.{openCall}
+use Rattle.opening.specs.UpdateCall.{updateCall}
 use Rattle.cases.specs.Rules.{shrinkLines, shrinkAnswers, RuleCases}
 use Rattle.cases.proofs.Theorems.{areBytes, opened-lines}
 
@@ -16,5 +16,5 @@ shrink-followed : followAll noDepot shrinkLines ≡ shrinkAnswers
 unfolding followAll noDepot
 shrink-followed = refl
 
-pub rule-cases-hold : RuleCases (openCall base)
+pub rule-cases-hold : RuleCases (updateCall base)
 rule-cases-hold = record { shrunk = λ cs e lent. opened-lines shrinkLines shrink-bytes cs e lent ∙ shrink-followed }

@@ -14,7 +14,8 @@ use Rattle.lists.proofs.Members.{filter-ext, filter-none}
 use Rattle.rows.specs.Rows.{encodeRow, encodeTable}
 use Rattle.graph.specs.Chart.{chart, countPairs}
 use Rattle.graph.specs.Rounds.{reckon}
-use Rattle.graph.specs.Opening.{Notice, emptyNetwork}
+use Rattle.graph.specs.Opening.{emptyNetwork}
+use Rattle.graph.specs.Updates.{opens}
 use Rattle.graph.specs.Cases as Graph
 use Rattle.map.specs.Memory.{base, networkOf}
 use Rattle.map.specs.Empty.{emptyRefusal, emptyGiven, emptyCall}
@@ -23,11 +24,11 @@ use Rattle.map.specs.declared.Emptying.the-variants.{Done}
 use Rattle.map.proofs.Theorems.{emptied-is-empty, base-shape}
 use Rattle.reckon.specs.ReckonCall.{reckonCall}
 use Rattle.outcome.specs.Outcome.{letterOf, refusalOf}
-use Rattle.opening.specs.OpenCall.{openCall}
+use Rattle.opening.specs.UpdateCall.{updateCall}
 use Rattle.plain_list.specs.PlainList.{moved}
 use Rattle.opening.specs.Memory.{Memory, emptyMemory}
 use Rattle.history.specs.History.{Call}
-use Rattle.history.specs.Demand3.{IsCall, AreCalls}
+use Rattle.history.specs.Demand3.{NamesCodes, IsCall, AreCalls}
 use Rattle.opening.proofs.Memories.{network-path, network-read}
 use Rattle.opening.proofs.Empties.{empty-held, none-diameter, none-farthest, empty-memory}
 use Rattle.hexadecimal.specs.Hex.{isDigit, digitValue, bytesOf}
@@ -37,11 +38,13 @@ use Rattle.report.specs.Line.{outcomeText, field, figuresText}
 use Rattle.transcript.specs.Transcript.{transcript}
 use Rattle.stream.proofs.Theorems.{pieces-alike}
 use Rattle.transcript.specs.Texts.{bytesIn}
-use Rattle.cases.specs.Results.{answersOf, noticesOf, AllLong}
+use Rattle.cases.specs.Results.{answersOf, asksOf, AllLong}
 use Rattle.cases.specs.Table.{emptyResult, singleResult, sevenResult, sevenAnswers, sevenInput, sevenOutput, Cases}
 use Rattle.cases.proofs.Paths.{path-held}
 use Rattle.cases.proofs.Reckonings.{pathResult, path-result}
 use Rattle.cases.proofs.Lines.{figuredFor, lines-are}
+use Rattle.history.specs.PlainRun.{Ask}
+use Rattle.opening.specs.UpdateCall.{IsWithin}
 
 -- ---- the paths reckoned, by the rules on the network
 
@@ -88,18 +91,19 @@ module _ (rec : Record) (links pairs : List ℕ) (l : 1024 ≤ length links) (p 
 -- ---- the seven lines
 
 -- calls whose codes and neighbours are bytes
-unfoldable pub areBytes : Notice → Bool
-areBytes o = ltb (o .code) 256 && allb (λ v. ltb v 256) (o .neighbours)
+unfoldable pub areBytes : Ask → Bool
+areBytes (opens o) = ltb (o .code) 256 && allb (λ v. ltb v 256) (o .neighbours)
 
-calls-of : (cs : List Call) → allb areBytes (noticesOf cs) ≡ true → AreCalls base cs
-unfolding noticesOf allb areBytes
+calls-of : (cs : List Call) → allb areBytes (asksOf cs) ≡ true → AreCalls base cs
+unfolding asksOf allb areBytes
 calls-of [] h c m = absurd (List·Memᴰ·not-nil m)
-calls-of (d ∷ cs) h c m = go (and-true (areBytes (d .notice)) (allb areBytes (noticesOf cs)) h) (List·Memᴰ·cases-cons m) (calls-of cs)
+calls-of (d ∷ cs) h c m = go (and-true (areBytes (d .ask)) (allb areBytes (asksOf cs)) h) (List·Memᴰ·cases-cons m) (calls-of cs)
   where
-    go : (areBytes (d .notice) ≡ true) × (allb areBytes (noticesOf cs) ≡ true) → (c ≡ d) ⊎ List·Memᴰ c cs → (allb areBytes (noticesOf cs) ≡ true → AreCalls base cs) → IsCall base c
-    go k (inl q) ih =
-        let b = and-true (ltb (d .notice .code) 256) (allb (λ v. ltb v 256) (d .notice .neighbours)) (k .0) in
-        subst (IsCall base) (sym q) (record { code = ltb-true (d .notice .code) 256 (b .0); neighbours = true→t (b .1) })
+    bytes : (a : Ask) → areBytes a ≡ true → IsWithin base a × NamesCodes base a
+    bytes (opens o) k = let b = and-true (ltb (o .code) 256) (allb (λ v. ltb v 256) (o .neighbours)) k in (ltb-true (o .code) 256 (b .0), true→t (b .1))
+
+    go : (areBytes (d .ask) ≡ true) × (allb areBytes (asksOf cs) ≡ true) → (c ≡ d) ⊎ List·Memᴰ c cs → (allb areBytes (asksOf cs) ≡ true → AreCalls base cs) → IsCall base c
+    go k (inl q) ih = let b = bytes (d .ask) (k .0) in subst (IsCall base) (sym q) (record { within = b .0; named = b .1 })
     go k (inr n) ih = ih (k .1) c n
 
 seven-bytes : allb areBytes Graph.sevenLines ≡ true
@@ -110,16 +114,16 @@ start-figured : figuredFor emptyNetwork ≡ Graph.noDepot
 unfolding Graph.noDepot
 start-figured = λ i. record { net = emptyNetwork; chain = none-diameter base base-shape i; pairs = none-farthest base base-shape i }
 
--- notices opened from the empty map give the lines of the network's own openings
-pub opened-lines : (os : List Notice) → allb areBytes os ≡ true → (cs : List Call) → noticesOf cs ≡ os → AllLong cs
-    → answersOf (openCall base) (emptyMemory base) cs ≡ Graph.followAll Graph.noDepot os
+-- updates from the empty map give the lines of the network's own
+pub opened-lines : (os : List Ask) → allb areBytes os ≡ true → (cs : List Call) → asksOf cs ≡ os → AllLong cs
+    → answersOf (updateCall base) (emptyMemory base) cs ≡ Graph.followAll Graph.noDepot os
 opened-lines os bytes cs e lent =
     let calls = calls-of cs (ap (allb areBytes) e ∙ bytes) in
-    ap (λ (M : Memory). answersOf (openCall base) M cs) (empty-memory base base-shape)
+    ap (λ (M : Memory). answersOf (updateCall base) M cs) (empty-memory base base-shape)
     ∙ lines-are emptyNetwork (empty-held base base-shape) cs calls lent
     ∙ ap₂ Graph.followAll start-figured e
 
-stream-holds : (cs : List Call) → noticesOf cs ≡ Graph.sevenLines → AllLong cs → answersOf (openCall base) (emptyMemory base) cs ≡ sevenAnswers
+stream-holds : (cs : List Call) → asksOf cs ≡ Graph.sevenLines → AllLong cs → answersOf (updateCall base) (emptyMemory base) cs ≡ sevenAnswers
 stream-holds cs e lent = opened-lines Graph.sevenLines seven-bytes cs e lent ∙ ap (λ (t : Graph.NetworkCases). t .stream) Graph.cases
 
 -- ---- the stream's bytes, by computation
@@ -130,7 +134,7 @@ text-holds = refl
 
 -- ---- ALL OF IT
 
-pub cases-hold : Cases (emptyCall base) (reckonCall base) (openCall base)
+pub cases-hold : Cases (emptyCall base) (reckonCall base) (updateCall base)
 cases-hold = record {
   empty = λ rec links B lent. path-result 0 0 (lit≤ tt) (sym (counted .0)) rec links B lent ∙ empty-result;
   single = λ rec links B lent. path-result 1 1 (lit≤ tt) (sym (counted .1)) rec links B lent ∙ single-result;

@@ -10,7 +10,6 @@ use Rattle.rows.specs.Rows.{tableBit}
 use Rattle.graph.specs.Network.{Network}
 use Rattle.graph.specs.Chart.{chart}
 use Rattle.graph.specs.Rounds.{reckon}
-use Rattle.graph.specs.Opening.{Notice}
 use Rattle.graph.specs.Cases.{pairList, AnswerLine}
 use Rattle.map.specs.Memory.{base, mapNetwork}
 use Rattle.map.specs.declared.Record.{Record}
@@ -18,9 +17,10 @@ use Rattle.rounds.specs.Leaves.{Lent}
 use Rattle.rounds.specs.Sizes.{sizesOf, longEnough}
 use Rattle.reckon.specs.ReckonCall.{reckoningNumber, searchesOf, ReckonLeft}
 use Rattle.outcome.specs.Outcome as Outcome
-use Rattle.opening.specs.OpenCall.{OpenLeft, Step}
+use Rattle.opening.specs.UpdateCall.{UpdateLeft, Step}
 use Rattle.opening.specs.Memory.{Memory}
 use Rattle.history.specs.History.{Call, callStep, memoryAfter, feedOf}
+use Rattle.history.specs.PlainRun.{Ask}
 
 -- the pairs whose bits stand in a pair table
 unfoldable pub pairsIn : List ℕ → List (ℕ × ℕ)
@@ -70,7 +70,7 @@ resultOf step rec links B =
 -- ---- the stream's openings
 
 -- letter and refusal; the figures of a report line; the pairs
-unfoldable pub answerOf : OpenLeft → AnswerLine
+unfoldable pub answerOf : UpdateLeft → AnswerLine
 answerOf l = record {
   letter = Outcome.letterOf (l .report .outcome);
   refusal = Outcome.refusalOf (l .report .outcome);
@@ -81,14 +81,15 @@ answerOf l = record {
   pairs = pairsIn (l .lent .pairs);
 }
 
--- the lines of a list of calls, each lent the map as it stands after the one before, of a program whose opening call is `step`
+-- the lines of a list of calls, each lent the map as it stands after the one before, of a program whose update call is `step`
 unfoldable pub answersOf : Step → Memory → List Call → List AnswerLine
 answersOf step M [] = []
 answersOf step M (c ∷ cs) = let l = callStep step M c in answerOf l ∷ answersOf step (memoryAfter M c l) cs
 
-unfoldable pub noticesOf : List Call → List Notice
-noticesOf [] = []
-noticesOf (c ∷ cs) = c .notice ∷ noticesOf cs
+-- what the calls ask for
+unfoldable pub asksOf : List Call → List Ask
+asksOf [] = []
+asksOf (c ∷ cs) = c .ask ∷ asksOf cs
 
 -- every buffer that a call is lent has its named size
 abbrev pub AllLong : List Call → Type 0

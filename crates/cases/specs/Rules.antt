@@ -1,27 +1,28 @@
 -- A SECOND TABLE on lent memory: the shrink of graph's RuleCases, opened from the empty map. Its number of searches, 5, is that of the new depot as
 -- first reference and the stored pair's way through it as candidate; rounds from candidate 0, or a whole reckoning, take 7. `rule-cases-hold`
--- (proofs/Rules) says it of `openCall base`.
+-- (proofs/Rules) says it of `updateCall base`.
 -- Assumes nothing.
 use mathlib.Core.Path.{_≡_}
 use mathlib.Core.List.{List, [], _∷_}
-use Rattle.graph.specs.Opening.{Notice}
+use Rattle.graph.specs.Updates.{opens}
 use Rattle.graph.specs.Cases.{AnswerLine}
 use Rattle.map.specs.Memory.{base}
 use Rattle.opening.specs.Memory.{emptyMemory}
 use Rattle.history.specs.History.{Call}
-use Rattle.opening.specs.OpenCall.{Step}
-use Rattle.cases.specs.Results.{answersOf, noticesOf, AllLong}
+use Rattle.opening.specs.UpdateCall.{Step}
+use Rattle.cases.specs.Results.{answersOf, asksOf, AllLong}
+use Rattle.history.specs.PlainRun.{Ask}
 
 -- the path of six, then depot 6 beside 1 and 4
-abbrev pub shrinkLines : List Notice
+abbrev pub shrinkLines : List Ask
 shrinkLines =
-    record { code = 0; neighbours = [] }
-    ∷ record { code = 1; neighbours = 0 ∷ [] }
-    ∷ record { code = 2; neighbours = 1 ∷ [] }
-    ∷ record { code = 3; neighbours = 2 ∷ [] }
-    ∷ record { code = 4; neighbours = 3 ∷ [] }
-    ∷ record { code = 5; neighbours = 4 ∷ [] }
-    ∷ record { code = 6; neighbours = 1 ∷ 4 ∷ [] }
+    opens (record { code = 0; neighbours = [] })
+    ∷ opens (record { code = 1; neighbours = 0 ∷ [] })
+    ∷ opens (record { code = 2; neighbours = 1 ∷ [] })
+    ∷ opens (record { code = 3; neighbours = 2 ∷ [] })
+    ∷ opens (record { code = 4; neighbours = 3 ∷ [] })
+    ∷ opens (record { code = 5; neighbours = 4 ∷ [] })
+    ∷ opens (record { code = 6; neighbours = 1 ∷ 4 ∷ [] })
     ∷ []
 
 -- letter (75 K, 71 G, 83 S) and refusal, figures, searches; and the pairs
@@ -38,4 +39,4 @@ shrinkAnswers =
 
 -- of a program whose opening call is `opening`: each call is lent the map as it stands after the one before, and any other memory that is long enough
 pub record RuleCases (opening : Step) : Type 0 where
-  pub shrunk : (cs : List Call) → noticesOf cs ≡ shrinkLines → AllLong cs → answersOf opening (emptyMemory base) cs ≡ shrinkAnswers
+  pub shrunk : (cs : List Call) → asksOf cs ≡ shrinkLines → AllLong cs → answersOf opening (emptyMemory base) cs ≡ shrinkAnswers

@@ -1,5 +1,5 @@
 -- THE TABLE OF CASES (rule 11.6): the empty map, the single map and the path of seven reckoned, and the seven stream lines, on any lent memory that
--- is long enough, whatever scratch and longer buffers hold. `cases-hold` (proofs) says it of `emptyCall base`, `reckonCall base` and `openCall base`, which the contracts cite, and of the stream's own calls.
+-- is long enough, whatever scratch and longer buffers hold. `cases-hold` (proofs) says it of `emptyCall base`, `reckonCall base` and `updateCall base`, which the contracts cite, and of the stream's own calls.
 -- Assumes nothing.
 use mathlib.Core.Path.{_≡_}
 use mathlib.Core.List.{List, [], _∷_, _++_}
@@ -17,12 +17,12 @@ use Rattle.rounds.specs.Leaves.{Lent}
 use Rattle.reckon.specs.ReckonCall.{ReckonLeft}
 use Rattle.opening.specs.Memory.{emptyMemory}
 use Rattle.history.specs.History.{Call}
-use Rattle.opening.specs.OpenCall.{Step}
+use Rattle.opening.specs.UpdateCall.{Step}
 use Rattle.report.specs.Line.{bufferLimit}
 use Rattle.transcript.specs.Transcript.{transcript}
 use Rattle.stream.specs.Pieces.{Standing, Turn, standsAfter, usedBy, writtenBy, lastWritten, HasBegun}
 use Rattle.transcript.specs.Texts.{bytesIn}
-use Rattle.cases.specs.Results.{repeated, IsMapOf, Result, resultOf, answersOf, noticesOf, AllLong}
+use Rattle.cases.specs.Results.{repeated, IsMapOf, Result, resultOf, answersOf, asksOf, AllLong}
 
 -- ---- the numbers
 
@@ -100,7 +100,7 @@ pub record Cases (emptying : Record → List ℕ → List ℕ → EmptyLeft) (re
       × (networkOf 4 (emptying rec links pairs .after .codes) (emptying rec links pairs .links) ≡ path 0)
       × (emptying rec links pairs .after .number ≡ 0)
   -- opened from the empty map, each call lent the map as it stands after the one before, and any other memory that is long enough
-  pub stream : (cs : List Call) → noticesOf cs ≡ sevenLines → AllLong cs → answersOf opening (emptyMemory base) cs ≡ sevenAnswers
+  pub stream : (cs : List Call) → asksOf cs ≡ sevenLines → AllLong cs → answersOf opening (emptyMemory base) cs ≡ sevenAnswers
   -- the stream's bytes: the whole output of the whole input; and on lent memory, however the input is cut into pieces
   pub text : transcript (bytesIn sevenInput) ≡ bytesIn sevenOutput
   pub pieces : (s : Standing) → HasBegun s → (ts : List Turn) (out : List ℕ) → bufferLimit ≤ length out → usedBy s ts ≡ bytesIn sevenInput

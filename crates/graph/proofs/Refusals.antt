@@ -18,7 +18,8 @@ use Rattle.lists.proofs.Conditions.{Decides, decides-test, decides-and, Tells, 
 use Rattle.graph.specs.Network.{Network, IsSound}
 use Rattle.graph.specs.Distance.{vertices}
 use Rattle.graph.specs.Opening.{Notice, strictlyRising, isEmpty, noticeFaults, openFaults}
-use Rattle.graph.specs.Refusals.{IsUnsorted, IsUnknown, noticeConditions}
+use Rattle.graph.specs.Refusals.{IsUnsorted, IsUnknown, noticeConditions, ownConditions}
+use Rattle.graph.specs.Updates.{Update, opens, updateFaults}
 
 -- 6: no neighbours, and some depot
 decides-none : (xs : List ℕ) → Decides (isEmpty xs) (xs ≡ [])
@@ -79,3 +80,7 @@ notice-tells G listed o = (
 
 pub notice-refusals : (G : Network) → IsSound G → (o : Notice) (k : ℕ) → (firstOf (openFaults G o) ≡ k) ↔ FirstHolds (noticeConditions G o) k
 notice-refusals G sound o k = tells-first (openFaults G o) (noticeConditions G o) (notice-tells G (sound .listed) o) k
+
+pub update-tells : (G : Network) → AreListed G → (o : Update) → Tells (updateFaults G o) (ownConditions G o)
+unfolding updateFaults
+update-tells G listed (opens o) = notice-tells G listed o

@@ -11,7 +11,8 @@ use Rattle.graph.specs.Network.{Network}
 use Rattle.graph.specs.Distance.{vertices}
 use Rattle.graph.specs.Chart.{chart, Pairs, countPairs}
 use Rattle.graph.specs.Rounds.{markOf, boundOf, reckon}
-use Rattle.graph.specs.Opening.{Notice, emptyNetwork, addDepot, withDepot, openFaults, Change, grew, kept, shrank, opening}
+use Rattle.graph.specs.Opening.{emptyNetwork, addDepot, Change, grew, kept, shrank}
+use Rattle.graph.specs.Updates.{Update, opens, updateFaults, applied, steps}
 
 -- the depot u with each of the depots that P pairs it with
 unfoldable pub partners : Pairs → ℕ → List ℕ → List (ℕ × ℕ)
@@ -100,34 +101,34 @@ lineFor l k s M =
     let vs = vertices (M .net) in
     record { letter = l; refusal = k; number = length vs; chain = M .chain; count = countPairs vs (M .pairs); searches = s; pairs = pairList vs (M .pairs) }
 
--- the map after a notice, with its line; k is its refusal, 0 if it is accepted
-unfoldable pub followOne : ℕ → PlainMap → Notice → PlainMap × AnswerLine
-unfolding withDepot chart opening lineFor caseLetter
+-- the map after an update, with its line; k is its refusal, 0 if it is accepted
+unfoldable pub followOne : ℕ → PlainMap → Update → PlainMap × AnswerLine
+unfolding applied chart steps lineFor caseLetter
 followOne zero M o =
-    let H = withDepot (M .net) o in
-    let x = opening (chart H) (o .code) (M .chain) (M .pairs) in
+    let H = applied (M .net) o in
+    let x = steps (chart H) o (M .chain) (M .pairs) in
     let N : PlainMap = record { net = H; chain = x .final .candidate; pairs = x .final .pairs } in
     (N, lineFor (caseLetter (x .change)) 0 (length (x .final .references)) N)
 followOne (suc k) M o = (M, lineFor 82 (suc k) 0 M)
 
-unfoldable pub followAll : PlainMap → List Notice → List AnswerLine
-unfolding followOne firstOf openFaults
+unfoldable pub followAll : PlainMap → List Update → List AnswerLine
+unfolding followOne firstOf updateFaults
 followAll M [] = []
-followAll M (o ∷ os) = let r = followOne (firstOf (openFaults (M .net) o)) M o in r .1 ∷ followAll (r .0) os
+followAll M (o ∷ os) = let r = followOne (firstOf (updateFaults (M .net) o)) M o in r .1 ∷ followAll (r .0) os
 
 unfoldable pub noDepot : PlainMap
 unfolding emptyNetwork
 noDepot = record { net = emptyNetwork; chain = 0; pairs = λ u v. false }
 
-abbrev pub sevenLines : List Notice
+abbrev pub sevenLines : List Update
 sevenLines =
-    record { code = 0; neighbours = [] }
-    ∷ record { code = 1; neighbours = 0 ∷ [] }
-    ∷ record { code = 2; neighbours = 1 ∷ [] }
-    ∷ record { code = 3; neighbours = 2 ∷ [] }
-    ∷ record { code = 4; neighbours = 3 ∷ [] }
-    ∷ record { code = 5; neighbours = 0 ∷ 2 ∷ 4 ∷ [] }
-    ∷ record { code = 5; neighbours = 0 ∷ 2 ∷ 4 ∷ [] }
+    opens (record { code = 0; neighbours = [] })
+    ∷ opens (record { code = 1; neighbours = 0 ∷ [] })
+    ∷ opens (record { code = 2; neighbours = 1 ∷ [] })
+    ∷ opens (record { code = 3; neighbours = 2 ∷ [] })
+    ∷ opens (record { code = 4; neighbours = 3 ∷ [] })
+    ∷ opens (record { code = 5; neighbours = 0 ∷ 2 ∷ 4 ∷ [] })
+    ∷ opens (record { code = 5; neighbours = 0 ∷ 2 ∷ 4 ∷ [] })
     ∷ []
 
 -- THE TABLE

@@ -8,6 +8,7 @@ use lib.Dec.{T}
 use lib.ListN.{length, getD}
 use Rattle.graph.specs.Network.{Network, Walk}
 use Rattle.graph.specs.Opening.{Notice}
+use Rattle.graph.specs.Updates.{Update, opens}
 
 -- 3, apart (where the links are sound): no walk leads from the lowest open code to some open depot
 pub record IsApart (G : Network) : Type 0 where
@@ -42,3 +43,7 @@ IsUnknown G ns = (v : ℕ) × List·Memᴰ v ns × (T (G .isOpen v) → ⊥)
 abbrev pub noticeConditions : Network → Notice → List (Type 0 × ℕ)
 noticeConditions G o =
     (IsTaken G (o .code), 5) ∷ (IsLonely G (o .neighbours), 6) ∷ (IsUnsorted (o .neighbours), 7) ∷ (IsUnknown G (o .neighbours), 8) ∷ []
+
+-- the table for an update
+abbrev pub ownConditions : Network → Update → List (Type 0 × ℕ)
+ownConditions G (opens o) = noticeConditions G o

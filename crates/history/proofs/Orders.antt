@@ -1,4 +1,4 @@
--- ARRIVAL ORDER: the plain list's network depends on the set of accepted notices alone (D). Assumes nothing.
+-- ARRIVAL ORDER: the plain list's network depends on the set of what was accepted alone (D). Assumes nothing.
 use mathlib.Core.Path.{_≡_, refl, sym, ap, _∙_, fun-ext}
 use mathlib.Core.Logic.{_↔_}
 use mathlib.Core.Bool.{Bool, true, false, _&&_, _||_}
@@ -9,36 +9,37 @@ use Rattle.lists.specs.Lists.{range, filterb, anyb, memb}
 use Rattle.lists.proofs.Tests.{same-test}
 use Rattle.lists.proofs.Members.{any-intro, any-elim}
 use Rattle.graph.specs.Network.{Network}
-use Rattle.graph.specs.Opening.{Notice, withDepot}
+use Rattle.graph.specs.Opening.{withDepot}
+use Rattle.graph.specs.Updates.{opens, applied}
 use Rattle.map.specs.Memory.{Shape, places}
-use Rattle.history.specs.PlainRun.{Feed, plainRefusal, noticed, plainRun}
+use Rattle.history.specs.PlainRun.{Ask, Feed, plainRefusal, joining, plainRun}
 use Rattle.plain_list.specs.PlainList.{plainNext}
 use Rattle.opening.proofs.Memories.{IsHeld, network-path}
 
--- ---- the network with the notices of a list added, one after the other
+-- ---- the network with what a list asks for added, one after the other
 
-addAll : Network → List Notice → Network
+addAll : Network → List Ask → Network
 addAll G [] = G
-addAll G (o ∷ os) = addAll (withDepot G o) os
+addAll G (o ∷ os) = addAll (applied G o) os
 
--- the plain list's network is that of its accepted notices
-plain-added : (K : Shape) (G : Network) (fs : List Feed) → plainRun K G fs .network ≡ addAll G (plainRun K G fs .notices)
+-- the plain list's network is that of what it accepted
+plain-added : (K : Shape) (G : Network) (fs : List Feed) → plainRun K G fs .network ≡ addAll G (plainRun K G fs .accepted)
 unfolding plainRun addAll
 plain-added K G [] = refl
 plain-added K G (f ∷ fs) = go (plainRefusal K G f) (λ H. plain-added K H fs)
   where
-    go : (k : ℕ) → ((H : Network) → plainRun K H fs .network ≡ addAll H (plainRun K H fs .notices))
-        → plainRun K (plainNext k G (f .notice)) fs .network ≡ addAll G (noticed k (f .notice) (plainRun K (plainNext k G (f .notice)) fs .notices))
-    go zero ih = ih (withDepot G (f .notice))
+    go : (k : ℕ) → ((H : Network) → plainRun K H fs .network ≡ addAll H (plainRun K H fs .accepted))
+        → plainRun K (plainNext k G (f .ask)) fs .network ≡ addAll G (joining k (f .ask) (plainRun K (plainNext k G (f .ask)) fs .accepted))
+    go zero ih = ih (applied G (f .ask))
     go (suc k) ih = ih G
 
--- ---- its codes and links are those of any of the notices
+-- ---- its codes and links are those of any of them
 
-opens : ℕ → Notice → Bool
-opens v o = eqb v (o .code)
+newDepot : ℕ → Ask → Bool
+newDepot v (opens o) = eqb v (o .code)
 
-links : ℕ → ℕ → Notice → Bool
-links u v o = (eqb u (o .code) && memb v (o .neighbours)) || (eqb v (o .code) && memb u (o .neighbours))
+newLink : ℕ → ℕ → Ask → Bool
+newLink u v (opens o) = (eqb u (o .code) && memb v (o .neighbours)) || (eqb v (o .code) && memb u (o .neighbours))
 
 or-swap : (a b c : Bool) → ((a || b) || c) ≡ (b || (a || c))
 or-swap true true c = refl
@@ -50,19 +51,19 @@ or-false : (b : Bool) → b ≡ (b || false)
 or-false true = refl
 or-false false = refl
 
-added-open : (G : Network) (os : List Notice) (v : ℕ) → addAll G os .isOpen v ≡ (G .isOpen v || anyb (opens v) os)
-unfolding addAll withDepot anyb opens
+added-open : (G : Network) (os : List Ask) (v : ℕ) → addAll G os .isOpen v ≡ (G .isOpen v || anyb (newDepot v) os)
+unfolding addAll applied withDepot anyb newDepot
 added-open G [] v = or-false (G .isOpen v)
-added-open G (o ∷ os) v = added-open (withDepot G o) os v ∙ or-swap (eqb v (o .code)) (G .isOpen v) (anyb (opens v) os)
+added-open G (opens o ∷ os) v = added-open (applied G (opens o)) os v ∙ or-swap (eqb v (o .code)) (G .isOpen v) (anyb (newDepot v) os)
 
-added-linked : (G : Network) (os : List Notice) (u v : ℕ) → addAll G os .linked u v ≡ (G .linked u v || anyb (links u v) os)
-unfolding addAll withDepot anyb links
+added-linked : (G : Network) (os : List Ask) (u v : ℕ) → addAll G os .linked u v ≡ (G .linked u v || anyb (newLink u v) os)
+unfolding addAll applied withDepot anyb newLink
 added-linked G [] u v = or-false (G .linked u v)
-added-linked G (o ∷ os) u v =
-    added-linked (withDepot G o) os u v
-    ∙ or-swap ((eqb u (o .code) && memb v (o .neighbours)) || (eqb v (o .code) && memb u (o .neighbours))) (G .linked u v) (anyb (links u v) os)
+added-linked G (opens o ∷ os) u v =
+    added-linked (applied G (opens o)) os u v
+    ∙ or-swap ((eqb u (o .code) && memb v (o .neighbours)) || (eqb v (o .code) && memb u (o .neighbours))) (G .linked u v) (anyb (newLink u v) os)
 
-any-same : (p : Notice → Bool) (os qs : List Notice) → ((o : Notice) → List·Memᴰ o os ↔ List·Memᴰ o qs) → anyb p os ≡ anyb p qs
+any-same : (p : Ask → Bool) (os qs : List Ask) → ((o : Ask) → List·Memᴰ o os ↔ List·Memᴰ o qs) → anyb p os ≡ anyb p qs
 any-same p os qs h =
     same-test (anyb p os) (anyb p qs)
     (λ e. let x = any-elim p os e in any-intro p qs (h (x .0) .0 (x .1)) (x .2))
@@ -72,27 +73,27 @@ any-same p os qs h =
 
 -- the depots of both lists stand in rising order, so that their list follows from which are open
 pub order-free : (K : Shape) (G : Network) (fs gs : List Feed) → IsHeld K (plainRun K G fs .network) → IsHeld K (plainRun K G gs .network)
-    → ((o : Notice) → List·Memᴰ o (plainRun K G fs .notices) ↔ List·Memᴰ o (plainRun K G gs .notices)) → plainRun K G fs .network ≡ plainRun K G gs .network
+    → ((o : Ask) → List·Memᴰ o (plainRun K G fs .accepted) ↔ List·Memᴰ o (plainRun K G gs .accepted)) → plainRun K G fs .network ≡ plainRun K G gs .network
 order-free K G fs gs f g h =
     network-path
     (f .depots ∙ ap (λ (p : ℕ → Bool). filterb p (range (places K))) (fun-ext same-open) ∙ sym (g .depots))
     same-open
     same-linked
   where
-    os : List Notice
-    os = plainRun K G fs .notices
+    os : List Ask
+    os = plainRun K G fs .accepted
 
-    qs : List Notice
-    qs = plainRun K G gs .notices
+    qs : List Ask
+    qs = plainRun K G gs .accepted
 
     same-open : (v : ℕ) → plainRun K G fs .network .isOpen v ≡ plainRun K G gs .network .isOpen v
     same-open v =
         ap (λ (N : Network). N .isOpen v) (plain-added K G fs)
-        ∙ added-open G os v ∙ ap (λ (b : Bool). G .isOpen v || b) (any-same (opens v) os qs h) ∙ sym (added-open G qs v)
+        ∙ added-open G os v ∙ ap (λ (b : Bool). G .isOpen v || b) (any-same (newDepot v) os qs h) ∙ sym (added-open G qs v)
         ∙ ap (λ (N : Network). N .isOpen v) (sym (plain-added K G gs))
 
     same-linked : (u v : ℕ) → plainRun K G fs .network .linked u v ≡ plainRun K G gs .network .linked u v
     same-linked u v =
         ap (λ (N : Network). N .linked u v) (plain-added K G fs)
-        ∙ added-linked G os u v ∙ ap (λ (b : Bool). G .linked u v || b) (any-same (links u v) os qs h) ∙ sym (added-linked G qs u v)
+        ∙ added-linked G os u v ∙ ap (λ (b : Bool). G .linked u v || b) (any-same (newLink u v) os qs h) ∙ sym (added-linked G qs u v)
         ∙ ap (λ (N : Network). N .linked u v) (sym (plain-added K G gs))

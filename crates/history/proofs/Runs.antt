@@ -4,8 +4,8 @@ use mathlib.Core.List.{List, [], _∷_, _++_, List·Memᴰ·head, List·Memᴰ·
 use Rattle.graph.specs.Network.{Network}
 use Rattle.map.specs.Memory.{Shape, IsShape}
 use Rattle.outcome.specs.declared.Outcome.{Outcome}
-use Rattle.opening.specs.OpenCall.{openCall, referencesOf}
-use Rattle.history.specs.PlainRun.{PlainRun, plainRefusal, noticed, plainRun}
+use Rattle.opening.specs.UpdateCall.{updateCall, referencesOf}
+use Rattle.history.specs.PlainRun.{PlainRun, plainRefusal, joining, plainRun}
 use Rattle.plain_list.specs.PlainList.{plainAnswer, plainNext}
 use Rattle.opening.specs.Memory.{Memory}
 use Rattle.history.specs.History.{Call, lend, lentOf, callStep, memoryAfter, runMemory, runAnswers, feedOf, feedsOf}
@@ -20,12 +20,12 @@ abbrev fed : Shape → Network → List Call → PlainRun
 fed K G cs = plainRun K G (feedsOf K cs)
 
 abbrev next : Shape → Network → Call → Network
-next K G c = plainNext (plainRefusal K G (feedOf K c)) G (c .notice)
+next K G c = plainNext (plainRefusal K G (feedOf K c)) G (c .ask)
 
 fed-cons : (K : Shape) (G : Network) (c : Call) (cs : List Call) → fed K G (c ∷ cs) ≡ record {
   network = fed K (next K G c) cs .network;
   answers = plainAnswer (plainRefusal K G (feedOf K c)) G (next K G c) ∷ fed K (next K G c) cs .answers;
-  notices = noticed (plainRefusal K G (feedOf K c)) (c .notice) (fed K (next K G c) cs .notices);
+  accepted = joining (plainRefusal K G (feedOf K c)) (c .ask) (fed K (next K G c) cs .accepted);
 }
 unfolding plainRun feedsOf feedOf
 fed-cons K G c cs = refl
@@ -35,35 +35,35 @@ unfolding plainRun feedsOf feedOf
 fed-snoc K G [] c = refl
 fed-snoc K G (d ∷ cs) c = fed-snoc K (next K G d) cs c
 
--- ---- a call of a history is the opening call
+-- ---- a call of a history is the update call
 
 module _ (K : Shape) (shape : IsShape K) where
   module _ (G : Network) (held : IsHeld K G) (c : Call) (call : IsCall K c) where
-    call-answer : callStep (openCall K) (memoryFor K G) c .report .outcome ≡ plainAnswer (plainRefusal K G (feedOf K c)) G (next K G c)
-    unfolding callStep openCall
+    call-answer : callStep (updateCall K) (memoryFor K G) c .report .outcome ≡ plainAnswer (plainRefusal K G (feedOf K c)) G (next K G c)
+    unfolding callStep updateCall
     call-answer = one-step K shape G held c call .answer
 
-    pub call-memory : memoryAfter (memoryFor K G) c (callStep (openCall K) (memoryFor K G) c) ≡ memoryFor K (next K G c)
-    unfolding callStep openCall
+    pub call-memory : memoryAfter (memoryFor K G) c (callStep (updateCall K) (memoryFor K G) c) ≡ memoryFor K (next K G c)
+    unfolding callStep updateCall
     call-memory = one-step K shape G held c call .memory
 
-    pub call-marked : IsMarked K (next K G c) (referencesOf K (memoryFor K G .rec) (lend (c .links) (memoryFor K G .links)) (lentOf (memoryFor K G) c) (c .notice)) (callStep (openCall K) (memoryFor K G) c)
-    unfolding callStep openCall referencesOf
+    pub call-marked : IsMarked K (next K G c) (referencesOf K (memoryFor K G .rec) (lend (c .links) (memoryFor K G .links)) (lentOf (memoryFor K G) c) (c .ask)) (callStep (updateCall K) (memoryFor K G) c)
+    unfolding callStep updateCall referencesOf
     call-marked = one-step K shape G held c call .isMarked
 
   -- ---- A LIST OF CALLS
 
   pub record IsRun (G : Network) (cs : List Call) : Type 0 where
-    pub answers : runAnswers (openCall K) (memoryFor K G) cs ≡ fed K G cs .answers
-    pub memory : runMemory (openCall K) (memoryFor K G) cs ≡ memoryFor K (fed K G cs .network)
+    pub answers : runAnswers (updateCall K) (memoryFor K G) cs ≡ fed K G cs .answers
+    pub memory : runMemory (updateCall K) (memoryFor K G) cs ≡ memoryFor K (fed K G cs .network)
     pub isHeld : IsHeld K (fed K G cs .network)
 
   answers-cons : (M : Memory) (c : Call) (cs : List Call)
-      → runAnswers (openCall K) M (c ∷ cs) ≡ callStep (openCall K) M c .report .outcome ∷ runAnswers (openCall K) (memoryAfter M c (callStep (openCall K) M c)) cs
+      → runAnswers (updateCall K) M (c ∷ cs) ≡ callStep (updateCall K) M c .report .outcome ∷ runAnswers (updateCall K) (memoryAfter M c (callStep (updateCall K) M c)) cs
   unfolding runAnswers
   answers-cons M c cs = refl
 
-  memory-cons : (M : Memory) (c : Call) (cs : List Call) → runMemory (openCall K) M (c ∷ cs) ≡ runMemory (openCall K) (memoryAfter M c (callStep (openCall K) M c)) cs
+  memory-cons : (M : Memory) (c : Call) (cs : List Call) → runMemory (updateCall K) M (c ∷ cs) ≡ runMemory (updateCall K) (memoryAfter M c (callStep (updateCall K) M c)) cs
   unfolding runMemory
   memory-cons M c cs = refl
 
@@ -77,12 +77,12 @@ module _ (K : Shape) (shape : IsShape K) where
       record {
         answers =
             answers-cons (memoryFor K G) c cs
-            ∙ ap₂ (λ (x : Outcome) (M : Memory). x ∷ runAnswers (openCall K) M cs) (call-answer G held c call) (call-memory G held c call)
+            ∙ ap₂ (λ (x : Outcome) (M : Memory). x ∷ runAnswers (updateCall K) M cs) (call-answer G held c call) (call-memory G held c call)
             ∙ ap (λ (xs : List Outcome). plainAnswer (plainRefusal K G (feedOf K c)) G (next K G c) ∷ xs) (ih .answers)
             ∙ sym (ap (λ (r : PlainRun). r .answers) f);
         memory =
             memory-cons (memoryFor K G) c cs
-            ∙ ap (λ (M : Memory). runMemory (openCall K) M cs) (call-memory G held c call)
+            ∙ ap (λ (M : Memory). runMemory (updateCall K) M cs) (call-memory G held c call)
             ∙ ih .memory
             ∙ sym (ap (λ (r : PlainRun). memoryFor K (r .network)) f);
         isHeld = subst (λ (r : PlainRun). IsHeld K (r .network)) (sym f) (ih .isHeld);

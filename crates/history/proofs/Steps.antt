@@ -12,11 +12,11 @@ use Rattle.rows.specs.Rows.{tableBit, encodeRow, encodeTable}
 use Rattle.rows.proofs.Written.{encode-row-length, encode-table-length}
 use Rattle.graph.specs.Network.{Network, AreTrue, delivers}
 use Rattle.graph.specs.Chart.{diameter, farthest}
-use Rattle.graph.specs.Opening.{withDepot}
+use Rattle.graph.specs.Updates.{applied}
 use Rattle.map.specs.Memory.{Shape, IsShape, places, tableWords, mapNetwork}
 use Rattle.rounds.specs.Leaves.{Lent}
 use Rattle.rounds.specs.Sizes.{Sizes, sizesOf, longEnough}
-use Rattle.opening.specs.OpenCall.{openRefusal, networkAfter, OpenLeft, openGiven, referencesBy}
+use Rattle.opening.specs.UpdateCall.{updateRefusal, networkAfter, UpdateLeft, updateGiven, referencesBy}
 use Rattle.plain_list.specs.PlainList.{moved, plainAnswer, plainNext}
 use Rattle.history.specs.PlainRun.{plainRefusal}
 use Rattle.opening.specs.Memory.{Memory}
@@ -56,7 +56,7 @@ lentMap M c = record { links = lend (c .links) (M .links); pairs = lend (c .pair
 abbrev restoredMap : Memory → Call → Memory → Memory
 restoredMap M c A = record { links = restore (c .links) (M .links) (A .links); pairs = restore (c .pairs) (M .pairs) (A .pairs); rec = A .rec }
 
-after-restored : (M : Memory) (c : Call) (l : OpenLeft) → memoryAfter M c l ≡ restoredMap M c (mapAfter l)
+after-restored : (M : Memory) (c : Call) (l : UpdateLeft) → memoryAfter M c l ≡ restoredMap M c (mapAfter l)
 unfolding memoryAfter
 after-restored M c l = refl
 
@@ -108,79 +108,79 @@ module _ (K : Shape) (shape : IsShape K) (G : Network) (held : IsHeld K G) (c : 
   -- ---- the refusal is the plain list's
 
   abbrev refusal : ℕ
-  refusal = openRefusal K (M .rec) L (B .pairs) (sizesOf L B) (c .notice)
+  refusal = updateRefusal K (M .rec) L (B .pairs) (sizesOf L B) (c .ask)
 
   pub refusal-is : refusal ≡ plainRefusal K G (feedOf K c)
   unfolding plainRefusal feedOf
   refusal-is =
-      ap (λ (s : Sizes). openRefusal K (M .rec) L (B .pairs) s (c .notice)) sizes-are
-      ∙ refused-alike K shape G held (diameter G) (farthest G) (figures-are-sound K shape G held) (M .rec) L (B .pairs) (feedOf K c .sizes) (c .notice) lent-says
+      ap (λ (s : Sizes). updateRefusal K (M .rec) L (B .pairs) s (c .ask)) sizes-are
+      ∙ refused-alike K shape G held (diameter G) (farthest G) (figures-are-sound K shape G held) (M .rec) L (B .pairs) (feedOf K c .sizes) (c .ask) lent-says
 
   -- ---- an accepted call
 
   module _ (ok : refusal ≡ 0) (call : IsCall K c) where
     says : Says K G (M .rec) L (B .pairs)
-    says = lent-says (ap (longEnough K) (sym sizes-are) ∙ granted-long K shape (M .rec) L (B .pairs) (sizesOf L B) (c .notice) ok)
+    says = lent-says (ap (longEnough K) (sym sizes-are) ∙ granted-long K shape (M .rec) L (B .pairs) (sizesOf L B) (c .ask) ok)
 
-    next-is : networkAfter K (M .rec) L (c .notice) ≡ withDepot G (c .notice)
-    next-is = after-is K (M .rec) L (c .notice) ∙ ap (λ (N : Network). withDepot N (c .notice)) (says .network)
+    next-is : networkAfter K (M .rec) L (c .ask) ≡ applied G (c .ask)
+    next-is = after-is K (M .rec) L (c .ask) ∙ ap (λ (N : Network). applied N (c .ask)) (says .network)
 
     were : AreTrue (mapNetwork K (M .rec) L) (delivers (mapNetwork K (M .rec) L)) (M .rec .chain) (tableBit (K .words) (B .pairs))
     were = says-true K G held (M .rec) L (B .pairs) says
 
-    accepted-answer : openGiven zero K (M .rec) L B (c .notice) .report .outcome ≡ moved (diameter G) (diameter (withDepot G (c .notice)))
+    accepted-answer : updateGiven zero K (M .rec) L B (c .ask) .report .outcome ≡ moved (diameter G) (diameter (applied G (c .ask)))
     accepted-answer =
-        opened-moved K shape (M .rec) L B (c .notice) ok (call .code) were
+        opened-moved K shape (M .rec) L B (c .ask) ok (call .within) were
         ∙ ap₂ (λ (D : ℕ) (N : Network). moved D (diameter N)) (says .chain) next-is
 
     -- the new map stands where the old one stood
     restored-written : (N : Network) → restoredMap M c (writeMap K N (record { links = L; pairs = B .pairs; rec = M .rec })) ≡ memoryFor K N
     unfolding writeMap memoryFor lentOf
     restored-written N =
-        let whole = tables-whole (ap (longEnough K) (sym sizes-are) ∙ granted-long K shape (M .rec) L (B .pairs) (sizesOf L B) (c .notice) ok) in
+        let whole = tables-whole (ap (longEnough K) (sym sizes-are) ∙ granted-long K shape (M .rec) L (B .pairs) (sizesOf L B) (c .ask) ok) in
         memory-path
         (restored-new (tableWords K) (c .links) (M .links) (encodeTable (K .words) (N .linked)) (links-length K G) (encode-table-length (K .words) (N .linked)) (whole .0))
         (restored-new (tableWords K) (c .pairs) (M .pairs) (encodeTable (K .words) (farthest N)) (pairs-length K G) (encode-table-length (K .words) (farthest N)) (whole .1))
         (record-path (overwrite-all (encodeRow (K .words) (N .isOpen)) (encodeRow (K .words) (G .isOpen)) (encode-row-length (K .words) (N .isOpen) ∙ sym (encode-row-length (K .words) (G .isOpen)))) refl refl refl)
 
-    accepted-memory : memoryAfter M c (openGiven zero K (M .rec) L B (c .notice)) ≡ memoryFor K (withDepot G (c .notice))
+    accepted-memory : memoryAfter M c (updateGiven zero K (M .rec) L B (c .ask)) ≡ memoryFor K (applied G (c .ask))
     accepted-memory =
-        after-restored M c (openGiven zero K (M .rec) L B (c .notice))
-        ∙ ap (restoredMap M c) (opened-writes K shape (M .rec) L B (c .notice) ok (call .code) were)
-        ∙ restored-written (networkAfter K (M .rec) L (c .notice))
+        after-restored M c (updateGiven zero K (M .rec) L B (c .ask))
+        ∙ ap (restoredMap M c) (opened-writes K shape (M .rec) L B (c .ask) ok (call .within) were)
+        ∙ restored-written (networkAfter K (M .rec) L (c .ask))
         ∙ ap (memoryFor K) next-is
 
   -- ---- a refused call leaves the map as it was
 
-  refused-memory : (k : ℕ) → memoryAfter M c (openGiven (suc k) K (M .rec) L B (c .notice)) ≡ memoryFor K G
-  unfolding memoryAfter openGiven lentOf
+  refused-memory : (k : ℕ) → memoryAfter M c (updateGiven (suc k) K (M .rec) L B (c .ask)) ≡ memoryFor K G
+  unfolding memoryAfter updateGiven lentOf
   refused-memory k = memory-path (restored-same (c .links) (M .links)) (restored-same (c .pairs) (M .pairs)) refl
 
-  refused-answer : (k : ℕ) → openGiven (suc k) K (M .rec) L B (c .notice) .report .outcome ≡ plainAnswer (suc k) G G
-  unfolding openGiven plainAnswer
+  refused-answer : (k : ℕ) → updateGiven (suc k) K (M .rec) L B (c .ask) .report .outcome ≡ plainAnswer (suc k) G G
+  unfolding updateGiven plainAnswer
   refused-answer k = refl
 
   -- ---- THE STEP: k is the plain list's refusal, j the call's
 
   pub record IsStep (k j : ℕ) : Type 0 where
-    pub answer : openGiven j K (M .rec) L B (c .notice) .report .outcome ≡ plainAnswer k G (plainNext k G (c .notice))
-    pub memory : memoryAfter M c (openGiven j K (M .rec) L B (c .notice)) ≡ memoryFor K (plainNext k G (c .notice))
-    pub isHeld : IsHeld K (plainNext k G (c .notice))
-    pub isMarked : IsMarked K (plainNext k G (c .notice)) (referencesBy j K (M .rec) L B (c .notice)) (openGiven j K (M .rec) L B (c .notice))
+    pub answer : updateGiven j K (M .rec) L B (c .ask) .report .outcome ≡ plainAnswer k G (plainNext k G (c .ask))
+    pub memory : memoryAfter M c (updateGiven j K (M .rec) L B (c .ask)) ≡ memoryFor K (plainNext k G (c .ask))
+    pub isHeld : IsHeld K (plainNext k G (c .ask))
+    pub isMarked : IsMarked K (plainNext k G (c .ask)) (referencesBy j K (M .rec) L B (c .ask)) (updateGiven j K (M .rec) L B (c .ask))
 
   step-by : IsCall K c → (k : ℕ) → refusal ≡ k → IsStep k k
   unfolding plainAnswer plainNext
   step-by call zero ok = record {
     answer = accepted-answer ok call;
     memory = accepted-memory ok call;
-    isHeld = subst (IsHeld K) (next-is ok call) (held-after K shape (M .rec) L (B .pairs) (sizesOf L B) (c .notice) ok (call .code));
-    isMarked = subst (λ (N : Network). IsMarked K N (referencesBy zero K (M .rec) L B (c .notice)) (openGiven zero K (M .rec) L B (c .notice))) (next-is ok call) (opened-marked K shape (M .rec) L B (c .notice) ok (call .code));
+    isHeld = subst (IsHeld K) (next-is ok call) (held-after K shape (M .rec) L (B .pairs) (sizesOf L B) (c .ask) ok (call .within));
+    isMarked = subst (λ (N : Network). IsMarked K N (referencesBy zero K (M .rec) L B (c .ask)) (updateGiven zero K (M .rec) L B (c .ask))) (next-is ok call) (opened-marked K shape (M .rec) L B (c .ask) ok (call .within));
   }
   step-by call (suc k) ko = record {
     answer = refused-answer k;
     memory = refused-memory k;
     isHeld = held;
-    isMarked = refused-marked k K G (M .rec) L B (c .notice);
+    isMarked = refused-marked k K G (M .rec) L B (c .ask);
   }
 
   pub one-step : IsCall K c → IsStep (plainRefusal K G (feedOf K c)) refusal

@@ -5,7 +5,7 @@ use Rattle.graph.specs.Network.{Network}
 use Rattle.graph.specs.Opening.{emptyNetwork}
 use Rattle.graph.proofs.Theorems.{diameter-is}
 use Rattle.map.specs.Memory.{Shape, IsShape, base}
-use Rattle.opening.specs.OpenCall.{openCall, referencesOf}
+use Rattle.opening.specs.UpdateCall.{updateCall, referencesOf}
 use Rattle.history.specs.PlainRun.{plainRefusal}
 use Rattle.plain_list.specs.PlainList.{plainNext}
 use Rattle.opening.specs.Memory.{Memory}
@@ -25,30 +25,30 @@ module _ (K : Shape) (shape : IsShape K) where
   all-run : (cs : List Call) → AreCalls K cs → IsRun K shape emptyNetwork cs
   all-run cs calls = run K shape emptyNetwork (empty-held K shape) cs calls
 
-  memory-is : (cs : List Call) → AreCalls K cs → memoryAfterAll K (openCall K) cs ≡ memoryFor K (plainAfterAll K cs .network)
-  memory-is cs calls = ap (λ (M : Memory). runMemory (openCall K) M cs) (empty-memory K shape) ∙ all-run cs calls .memory
+  memory-is : (cs : List Call) → AreCalls K cs → memoryAfterAll K (updateCall K) cs ≡ memoryFor K (plainAfterAll K cs .network)
+  memory-is cs calls = ap (λ (M : Memory). runMemory (updateCall K) M cs) (empty-memory K shape) ∙ all-run cs calls .memory
 
   -- the map at the end represents the plain list's network
-  end-represents : (cs : List Call) → AreCalls K cs → Represents K (memoryAfterAll K (openCall K) cs) (plainAfterAll K cs .network)
+  end-represents : (cs : List Call) → AreCalls K cs → Represents K (memoryAfterAll K (updateCall K) cs) (plainAfterAll K cs .network)
   end-represents cs calls =
       let G = plainAfterAll K cs .network in
       subst (λ (M : Memory). Represents K M G) (sym (memory-is cs calls ∙ memory-written K G)) (written-represents K G (all-run cs calls .isHeld) (memoryFor K G))
 
   -- the marks of the last call
   last-marked : (cs : List Call) (c : Call) → AreCalls K (cs ++ (c ∷ []))
-      → IsMarked K (plainAfterAll K (cs ++ (c ∷ [])) .network) (searchedIn K (openCall K) cs c) (callStep (openCall K) (memoryAfterAll K (openCall K) cs) c)
+      → IsMarked K (plainAfterAll K (cs ++ (c ∷ [])) .network) (searchedIn K (updateCall K) cs c) (callStep (updateCall K) (memoryAfterAll K (updateCall K) cs) c)
   last-marked cs c calls =
       let before : AreCalls K cs = λ x m. calls x (Memᴰ·append-left (c ∷ []) m) in
       let call : IsCall K c = calls c (Memᴰ·append-right cs (List·Memᴰ·head refl)) in
       let G = plainAfterAll K cs .network in
-      let H = plainNext (plainRefusal K G (feedOf K c)) G (c .notice) in
-      subst (λ (N : Network). IsMarked K N (searchedIn K (openCall K) cs c) (callStep (openCall K) (memoryAfterAll K (openCall K) cs) c)) (sym (fed-snoc K emptyNetwork cs c))
-      (subst (λ (M : Memory). IsMarked K H (referencesOf K (M .rec) (lend (c .links) (M .links)) (lentOf M c) (c .notice)) (callStep (openCall K) M c)) (sym (memory-is cs before))
+      let H = plainNext (plainRefusal K G (feedOf K c)) G (c .ask) in
+      subst (λ (N : Network). IsMarked K N (searchedIn K (updateCall K) cs c) (callStep (updateCall K) (memoryAfterAll K (updateCall K) cs) c)) (sym (fed-snoc K emptyNetwork cs c))
+      (subst (λ (M : Memory). IsMarked K H (referencesOf K (M .rec) (lend (c .links) (M .links)) (lentOf M c) (c .ask)) (callStep (updateCall K) M c)) (sym (memory-is cs before))
       (call-marked K shape G (all-run cs before .isHeld) c call))
 
-pub demand3 : (K : Shape) → IsShape K → Demand3 K (openCall K)
+pub demand3 : (K : Shape) → IsShape K → Demand3 K (updateCall K)
 demand3 K shape = record {
-  answers = λ cs calls. ap (λ (M : Memory). runAnswers (openCall K) M cs) (empty-memory K shape) ∙ all-run K shape cs calls .answers;
+  answers = λ cs calls. ap (λ (M : Memory). runAnswers (updateCall K) M cs) (empty-memory K shape) ∙ all-run K shape cs calls .answers;
   published = λ cs calls. diameter-is (plainAfterAll K cs .network) (all-run K shape cs calls .isHeld .net);
   figures = end-represents K shape;
   marks = last-marked K shape;
@@ -60,5 +60,5 @@ demand3 K shape = record {
 
 -- ---- the rules' map
 
-pub demand3-base : Demand3 base (openCall base)
+pub demand3-base : Demand3 base (updateCall base)
 demand3-base = demand3 base base-shape

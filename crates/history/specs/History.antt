@@ -1,18 +1,17 @@
--- LISTS OF OPENING CALLS on one map (rule 9.4): how each call is lent the map, and what the map is after it. `step` is the call: `openCall K` of the
+-- LISTS OF CALLS on one map (rule 9.4): how each call is lent the map, and what the map is after it. `step` is the call: `updateCall K` of the
 -- specification, or the code's own.
 -- Assumes nothing.
 use mathlib.Core.List.{List, [], _∷_, _++_}
 use Prim.Native.Nat.{ℕ, _+_, min}
 use lib.ListN.{length, take, drop}
-use Rattle.graph.specs.Opening.{Notice}
 use Rattle.layers.specs.Layers.{Tables}
 use Rattle.map.specs.Memory.{Shape, tableWords}
 use Rattle.rounds.specs.Leaves.{Lent}
 use Rattle.outcome.specs.declared.Outcome.{Outcome}
-use Rattle.opening.specs.OpenCall.{OpenLeft}
-use Rattle.history.specs.PlainRun.{Feed}
+use Rattle.opening.specs.UpdateCall.{UpdateLeft}
+use Rattle.history.specs.PlainRun.{Ask, Feed}
 use Rattle.opening.specs.Memory.{Memory}
-use Rattle.opening.specs.OpenCall.{Step}
+use Rattle.opening.specs.UpdateCall.{Step}
 
 -- how a table of the map is lent: its first k words alone, or whole, with further words of the caller's behind it
 pub data Part : Type 0 where
@@ -28,9 +27,9 @@ unfoldable pub restore : Part → List ℕ → List ℕ → List ℕ
 restore (first k) t l = l ++ drop k t
 restore (whole xs) t l = take (length t) l
 
--- a call: the notice, how the two tables are lent, and the other lent memory, which may hold anything
+-- a call: what it asks for, how the two tables are lent, and the other lent memory, which may hold anything
 pub record Call : Type 0 where
-  pub notice : Notice
+  pub ask : Ask
   pub links : Part
   pub pairs : Part
   pub searched : Tables
@@ -40,10 +39,10 @@ pub record Call : Type 0 where
 unfoldable pub lentOf : Memory → Call → Lent
 lentOf M c = record { pairs = lend (c .pairs) (M .pairs); searched = c .searched; bounds = c .bounds; skips = c .skips }
 
-unfoldable pub callStep : Step → Memory → Call → OpenLeft
-callStep step M c = step (M .rec) (lend (c .links) (M .links)) (lentOf M c) (c .notice)
+unfoldable pub callStep : Step → Memory → Call → UpdateLeft
+callStep step M c = step (M .rec) (lend (c .links) (M .links)) (lentOf M c) (c .ask)
 
-unfoldable pub memoryAfter : Memory → Call → OpenLeft → Memory
+unfoldable pub memoryAfter : Memory → Call → UpdateLeft → Memory
 memoryAfter M c l = record {
   links = restore (c .links) (M .links) (l .links);
   pairs = restore (c .pairs) (M .pairs) (l .lent .pairs);
@@ -66,7 +65,7 @@ lentSize size (whole xs) = size + length xs
 
 unfoldable pub feedOf : Shape → Call → Feed
 feedOf K c = record {
-  notice = c .notice;
+  ask = c .ask;
   sizes = record {
     links = lentSize (tableWords K) (c .links);
     pairs = lentSize (tableWords K) (c .pairs);

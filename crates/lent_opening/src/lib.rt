@@ -1,8 +1,9 @@
 // The opening on a record that is lent by `&mut` (rule 12.9): a thin function over the step by value, whose proof is a walk of its code by hand.
 ghost use mathlib.Core.Path.{_≡_};
+ghost use Rattle.graph.specs.Updates.{opens};
 ghost use Rattle.map.specs.Memory.{base};
 ghost use Rattle.rounds.specs.Slices.{lentBefore, lentAfter};
-ghost use Rattle.opening.specs.OpenCall.{leftOf, openLeft, openCall};
+ghost use Rattle.opening.specs.UpdateCall.{leftOf, updateLeft, updateCall};
 ghost use Rattle.opening.specs.Steps.{noticeOf};
 use map::Record;
 use opening::Report;
@@ -24,9 +25,9 @@ pub fn open(
     ensures { λ r.
         let before = lentBefore pairs hops bounds skips even odd in
         let after = lentAfter pairs hops bounds skips even odd in
-        let notice = noticeOf code (now (neighbours .entry)) in
+        let asked = opens (noticeOf code (now (neighbours .entry))) in
         ⌜ leftOf r (now (rec .exit)) (now (links .exit)) after
-        ≡ openCall base (now (rec .entry)) (now (links .entry)) before notice ⌝ }
+        ≡ updateCall base (now (rec .entry)) (now (links .entry)) before asked ⌝ }
 {
     let got = opening::open_step(
         *rec,
@@ -60,8 +61,8 @@ pub fn open_value(
     ensures { λ r.
         let before = lentBefore pairs hops bounds skips even odd in
         let after = lentAfter pairs hops bounds skips even odd in
-        let notice = noticeOf code (now (neighbours .entry)) in
-        ⌜ openLeft r (now (links .exit)) after ≡ openCall base rec (now (links .entry)) before notice ⌝ }
+        let asked = opens (noticeOf code (now (neighbours .entry))) in
+        ⌜ updateLeft r (now (links .exit)) after ≡ updateCall base rec (now (links .entry)) before asked ⌝ }
 {
     let mut own = rec;
     let report = open(

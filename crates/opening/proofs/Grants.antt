@@ -9,7 +9,7 @@ use native.Mathlib.Omega.{arith}
 use lib.Dec.{T, eqb}
 use lib.ListN.{length}
 use borrow.Author.Tests.{not-false}
-use Rattle.lists.specs.Lists.{range, countb, memb, firstOf}
+use Rattle.lists.specs.Lists.{range, filterb, countb, memb, firstOf}
 use Rattle.lists.proofs.Tests.{and-true}
 use Rattle.lists.proofs.Members.{first-zero}
 use Rattle.lists.proofs.Distinct.{insert-filter}
@@ -18,10 +18,10 @@ use Rattle.rows.specs.Rows.{tableBit}
 use Rattle.graph.specs.Network.{Network, IsDist, IsEcc, delivers}
 use Rattle.graph.specs.Distance.{vertices, unreached, connected}
 use Rattle.graph.specs.Chart.{Pairs, diameter, farthest, countPairs}
-use Rattle.graph.specs.Opening.{Notice, byCode, withDepot, openFaults}
+use Rattle.graph.specs.Opening.{Notice, withDepot}
 use Rattle.graph.specs.Correct.{IsNet}
 use Rattle.graph.proofs.Connected.{connected-iff}
-use Rattle.graph.proofs.Opened.{IsAdmitted, admitted-of, opened-net}
+use Rattle.graph.proofs.Opened.{IsAdmitted, admitted-of}
 use Rattle.graph.proofs.Theorems.{distance-below, diameter-is, farthest-is}
 use Rattle.map.specs.Memory.{Shape, IsShape, places, networkOf, mapNetwork}
 use Rattle.checks.specs.Sound.{soundLinks, soundFigures, AreLinksSound, AreFiguresSound}
@@ -29,24 +29,26 @@ use Rattle.map.specs.declared.Record.{Record}
 use Rattle.map.proofs.Theorems.{network-most}
 use Rattle.checks.proofs.Theorems.{sound-links-iff, sound-figures-iff}
 use Rattle.rounds.specs.Sizes.{Sizes, longEnough}
-use Rattle.opening.specs.OpenCall.{openRefusal, networkAfter}
+use Rattle.opening.specs.UpdateCall.{updateRefusal, networkAfter, IsWithin}
 use Rattle.opening.proofs.Memories.{IsHeld, Stores, number-is, depots-few}
 use Rattle.graph.proofs.Delivers.{delivers-open}
-use Rattle.graph.specs.Updates.{opens, updateFaults, IsLawful}
+use Rattle.graph.specs.Updates.{Update, opens, updateFaults, applied, IsLawful}
 use Rattle.graph.proofs.Updates.{update-lawful}
 
--- the definitions of specs/OpenCall.antt, opened one step
-pub after-is : (K : Shape) (rec : Record) (links : List ℕ) (o : Notice) → networkAfter K rec links o ≡ withDepot (mapNetwork K rec links) o
+-- the definition of specs/UpdateCall.antt, opened one step
+pub after-is : (K : Shape) (rec : Record) (links : List ℕ) (o : Update) → networkAfter K rec links o ≡ applied (mapNetwork K rec links) o
 unfolding networkAfter
 after-is K rec links o = refl
 
-after-open : (K : Shape) (rec : Record) (links : List ℕ) (o : Notice) → networkAfter K rec links o .isOpen ≡ (λ k. eqb k (o .code) || mapNetwork K rec links .isOpen k)
-unfolding networkAfter withDepot
-after-open K rec links o = refl
+-- an update's network lists its depots as a map does, in rising order
+depots-after : (K : Shape) (rec : Record) (links : List ℕ) → IsNet (mapNetwork K rec links) → (o : Update) → suc (length (vertices (mapNetwork K rec links))) < unreached
+    → firstOf (updateFaults (mapNetwork K rec links) o) ≡ 0 → IsWithin K o → vertices (networkAfter K rec links o) ≡ filterb (networkAfter K rec links o .isOpen) (range (places K))
+unfolding networkAfter applied withDepot networkOf updateFaults
+depots-after K rec links net (opens o) room ok low = insert-filter (mapNetwork K rec links .isOpen) (o .code) (admitted-of (mapNetwork K rec links) net o room ok .fresh) (places K) low
 
--- ---- AN OPENING THAT IS NOT REFUSED
+-- ---- AN UPDATE THAT IS NOT REFUSED
 
-module _ (K : Shape) (shape : IsShape K) (rec : Record) (links pairs : List ℕ) (sizes : Sizes) (o : Notice) (ok : openRefusal K rec links pairs sizes o ≡ 0) where
+module _ (K : Shape) (shape : IsShape K) (rec : Record) (links pairs : List ℕ) (sizes : Sizes) (o : Update) (ok : updateRefusal K rec links pairs sizes o ≡ 0) where
   abbrev N : Network
   N = mapNetwork K rec links
 
@@ -55,12 +57,11 @@ module _ (K : Shape) (shape : IsShape K) (rec : Record) (links pairs : List ℕ)
 
   -- the tests that were passed
   pub granted-long : longEnough K sizes ≡ true
-  unfolding openRefusal
+  unfolding updateRefusal
   granted-long = not-false (longEnough K sizes) (first-zero (not (longEnough K sizes)) 0 _ ok .0)
 
-  granted-sound : (soundLinks (places K) N (rec .number) ≡ true) × (soundFigures (places K) N P (rec .chain) (rec .count) ≡ true)
-      × (connected N ≡ true) × (firstOf (openFaults N o) ≡ 0)
-  unfolding openRefusal
+  granted-sound : (soundLinks (places K) N (rec .number) ≡ true) × (soundFigures (places K) N P (rec .chain) (rec .count) ≡ true) × (connected N ≡ true) × (firstOf (updateFaults N o) ≡ 0)
+  unfolding updateRefusal
   granted-sound =
       let a = first-zero (not (longEnough K sizes)) 0 _ ok in
       let b = first-zero (not (soundLinks (places K) N (rec .number) && soundFigures (places K) N P (rec .chain) (rec .count))) 1 _ (a .1) in
@@ -83,38 +84,41 @@ module _ (K : Shape) (shape : IsShape K) (rec : Record) (links pairs : List ℕ)
       let few : length (vertices N) < unreached = omega (arith, granted-room) in
       record { sound = s; connected = connected-iff N s few .0 (granted-sound .2); small = few }
 
-  pub granted-notice : firstOf (openFaults N o) ≡ 0
+  pub granted-notice : firstOf (updateFaults N o) ≡ 0
   granted-notice = granted-sound .3
 
   pub granted-chain : rec .chain ≤ unreached
   granted-chain = omega (arith, granted-figures .below, shape .most)
 
-  -- so the opening keeps its promises
-  pub granted-lawful : IsLawful N (opens o)
+  -- so it keeps its promises
+  pub granted-lawful : IsLawful N o
+  granted-lawful = update-lawful N granted-net o granted-room granted-notice
+
+  pub held-after : IsWithin K o → IsHeld K (networkAfter K rec links o)
+  unfolding networkAfter
+  held-after low = record { net = granted-lawful .net; depots = depots-after K rec links granted-net o granted-room granted-notice low }
+
+-- ---- AN OPENING THAT IS NOT REFUSED
+
+module _ (K : Shape) (shape : IsShape K) (rec : Record) (links pairs : List ℕ) (sizes : Sizes) (o : Notice) (ok : updateRefusal K rec links pairs sizes (opens o) ≡ 0) where
+  pub admitted : IsAdmitted (mapNetwork K rec links) (o .code) (λ v. memb v (o .neighbours))
   unfolding updateFaults
-  granted-lawful = update-lawful N granted-net (opens o) granted-room granted-notice
+  admitted =
+      admitted-of (mapNetwork K rec links) (granted-net K shape rec links pairs sizes (opens o) ok) o (granted-room K shape rec links pairs sizes (opens o) ok)
+      (granted-notice K shape rec links pairs sizes (opens o) ok)
 
-  pub admitted : IsAdmitted N (o .code) (λ v. memb v (o .neighbours))
-  admitted = admitted-of N granted-net o granted-room granted-notice
+  after-open : networkAfter K rec links (opens o) .isOpen ≡ (λ k. eqb k (o .code) || mapNetwork K rec links .isOpen k)
+  unfolding networkAfter applied withDepot
+  after-open = refl
 
-  -- the network with the depot
-  module _ (low : o .code < places K) where
-    pub held-after : IsHeld K (networkAfter K rec links o)
-    unfolding networkAfter withDepot networkOf
-    held-after = record {
-      net = opened-net byCode N granted-net (o .code) (λ v. memb v (o .neighbours)) admitted;
-      depots = insert-filter (N .isOpen) (o .code) (admitted .fresh) (places K) low;
-    }
-
-    pub number-after : rec .number + 1 ≡ length (vertices (networkAfter K rec links o))
-    number-after =
-        let a : rec .number ≡ countb (N .isOpen) (range (places K)) = granted-links .counted in
-        let b = count-with-new (places K) (N .isOpen) (o .code) low (admitted .fresh) in
-        let c = number-is K (networkAfter K rec links o) held-after in
-        omega (arith, opens)
-      where
-        opens : countb (networkAfter K rec links o .isOpen) (range (places K)) ≡ countb (λ k. eqb k (o .code) || N .isOpen k) (range (places K))
-        opens = ap (λ (p : ℕ → Bool). countb p (range (places K))) (after-open K rec links o)
+  -- one depot more is open
+  pub number-after : o .code < places K → rec .number + 1 ≡ length (vertices (networkAfter K rec links (opens o)))
+  number-after low =
+      let a : rec .number ≡ countb (mapNetwork K rec links .isOpen) (range (places K)) = granted-links K shape rec links pairs sizes (opens o) ok .counted in
+      let b = count-with-new (places K) (mapNetwork K rec links .isOpen) (o .code) low (admitted .fresh) in
+      let c = number-is K (networkAfter K rec links (opens o)) (held-after K shape rec links pairs sizes (opens o) ok low) in
+      let d = ap (λ (p : ℕ → Bool). countb p (range (places K))) after-open in
+      omega arith
 
 -- ---- A MEMORY THAT STORES A NETWORK WITH SOUND FIGURES is refused for its sizes or the notice alone; a network's own figures are sound
 
@@ -153,18 +157,18 @@ module _ (K : Shape) (shape : IsShape K) (G : Network) (held : IsHeld K G) where
       connected-pass = rw (s .network) (connected-iff G (held .net .sound) (held .net .small) .1 (held .net .connected))
 
     -- it need store them only where the sizes are enough
-    module _ (rec : Record) (links pairs : List ℕ) (sizes : Sizes) (o : Notice) (says : longEnough K sizes ≡ true → Stores K G D P rec links pairs) where
+    module _ (rec : Record) (links pairs : List ℕ) (sizes : Sizes) (o : Update) (says : longEnough K sizes ≡ true → Stores K G D P rec links pairs) where
       abbrev R : Network
       R = mapNetwork K rec links
 
-      pub refused-alike : openRefusal K rec links pairs sizes o ≡ firstOf ((not (longEnough K sizes), 1) ∷ openFaults G o)
-      unfolding openRefusal firstOf
+      pub refused-alike : updateRefusal K rec links pairs sizes o ≡ firstOf ((not (longEnough K sizes), 1) ∷ updateFaults G o)
+      unfolding updateRefusal firstOf
       refused-alike = go (longEnough K sizes) refl
         where
           go : (b : Bool) → longEnough K sizes ≡ b
-              → firstOf ((not b, 1) ∷ (not (soundLinks (places K) R (rec .number) && soundFigures (places K) R (tableBit (K .words) pairs) (rec .chain) (rec .count)), 2) ∷ (not (connected R), 3) ∷ openFaults R o)
-              ≡ firstOf ((not b, 1) ∷ openFaults G o)
+              → firstOf ((not b, 1) ∷ (not (soundLinks (places K) R (rec .number) && soundFigures (places K) R (tableBit (K .words) pairs) (rec .chain) (rec .count)), 2) ∷ (not (connected R), 3) ∷ updateFaults R o)
+              ≡ firstOf ((not b, 1) ∷ updateFaults G o)
           go false e = refl
           go true e =
               let s = says e in
-              rw (links-pass rec links pairs s, figures-pass rec links pairs s, connected-pass rec links pairs s) (ap (λ (X : Network). firstOf (openFaults X o)) (s .network))
+              rw (links-pass rec links pairs s, figures-pass rec links pairs s, connected-pass rec links pairs s) (ap (λ (X : Network). firstOf (updateFaults X o)) (s .network))

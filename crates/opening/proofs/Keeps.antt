@@ -1,9 +1,9 @@
--- AN OPENING CALL KEEPS A MAP THAT NOTHING REFUSES, on any sound stored figures, true or false: sizes stay, the words mean the network with the
--- depot, and its figures are sound. Assumes nothing.
+-- A CALL KEEPS A MAP THAT NOTHING REFUSES, on any sound stored figures, true or false: sizes stay, the words mean the network after it, and its
+-- figures are sound. Assumes nothing.
 use mathlib.Core.Path.{_≡_, refl, sym, ap, ap₂, _∙_}
 use mathlib.Core.Bool.{Bool, true, cond}
 use mathlib.Core.List.{List, [], _∷_}
-use Prim.Native.Nat.{ℕ, zero, suc, _*_, _≤_, _<_}
+use Prim.Native.Nat.{ℕ, zero, suc, _*_, _≤_}
 use native.Mathlib.Omega.{arith}
 use lib.Dec.{T}
 use lib.ListN.{length}
@@ -15,9 +15,8 @@ use Rattle.graph.specs.Network.{Network}
 use Rattle.graph.specs.Distance.{unreached, dist}
 use Rattle.graph.specs.Chart.{countPairs}
 use Rattle.graph.specs.Rounds.{markOf, boundOf}
-use Rattle.graph.specs.Opening.{Notice, Opened}
+use Rattle.graph.specs.Opening.{Opened}
 use Rattle.graph.specs.Correct.{AreSound}
-use Rattle.graph.specs.Updates.{applied, steps}
 use Rattle.graph.proofs.Delivers.{delivers-open}
 use Rattle.layers.specs.Layers.{layerBit, depthFrom, Tables, searchLeaves}
 use Rattle.map.specs.Memory.{Shape, IsShape, places, networkOf, mapNetwork}
@@ -27,12 +26,13 @@ use Rattle.map.proofs.Theorems.{network-linked-below}
 use Rattle.rounds.specs.Leaves.{searchAfter, Lent, roundsLeave}
 use Rattle.rounds.specs.Sizes.{sizesOf, longEnough}
 use Rattle.reckon.proofs.Longs.{are-long}
-use Rattle.opening.specs.OpenCall.{openRefusal, networkAfter, openedBy, openGiven, openCall}
+use Rattle.opening.specs.UpdateCall.{updateRefusal, networkAfter, updatedBy, updateGiven, updateCall, IsWithin}
 use Rattle.opening.specs.Steps.{mapRefusal}
 use Rattle.opening.proofs.Memories.{IsHeld, Stores, depots-few, network-read, pairs-read}
-use Rattle.opening.proofs.Grants.{granted-long, granted-figures, granted-lawful, held-after, number-after, links-pass, figures-pass, connected-pass}
+use Rattle.opening.proofs.Grants.{granted-long, granted-figures, granted-lawful, held-after, links-pass, figures-pass, connected-pass}
 use Rattle.opening.proofs.Openings.{given-number, given-chain, given-codes, given-count, given-links, given-pairs}
 use Rattle.opening.proofs.Refuses.{refused-never}
+use Rattle.graph.specs.Updates.{Update}
 
 -- ---- SIZES STAY
 
@@ -49,15 +49,15 @@ searched-lengths W G (r ∷ rs) B h x y =
       overwrite-length (encodeRow W (layer 1)) (B .odd) (omega (arith, encode-row-length W (layer 1))),
     )
 
-module _ (K : Shape) (rec : Record) (links : List ℕ) (B : Lent) (o : Notice) where
+module _ (K : Shape) (rec : Record) (links : List ℕ) (B : Lent) (o : Update) where
   abbrev H : Network
   H = networkAfter K rec links o
 
   abbrev x : Opened
-  x = openedBy K rec links (B .pairs) o
+  x = updatedBy K rec links (B .pairs) o
 
-  given-sizes : longEnough K (sizesOf links B) ≡ true → sizesOf (openGiven zero K rec links B o .links) (openGiven zero K rec links B o .lent) ≡ sizesOf links B
-  unfolding sizesOf openGiven roundsLeave
+  given-sizes : longEnough K (sizesOf links B) ≡ true → sizesOf (updateGiven zero K rec links B o .links) (updateGiven zero K rec links B o .lent) ≡ sizesOf links B
+  unfolding sizesOf updateGiven roundsLeave
   given-sizes long =
       let fit = are-long K (sizesOf links B) long in
       let searched = searched-lengths (K .words) H (x .final .references) (B .searched) (fit .hops-fit) (fit .even-fit) (fit .odd-fit) in
@@ -75,7 +75,7 @@ module _ (K : Shape) (rec : Record) (links : List ℕ) (B : Lent) (o : Notice) w
 
   -- ---- AN ACCEPTED CALL
 
-  module _ (shape : IsShape K) (ok : openRefusal K rec links (B .pairs) (sizesOf links B) o ≡ 0) (low : o .code < places K) where
+  module _ (shape : IsShape K) (ok : updateRefusal K rec links (B .pairs) (sizesOf links B) o ≡ 0) (low : IsWithin K o) where
     abbrev G : Network
     G = mapNetwork K rec links
 
@@ -95,15 +95,15 @@ module _ (K : Shape) (rec : Record) (links : List ℕ) (B : Lent) (o : Notice) w
         }
 
     left-sound : AreSound H (places K) (x .final .candidate) (x .final .pairs)
-    unfolding openedBy networkAfter applied steps
+    unfolding updatedBy networkAfter
     left-sound =
         granted-lawful K shape rec links (B .pairs) (sizesOf links B) o ok .sound (places K) (rec .chain) (tableBit (K .words) (B .pairs)) (depots-few K H held) stored-sound
 
-    pub left-ends : (u v : ℕ) → T (openedBy K rec links (B .pairs) o .final .pairs u v) → T (networkAfter K rec links o .isOpen u) × T (networkAfter K rec links o .isOpen v)
+    pub left-ends : (u v : ℕ) → T (updatedBy K rec links (B .pairs) o .final .pairs u v) → T (networkAfter K rec links o .isOpen u) × T (networkAfter K rec links o .isOpen v)
     left-ends u v h = let p = left-sound .pairs u v h in (delivers-open H u (p .1), delivers-open H v (p .2))
 
-    left-figures : AreFiguresSound (places K) (networkAfter K rec links o) (openedBy K rec links (B .pairs) o .final .pairs)
-        (openedBy K rec links (B .pairs) o .final .candidate) (countPairs (range (places K)) (openedBy K rec links (B .pairs) o .final .pairs))
+    left-figures : AreFiguresSound (places K) (networkAfter K rec links o) (updatedBy K rec links (B .pairs) o .final .pairs)
+        (updatedBy K rec links (B .pairs) o .final .candidate) (countPairs (range (places K)) (updatedBy K rec links (B .pairs) o .final .pairs))
     left-figures = record {
       rising = λ u v l m h. left-sound .pairs u v h .0;
       ends = λ u v l m h. let p = left-sound .pairs u v h in (p .1, p .2);
@@ -111,21 +111,21 @@ module _ (K : Shape) (rec : Record) (links : List ℕ) (B : Lent) (o : Notice) w
       below = left-sound .below;
     }
 
-    -- what the call leaves stores the network with the depot, and the chain and the pairs of the opening
-    pub left-stores : Stores K (networkAfter K rec links o) (openedBy K rec links (B .pairs) o .final .candidate) (openedBy K rec links (B .pairs) o .final .pairs)
-        (openGiven zero K rec links B o .after) (openGiven zero K rec links B o .links) (openGiven zero K rec links B o .lent .pairs)
+    -- what the call leaves stores the network after it, and the chain and the pairs of its steps
+    pub left-stores : Stores K (networkAfter K rec links o) (updatedBy K rec links (B .pairs) o .final .candidate) (updatedBy K rec links (B .pairs) o .final .pairs)
+        (updateGiven zero K rec links B o .after) (updateGiven zero K rec links B o .links) (updateGiven zero K rec links B o .lent .pairs)
     left-stores = record {
       network = ap₂ (networkOf (K .words)) (given-codes K rec links B o) (given-links K rec links B o) ∙ network-read K H held (rec .codes) links;
       pairs = ap (tableBit (K .words)) (given-pairs K rec links B o) ∙ pairs-read K H held (x .final .pairs) left-ends (B .pairs);
-      number = given-number K rec links B o ∙ number-after K shape rec links (B .pairs) (sizesOf links B) o ok low;
+      number = given-number K rec links B o;
       chain = given-chain K rec links B o;
       count = given-count K rec links B o;
     }
 
-    accepted-kept : mapRefusal K (openGiven zero K rec links B o .after) (openGiven zero K rec links B o .links) (openGiven zero K rec links B o .lent .pairs)
-        (sizesOf (openGiven zero K rec links B o .links) (openGiven zero K rec links B o .lent)) ≡ 0
+    accepted-kept : mapRefusal K (updateGiven zero K rec links B o .after) (updateGiven zero K rec links B o .links) (updateGiven zero K rec links B o .lent .pairs)
+        (sizesOf (updateGiven zero K rec links B o .links) (updateGiven zero K rec links B o .lent)) ≡ 0
     accepted-kept =
-        let l = openGiven zero K rec links B o in
+        let l = updateGiven zero K rec links B o in
         let long = granted-long K shape rec links (B .pairs) (sizesOf links B) o ok in
         sym (refused-never K (l .after) (l .links) (l .lent .pairs) (sizesOf (l .links) (l .lent))
         (ap (longEnough K) (given-sizes long) ∙ long)
@@ -135,26 +135,26 @@ module _ (K : Shape) (rec : Record) (links : List ℕ) (B : Lent) (o : Notice) w
 
 -- ---- THE THEOREMS
 
-module _ (K : Shape) (shape : IsShape K) (rec : Record) (links : List ℕ) (B : Lent) (o : Notice) where
+module _ (K : Shape) (shape : IsShape K) (rec : Record) (links : List ℕ) (B : Lent) (o : Update) where
   abbrev refusal : ℕ
-  refusal = openRefusal K rec links (B .pairs) (sizesOf links B) o
+  refusal = updateRefusal K rec links (B .pairs) (sizesOf links B) o
 
   -- a call leaves every buffer as long as it was lent it
-  pub sizes-kept : sizesOf (openCall K rec links B o .links) (openCall K rec links B o .lent) ≡ sizesOf links B
-  unfolding openCall openGiven
+  pub sizes-kept : sizesOf (updateCall K rec links B o .links) (updateCall K rec links B o .lent) ≡ sizesOf links B
+  unfolding updateCall updateGiven
   sizes-kept = go refusal refl
     where
-      go : (k : ℕ) → refusal ≡ k → sizesOf (openGiven k K rec links B o .links) (openGiven k K rec links B o .lent) ≡ sizesOf links B
+      go : (k : ℕ) → refusal ≡ k → sizesOf (updateGiven k K rec links B o .links) (updateGiven k K rec links B o .lent) ≡ sizesOf links B
       go zero ok = given-sizes K rec links B o (granted-long K shape rec links (B .pairs) (sizesOf links B) o ok)
       go (suc k) ko = refl
 
-  -- after an opening call on memory that nothing refuses, nothing refuses it: sizes, soundness of links and figures, connectedness stay
-  pub map-kept : o .code < places K → mapRefusal K rec links (B .pairs) (sizesOf links B) ≡ 0
-      → mapRefusal K (openCall K rec links B o .after) (openCall K rec links B o .links) (openCall K rec links B o .lent .pairs) (sizesOf (openCall K rec links B o .links) (openCall K rec links B o .lent)) ≡ 0
-  unfolding openCall openGiven
+  -- after a call on memory that nothing refuses, nothing refuses it: sizes, soundness of links and figures, connectedness stay
+  pub map-kept : IsWithin K o → mapRefusal K rec links (B .pairs) (sizesOf links B) ≡ 0
+      → mapRefusal K (updateCall K rec links B o .after) (updateCall K rec links B o .links) (updateCall K rec links B o .lent .pairs) (sizesOf (updateCall K rec links B o .links) (updateCall K rec links B o .lent)) ≡ 0
+  unfolding updateCall updateGiven
   map-kept low free = go refusal refl
     where
       go : (k : ℕ) → refusal ≡ k
-          → mapRefusal K (openGiven k K rec links B o .after) (openGiven k K rec links B o .links) (openGiven k K rec links B o .lent .pairs) (sizesOf (openGiven k K rec links B o .links) (openGiven k K rec links B o .lent)) ≡ 0
+          → mapRefusal K (updateGiven k K rec links B o .after) (updateGiven k K rec links B o .links) (updateGiven k K rec links B o .lent .pairs) (sizesOf (updateGiven k K rec links B o .links) (updateGiven k K rec links B o .lent)) ≡ 0
       go zero ok = accepted-kept K rec links B o shape ok low
       go (suc k) ko = free

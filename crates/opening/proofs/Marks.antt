@@ -19,20 +19,20 @@ use Rattle.rows.specs.Rows.{tableBit}
 use Rattle.graph.specs.Network.{Network}
 use Rattle.graph.specs.Distance.{vertices}
 use Rattle.graph.specs.Rounds.{Status, waiting, skipped, searched, State, markOf}
-use Rattle.graph.specs.Opening.{Notice, Change, grew, kept, shrank, Opened}
+use Rattle.graph.specs.Opening.{Change, grew, kept, shrank, Opened}
 use Rattle.graph.specs.Correct.{IsCovered, Stands, AreReferences, IsSearched}
-use Rattle.graph.proofs.Theorems.{opening-covered}
-use Rattle.map.specs.Memory.{Shape, IsShape, places, mapNetwork}
+use Rattle.map.specs.Memory.{Shape, IsShape, places}
 use Rattle.map.specs.declared.Record.{Record}
 use Rattle.rounds.specs.Leaves.{Lent}
 use Rattle.rounds.specs.Sizes.{sizesOf}
 use Rattle.outcome.specs.declared.Change.the-variants.{Shrank}
 use Rattle.outcome.specs.declared.Outcome.the-variants.{Accepted, Refused}
-use Rattle.opening.specs.OpenCall.{changeOf, openRefusal, networkAfter, openedBy, openGiven, referencesBy}
+use Rattle.opening.specs.UpdateCall.{changeOf, updateRefusal, networkAfter, updatedBy, updateGiven, referencesBy, IsWithin}
 use Rattle.opening.specs.Represents.{IsMarked}
 use Rattle.opening.proofs.Memories.{IsHeld, open-below}
-use Rattle.opening.proofs.Grants.{granted-net, granted-notice, granted-room, granted-chain, held-after, number-after}
+use Rattle.opening.proofs.Grants.{granted-lawful, granted-chain, held-after}
 use Rattle.opening.proofs.Openings.{given-outcome, given-searches, given-number, given-chain, given-skips, given-references}
+use Rattle.graph.specs.Updates.{Update}
 
 -- ---- the skip table's number at a place tells the searched depots
 
@@ -85,8 +85,8 @@ module _ (K : Shape) (shape : IsShape K) (H : Network) (held : IsHeld K H) (S : 
 
 -- ---- A REFUSED CALL searches nothing
 
-pub refused-marked : (k : ℕ) (K : Shape) (H : Network) (rec : Record) (links : List ℕ) (B : Lent) (o : Notice) → IsMarked K H (referencesBy (suc k) K rec links B o) (openGiven (suc k) K rec links B o)
-unfolding openGiven referencesBy memb anyb
+pub refused-marked : (k : ℕ) (K : Shape) (H : Network) (rec : Record) (links : List ℕ) (B : Lent) (o : Update) → IsMarked K H (referencesBy (suc k) K rec links B o) (updateGiven (suc k) K rec links B o)
+unfolding updateGiven referencesBy memb anyb
 refused-marked k K H rec links B o = record {
   noneRefused = λ j p. refl;
   marks = λ a p. absurd (let z : _≡_ {A = ℕ} 0 1 = cc in lt-irrefl 0 (omega arith));
@@ -96,7 +96,7 @@ refused-marked k K H rec links B o = record {
   cover = λ p. absurd (let z : _≡_ {A = ℕ} 0 1 = cc in lt-irrefl 0 (omega arith));
 }
 
--- ---- AN OPENING THAT IS NOT REFUSED
+-- ---- AN UPDATE THAT IS NOT REFUSED
 
 changed-not : (c : Change) (k : ℕ) → changeOf c ≡ Refused k → ⊥
 unfolding changeOf
@@ -110,28 +110,27 @@ changed-shrank grew p = absurd (let z : _≡_ {A = ℕ} 0 1 = cc in lt-irrefl 0 
 changed-shrank kept p = absurd (let z : _≡_ {A = ℕ} 0 1 = cc in lt-irrefl 0 (omega arith))
 changed-shrank shrank p = refl
 
-module _ (K : Shape) (shape : IsShape K) (rec : Record) (links : List ℕ) (B : Lent) (o : Notice) (ok : openRefusal K rec links (B .pairs) (sizesOf links B) o ≡ 0) (low : o .code < places K) where
+module _ (K : Shape) (shape : IsShape K) (rec : Record) (links : List ℕ) (B : Lent) (o : Update) (ok : updateRefusal K rec links (B .pairs) (sizesOf links B) o ≡ 0) (low : IsWithin K o) where
   abbrev H : Network
   H = networkAfter K rec links o
 
   abbrev x : Opened
-  x = openedBy K rec links (B .pairs) o
+  x = updatedBy K rec links (B .pairs) o
 
   held : IsHeld K (networkAfter K rec links o)
   held = held-after K shape rec links (B .pairs) (sizesOf links B) o ok low
 
-  pub opened-searched : IsSearched (networkAfter K rec links o) (openedBy K rec links (B .pairs) o)
-  unfolding networkAfter openedBy
+  pub opened-searched : IsSearched (networkAfter K rec links o) (updatedBy K rec links (B .pairs) o)
+  unfolding networkAfter updatedBy
   opened-searched =
-      opening-covered (mapNetwork K rec links) (granted-net K shape rec links (B .pairs) (sizesOf links B) o ok) o
-      (granted-room K shape rec links (B .pairs) (sizesOf links B) o ok) (granted-notice K shape rec links (B .pairs) (sizesOf links B) o ok)
-      (rec .chain) (tableBit (K .words) (B .pairs)) (granted-chain K shape rec links (B .pairs) (sizesOf links B) o ok)
+      granted-lawful K shape rec links (B .pairs) (sizesOf links B) o ok .covered (rec .chain) (tableBit (K .words) (B .pairs))
+      (granted-chain K shape rec links (B .pairs) (sizesOf links B) o ok)
 
-  pub opened-marked : IsMarked K (networkAfter K rec links o) (referencesBy zero K rec links B o) (openGiven zero K rec links B o)
+  pub opened-marked : IsMarked K (networkAfter K rec links o) (referencesBy zero K rec links B o) (updateGiven zero K rec links B o)
   opened-marked =
       let R = opened-searched .references in
-      let skips = openGiven zero K rec links B o .lent .skips in
-      subst (λ (refs : List ℕ). IsMarked K H refs (openGiven zero K rec links B o)) (sym (given-references K rec links B o))
+      let skips = updateGiven zero K rec links B o .lent .skips in
+      subst (λ (refs : List ℕ). IsMarked K H refs (updateGiven zero K rec links B o)) (sym (given-references K rec links B o))
       (record {
         noneRefused = λ k p. absurd (changed-not (x .change) k (sym (given-outcome K rec links B o) ∙ p));
         marks = λ a p v l. skip-marks K shape H held (x .final) R skips (B .skips) (given-skips K rec links B o) v l;
@@ -143,7 +142,6 @@ module _ (K : Shape) (shape : IsShape K) (rec : Record) (links : List ℕ) (B : 
               given-searches K rec links B o,
               given-number K rec links B o,
               few-searches K shape H held (x .final) R,
-              number-after K shape rec links (B .pairs) (sizesOf links B) o ok low,
             );
         cover = λ p v ov n.
             subst (λ (c : ℕ). IsCovered H (x .final .references) c v) (sym (given-chain K rec links B o))

@@ -1,9 +1,9 @@
--- WHAT AN OPENING LEAVES on true stored figures, whatever words stood there: the map of the network with the depot, written over them, and how the
--- chain moved. And the opening call of specs/OpenCall.antt, opened one step at a time. Assumes nothing.
+-- WHAT AN UPDATE LEAVES on true stored figures, whatever words stood there: the map of the network after it, written over them, and how the
+-- chain moved. And the call of specs/UpdateCall.antt, opened one step at a time. Assumes nothing.
 use mathlib.Core.Path.{_≡_, refl, ap, _∙_}
 use mathlib.Core.Bool.{cond}
 use mathlib.Core.List.{List}
-use Prim.Native.Nat.{ℕ, zero, _+_, _<_}
+use Prim.Native.Nat.{ℕ, zero}
 use native.Mathlib.Nat.{lt-irrefl}
 use native.Mathlib.Omega.{arith}
 use lib.ListN.{length}
@@ -13,63 +13,65 @@ use Rattle.rows.specs.Rows.{tableBit, encodeRow, encodeTable}
 use Rattle.graph.specs.Network.{Network, AreTrue, delivers}
 use Rattle.graph.specs.Rounds.{markOf}
 use Rattle.graph.specs.Chart.{Pairs, diameter, farthest, countPairs}
-use Rattle.graph.specs.Opening.{Notice, Change, grew, kept, shrank, Opened}
+use Rattle.graph.specs.Opening.{Change, grew, kept, shrank, Opened}
 use Rattle.graph.specs.Correct.{Moved, IsOpened}
-use Rattle.graph.proofs.Theorems.{true-chain, true-pairs, figures-are, opening-correct}
+use Rattle.graph.proofs.Theorems.{true-chain, true-pairs, figures-are}
 use Rattle.map.specs.Memory.{Shape, IsShape, places, mapNetwork}
 use Rattle.map.specs.declared.Record.{Record}
 use Rattle.rounds.specs.Leaves.{Lent, roundsLeave}
 use Rattle.rounds.specs.Sizes.{sizesOf}
-use Rattle.opening.specs.OpenCall.{changeOf, openRefusal, networkAfter, openedBy, openGiven, referencesBy}
+use Rattle.opening.specs.UpdateCall.{changeOf, updateRefusal, networkAfter, updatedBy, updateGiven, referencesBy, IsWithin}
 use Rattle.plain_list.specs.PlainList.{moved}
 use Rattle.opening.specs.Demand2.{mapAfter}
 use Rattle.opening.proofs.Memories.{IsHeld, Says, record-path, memory-path, writeMap}
-use Rattle.opening.proofs.Grants.{granted-net, granted-notice, granted-room, held-after, number-after}
+use Rattle.opening.proofs.Grants.{granted-lawful, held-after}
+use Rattle.graph.specs.Updates.{Update}
+use Rattle.graph.specs.Distance.{vertices}
 
 -- ---- the call's definitions, one step each
 
-module _ (K : Shape) (rec : Record) (links : List ℕ) (B : Lent) (o : Notice) where
+module _ (K : Shape) (rec : Record) (links : List ℕ) (B : Lent) (o : Update) where
   abbrev H : Network
   H = networkAfter K rec links o
 
   abbrev x : Opened
-  x = openedBy K rec links (B .pairs) o
+  x = updatedBy K rec links (B .pairs) o
 
-  pub given-outcome : openGiven zero K rec links B o .report .outcome ≡ changeOf (x .change)
-  unfolding openGiven
+  pub given-outcome : updateGiven zero K rec links B o .report .outcome ≡ changeOf (x .change)
+  unfolding updateGiven
   given-outcome = refl
 
-  pub given-searches : openGiven zero K rec links B o .report .searches ≡ length (x .final .references)
-  unfolding openGiven
+  pub given-searches : updateGiven zero K rec links B o .report .searches ≡ length (x .final .references)
+  unfolding updateGiven
   given-searches = refl
 
-  pub given-number : openGiven zero K rec links B o .after .number ≡ rec .number + 1
-  unfolding openGiven
+  pub given-number : updateGiven zero K rec links B o .after .number ≡ length (vertices H)
+  unfolding updateGiven
   given-number = refl
 
-  pub given-chain : openGiven zero K rec links B o .after .chain ≡ x .final .candidate
-  unfolding openGiven
+  pub given-chain : updateGiven zero K rec links B o .after .chain ≡ x .final .candidate
+  unfolding updateGiven
   given-chain = refl
 
-  pub given-codes : openGiven zero K rec links B o .after .codes ≡ overwrite (encodeRow (K .words) (H .isOpen)) (rec .codes)
-  unfolding openGiven
+  pub given-codes : updateGiven zero K rec links B o .after .codes ≡ overwrite (encodeRow (K .words) (H .isOpen)) (rec .codes)
+  unfolding updateGiven
   given-codes = refl
 
-  pub given-count : openGiven zero K rec links B o .after .count ≡ countPairs (range (places K)) (x .final .pairs)
-  unfolding openGiven
+  pub given-count : updateGiven zero K rec links B o .after .count ≡ countPairs (range (places K)) (x .final .pairs)
+  unfolding updateGiven
   given-count = refl
 
-  pub given-links : openGiven zero K rec links B o .links ≡ overwrite (encodeTable (K .words) (H .linked)) links
-  unfolding openGiven
+  pub given-links : updateGiven zero K rec links B o .links ≡ overwrite (encodeTable (K .words) (H .linked)) links
+  unfolding updateGiven
   given-links = refl
 
-  pub given-pairs : openGiven zero K rec links B o .lent .pairs ≡ overwrite (encodeTable (K .words) (x .final .pairs)) (B .pairs)
-  unfolding openGiven roundsLeave
+  pub given-pairs : updateGiven zero K rec links B o .lent .pairs ≡ overwrite (encodeTable (K .words) (x .final .pairs)) (B .pairs)
+  unfolding updateGiven roundsLeave
   given-pairs = refl
 
-  pub given-skips : openGiven zero K rec links B o .lent .skips
+  pub given-skips : updateGiven zero K rec links B o .lent .skips
       ≡ overwrite (mapl (λ v. cond (H .isOpen v) (markOf (K .searchedMark) (K .otherMark) (x .final .status v)) (K .otherMark)) (range (places K))) (B .skips)
-  unfolding openGiven roundsLeave
+  unfolding updateGiven roundsLeave
   given-skips = refl
 
   pub given-references : referencesBy zero K rec links B o ≡ x .final .references
@@ -84,41 +86,38 @@ moved-is grew D E l = rw (lt-ltb D E l)
 moved-is kept D E l = rw (le-ltb D E (omega arith), eq-eqb D E l)
 moved-is shrank D E l = rw (le-ltb D E (omega arith), ne-eqb D E (λ q. lt-irrefl D (omega arith)))
 
--- ---- AN OPENING THAT IS NOT REFUSED, on true stored figures
+-- ---- AN UPDATE THAT IS NOT REFUSED, on true stored figures
 
-module _ (K : Shape) (shape : IsShape K) (rec : Record) (links : List ℕ) (B : Lent) (o : Notice) (ok : openRefusal K rec links (B .pairs) (sizesOf links B) o ≡ 0) (low : o .code < places K)
+module _ (K : Shape) (shape : IsShape K) (rec : Record) (links : List ℕ) (B : Lent) (o : Update) (ok : updateRefusal K rec links (B .pairs) (sizesOf links B) o ≡ 0) (low : IsWithin K o)
     (were : AreTrue (mapNetwork K rec links) (delivers (mapNetwork K rec links)) (rec .chain) (tableBit (K .words) (B .pairs))) where
-  opened-correct : IsOpened (networkAfter K rec links o) (rec .chain) (openedBy K rec links (B .pairs) o)
-  unfolding networkAfter openedBy
-  opened-correct =
-      opening-correct (mapNetwork K rec links) (granted-net K shape rec links (B .pairs) (sizesOf links B) o ok) o
-      (granted-room K shape rec links (B .pairs) (sizesOf links B) o ok) (granted-notice K shape rec links (B .pairs) (sizesOf links B) o ok)
-      (rec .chain) (tableBit (K .words) (B .pairs)) were
+  opened-correct : IsOpened (networkAfter K rec links o) (rec .chain) (updatedBy K rec links (B .pairs) o)
+  unfolding networkAfter updatedBy
+  opened-correct = granted-lawful K shape rec links (B .pairs) (sizesOf links B) o ok .correct (rec .chain) (tableBit (K .words) (B .pairs)) were
 
-  chain-is : openedBy K rec links (B .pairs) o .final .candidate ≡ diameter (networkAfter K rec links o)
+  chain-is : updatedBy K rec links (B .pairs) o .final .candidate ≡ diameter (networkAfter K rec links o)
   chain-is =
       true-chain (networkAfter K rec links o) (held-after K shape rec links (B .pairs) (sizesOf links B) o ok low .net)
-      (openedBy K rec links (B .pairs) o .final .candidate) (openedBy K rec links (B .pairs) o .final .pairs) (opened-correct .figures)
+      (updatedBy K rec links (B .pairs) o .final .candidate) (updatedBy K rec links (B .pairs) o .final .pairs) (opened-correct .figures)
 
-  pairs-are : openedBy K rec links (B .pairs) o .final .pairs ≡ farthest (networkAfter K rec links o)
+  pairs-are : updatedBy K rec links (B .pairs) o .final .pairs ≡ farthest (networkAfter K rec links o)
   pairs-are =
       true-pairs (networkAfter K rec links o) (held-after K shape rec links (B .pairs) (sizesOf links B) o ok low .net)
-      (openedBy K rec links (B .pairs) o .final .candidate) (openedBy K rec links (B .pairs) o .final .pairs) (opened-correct .figures)
+      (updatedBy K rec links (B .pairs) o .final .candidate) (updatedBy K rec links (B .pairs) o .final .pairs) (opened-correct .figures)
 
-  pub opened-moved : openGiven zero K rec links B o .report .outcome ≡ moved (rec .chain) (diameter (networkAfter K rec links o))
+  pub opened-moved : updateGiven zero K rec links B o .report .outcome ≡ moved (rec .chain) (diameter (networkAfter K rec links o))
   opened-moved =
       given-outcome K rec links B o
-      ∙ moved-is (openedBy K rec links (B .pairs) o .change) (rec .chain) (openedBy K rec links (B .pairs) o .final .candidate) (opened-correct .change)
+      ∙ moved-is (updatedBy K rec links (B .pairs) o .change) (rec .chain) (updatedBy K rec links (B .pairs) o .final .candidate) (opened-correct .change)
       ∙ ap (moved (rec .chain)) chain-is
 
-  pub opened-writes : mapAfter (openGiven zero K rec links B o) ≡ writeMap K (networkAfter K rec links o) (record { links = links; pairs = B .pairs; rec = rec })
+  pub opened-writes : mapAfter (updateGiven zero K rec links B o) ≡ writeMap K (networkAfter K rec links o) (record { links = links; pairs = B .pairs; rec = rec })
   unfolding writeMap
   opened-writes =
       memory-path
       (given-links K rec links B o)
       (given-pairs K rec links B o ∙ ap (λ (P : Pairs). overwrite (encodeTable (K .words) P) (B .pairs)) pairs-are)
       (record-path (given-codes K rec links B o)
-      (given-number K rec links B o ∙ number-after K shape rec links (B .pairs) (sizesOf links B) o ok low)
+      (given-number K rec links B o)
       (given-chain K rec links B o ∙ chain-is)
       (given-count K rec links B o ∙ ap (countPairs (range (places K))) pairs-are))
 

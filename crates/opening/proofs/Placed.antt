@@ -33,11 +33,13 @@ use Rattle.outcome.specs.declared.Outcome.{Outcome}
 use Rattle.outcome.specs.declared.Outcome.the-variants.{Accepted}
 use Rattle.admission.proofs.Theorems.{linked-after, linked-is}
 use Rattle.insertion.specs.Figured.{changeAs, Figured, figured, figuredBy, IsFigurable}
-use Rattle.opening.specs.OpenCall.{changeOf, openRefusal, networkAfter, openedBy, OpenLeft, openGiven}
+use Rattle.opening.specs.UpdateCall.{changeOf, updateRefusal, networkAfter, updatedBy, UpdateLeft, updateGiven}
 use Rattle.opening.specs.Steps.{noticeOf}
 use Rattle.opening.proofs.Memories.{depots-few}
 use Rattle.opening.proofs.Grants.{granted-long, granted-net, granted-figures, admitted, held-after, number-after}
 use Rattle.graph.proofs.Opened.{delivers-old}
+use Rattle.graph.specs.Updates.{opens, applied, steps}
+use Rattle.graph.specs.Distance.{vertices}
 
 -- ---- the open set
 
@@ -61,7 +63,7 @@ change-is shrank = refl
 -- ---- the parts, put together
 
 module _ (rec : Record) (links p h b s x y : List ℕ) (code : ℕ) (ns : List ℕ)
-    (ok : openRefusal base rec links p (sizes (length links) (length p) (length h) (length b) (length s) (length x) (length y)) (noticeOf code ns) ≡ 0)
+    (ok : updateRefusal base rec links p (sizes (length links) (length p) (length h) (length b) (length s) (length x) (length y)) (opens (noticeOf code ns)) ≡ 0)
     (byte : code < 256) (bytes : (k : ℕ) → k < length ns → getD ns k 0 < 256) where
   abbrev o : Notice
   o = noticeOf code ns
@@ -76,23 +78,23 @@ module _ (rec : Record) (links p h b s x y : List ℕ) (code : ℕ) (ns : List �
   G = networkOf 4 (rec .codes) links
 
   abbrev H : Network
-  H = networkAfter base rec links o
+  H = networkAfter base rec links (opens o)
 
   pub long-is : AreLong base z
-  long-is = are-long base z (granted-long base base-shape rec links p z o ok)
+  long-is = are-long base z (granted-long base base-shape rec links p z (opens o) ok)
 
   -- the number open has room for one more
   pub number-small : rec .number + 1 ≤ 256
   number-small =
-      let held = held-after base base-shape rec links p z o ok byte in
+      let held = held-after base base-shape rec links p z (opens o) ok byte in
       omega (arith, number-after base base-shape rec links p z o ok byte, depots-few base H held)
 
   open-is : H .isOpen ≡ (λ v. eqb v code || rowBit 4 (rec .codes) v)
-  unfolding networkAfter withDepot networkOf
+  unfolding networkAfter applied withDepot networkOf
   open-is = refl
 
   links-are : H .linked ≡ (λ u v. (eqb u code && memb v ns) || (eqb v code && memb u ns) || tableBit 4 links u v)
-  unfolding networkAfter
+  unfolding networkAfter applied
   links-are = linked-is 4 (rec .codes) links code ns
 
   module _ (after left : List ℕ) (put : after ≡ overwrite (encodeRow 4 (λ v. eqb v code || rowBit 4 (rec .codes) v)) (rec .codes))
@@ -110,18 +112,18 @@ module _ (rec : Record) (links p h b s x y : List ℕ) (code : ℕ) (ns : List �
     was-closed = admitted base base-shape rec links p z o ok .fresh
 
     pub network-is : networkOf 4 after left ≡ H
-    unfolding networkAfter
+    unfolding networkAfter applied
     network-is = linked-after 4 code ns (omega arith) byte bytes (rec .codes) after links left was-closed open-bits linked
 
     figures-are : AreFiguresSound 256 G (tableBit 4 p) (rec .chain) (rec .count)
-    figures-are = granted-figures base base-shape rec links p z o ok
+    figures-are = granted-figures base base-shape rec links p z (opens o) ok
 
     still : (v : ℕ) → T (delivers G v) → T (delivers H v)
-    unfolding networkAfter withDepot
-    still v t = delivers-old byCode G (granted-net base base-shape rec links p z o ok) code (λ v. memb v ns) (admitted base base-shape rec links p z o ok) v t
+    unfolding networkAfter applied withDepot
+    still v t = delivers-old byCode G (granted-net base base-shape rec links p z (opens o) ok) code (λ v. memb v ns) (admitted base base-shape rec links p z o ok) v t
 
     open-new : T (H .isOpen code)
-    unfolding networkAfter withDepot
+    unfolding networkAfter applied withDepot
     open-new = true→t (or-left (G .isOpen code) (eq-eqb code code refl))
 
     pub figurable : 4 ≤ length after → length left ≡ length links → IsFigurable base after left B code (rec .chain) (rec .count)
@@ -140,7 +142,7 @@ module _ (rec : Record) (links p h b s x y : List ℕ) (code : ℕ) (ns : List �
           boundPlaces = l .bounds-fit;
           skipPlaces = l .skips-fit;
           codeRow = row;
-          net = subst IsNet (sym e) (held-after base base-shape rec links p z o ok byte .net);
+          net = subst IsNet (sym e) (held-after base base-shape rec links p z (opens o) ok byte .net);
           present = subst (λ (N : Network). T (N .isOpen code)) (sym e) open-new;
           rising = λ u v t. f .rising u v (below u v t .0) (below u v t .1) t;
           ends = λ u v t.
@@ -150,23 +152,27 @@ module _ (rec : Record) (links p h b s x y : List ℕ) (code : ℕ) (ns : List �
           low = f .below;
         }
 
-    -- what is left, of a state and an outcome
-    abbrev leftBy : Outcome → List ℕ → List ℕ → Ran → OpenLeft
-    leftBy oc codes l r = record {
+    -- what is left, of a number open, an outcome and a state
+    abbrev leftWith : ℕ → Outcome → List ℕ → List ℕ → Ran → UpdateLeft
+    leftWith n oc codes l r = record {
       report = record { outcome = oc; searches = r .searches };
-      after = record { codes = codes; number = rec .number + 1; chain = r .chain; count = r .count };
+      after = record { codes = codes; number = n; chain = r .chain; count = r .count };
       links = l;
       lent = r .lent;
     }
 
+    abbrev opened : ℕ
+    opened = length (vertices H)
+
     pub opened-is : (c : Change) (r : Ran) → figured c r ≡ figuredBy base (networkOf 4 after left) code (rec .chain) B
-        → leftBy (Accepted c) after left r ≡ openGiven 0 base rec links B o
-    unfolding openGiven openedBy figuredBy ranBy
+        → leftWith (rec .number + 1) (Accepted c) after left r ≡ updateGiven 0 base rec links B (opens o)
+    unfolding updateGiven updatedBy steps figuredBy ranBy
     opened-is c r e =
         let q = e ∙ ap (λ (N : Network). figuredBy base N code (rec .chain) B) network-is in
         let xo = opening (chart H) code (rec .chain) (tableBit 4 p) in
         let R : Ran = ranBy base H (xo .final) B in
-        ap (λ (f : Figured). leftBy (Accepted (f .change)) after left (f .ran)) q
-        ∙ ap (λ (oc : Outcome). leftBy oc after left R) (sym (change-is (xo .change)))
-        ∙ ap (λ (cs : List ℕ). leftBy (changeOf (xo .change)) cs left R) (put ∙ ap (λ (f : ℕ → Bool). overwrite (encodeRow 4 f) (rec .codes)) (sym open-is))
-        ∙ ap (λ (ls : List ℕ). leftBy (changeOf (xo .change)) (overwrite (encodeRow 4 (H .isOpen)) (rec .codes)) ls R) (linked ∙ ap (λ (f : ℕ → ℕ → Bool). overwrite (encodeTable 4 f) links) (sym links-are))
+        ap (λ (n : ℕ). leftWith n (Accepted c) after left r) (number-after base base-shape rec links p z o ok byte)
+        ∙ ap (λ (f : Figured). leftWith opened (Accepted (f .change)) after left (f .ran)) q
+        ∙ ap (λ (oc : Outcome). leftWith opened oc after left R) (sym (change-is (xo .change)))
+        ∙ ap (λ (cs : List ℕ). leftWith opened (changeOf (xo .change)) cs left R) (put ∙ ap (λ (f : ℕ → Bool). overwrite (encodeRow 4 f) (rec .codes)) (sym open-is))
+        ∙ ap (λ (ls : List ℕ). leftWith opened (changeOf (xo .change)) (overwrite (encodeRow 4 (H .isOpen)) (rec .codes)) ls R) (linked ∙ ap (λ (f : ℕ → ℕ → Bool). overwrite (encodeTable 4 f) links) (sym links-are))

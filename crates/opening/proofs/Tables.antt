@@ -30,11 +30,12 @@ use Rattle.reckon.proofs.Skips.{skip-bound, closed-at, waiting-at}
 use Rattle.outcome.specs.declared.Change.{Change}
 use Rattle.outcome.specs.declared.Change.the-variants.{Grew, Kept, Shrank}
 use Rattle.outcome.specs.declared.Outcome.the-variants.{Accepted}
-use Rattle.opening.specs.OpenCall.{changeOf, openRefusal, networkAfter, openedBy, openGiven, openCall, referencesBy, referencesOf}
+use Rattle.opening.specs.UpdateCall.{changeOf, updateRefusal, networkAfter, updatedBy, updateGiven, updateCall, referencesBy, referencesOf}
 use Rattle.opening.specs.Tables.{AreTables, LeavesTables}
 use Rattle.opening.proofs.Memories.{IsHeld, open-below}
 use Rattle.opening.proofs.Grants.{granted-long, granted-net, granted-notice, granted-room, granted-chain, held-after}
 use Rattle.opening.proofs.Marks.{opened-searched, changed-shrank}
+use Rattle.graph.specs.Updates.{opens, updateFaults, applied, steps}
 
 shrank-changed : (o : Opened) → o .change ≡ shrank → changeOf (o .change) ≡ Accepted Shrank
 unfolding changeOf
@@ -47,34 +48,34 @@ changed-accepted Graph.kept = (Kept, refl)
 changed-accepted Graph.shrank = (Shrank, refl)
 
 module _ (K : Shape) (shape : IsShape K) (rec : Record) (links : List ℕ) (B : Lent) (o : Notice)
-    (ok : openRefusal K rec links (B .pairs) (sizesOf links B) o ≡ 0) (low : o .code < places K) where
+    (ok : updateRefusal K rec links (B .pairs) (sizesOf links B) (opens o) ≡ 0) (low : o .code < places K) where
   abbrev H : Network
-  H = networkAfter K rec links o
+  H = networkAfter K rec links (opens o)
 
   abbrev x : Opened
-  x = openedBy K rec links (B .pairs) o
+  x = updatedBy K rec links (B .pairs) (opens o)
 
   abbrev S : State
-  S = openedBy K rec links (B .pairs) o .final
+  S = updatedBy K rec links (B .pairs) (opens o) .final
 
   held : IsHeld K H
-  held = held-after K shape rec links (B .pairs) (sizesOf links B) o ok low
+  held = held-after K shape rec links (B .pairs) (sizesOf links B) (opens o) ok low
 
   below : (v : ℕ) → T (H .isOpen v) → v < places K
   below = open-below K H held
 
   long : AreLong K (sizesOf links B)
-  long = are-long K (sizesOf links B) (granted-long K shape rec links (B .pairs) (sizesOf links B) o ok)
+  long = are-long K (sizesOf links B) (granted-long K shape rec links (B .pairs) (sizesOf links B) (opens o) ok)
 
   references : AreReferences H S
-  references = opened-searched K shape rec links B o ok low .references
+  references = opened-searched K shape rec links B (opens o) ok low .references
 
   says : IsSettled H (o .code) x
-  unfolding networkAfter openedBy
+  unfolding networkAfter updatedBy applied steps updateFaults
   says =
-      opening-says (mapNetwork K rec links) (granted-net K shape rec links (B .pairs) (sizesOf links B) o ok) o
-      (granted-room K shape rec links (B .pairs) (sizesOf links B) o ok) (granted-notice K shape rec links (B .pairs) (sizesOf links B) o ok)
-      (rec .chain) (granted-chain K shape rec links (B .pairs) (sizesOf links B) o ok) (tableBit (K .words) (B .pairs))
+      opening-says (mapNetwork K rec links) (granted-net K shape rec links (B .pairs) (sizesOf links B) (opens o) ok) o
+      (granted-room K shape rec links (B .pairs) (sizesOf links B) (opens o) ok) (granted-notice K shape rec links (B .pairs) (sizesOf links B) (opens o) ok)
+      (rec .chain) (granted-chain K shape rec links (B .pairs) (sizesOf links B) (opens o) ok) (tableBit (K .words) (B .pairs))
 
   -- the last search
   last-search : (rs : List ℕ) → S .references ≡ o .code ∷ rs
@@ -86,8 +87,8 @@ module _ (K : Shape) (shape : IsShape K) (rec : Record) (links : List ℕ) (B : 
       let left = leaves-search K H (held .net) below s (references .inside s m) (B .searched) (long .hops-fit) (long .even-fit) (long .odd-fit) in
       (ecc (chart H) s, subst (λ (l : List ℕ). IsSearch K H s (B .searched) (searchLeft (Reached (ecc (chart H) s)) (searchAfter (K .words) H l (B .searched)))) (sym q) left)
 
-  given-tables : AreTables K H (o .code) (S .references) links B (openGiven zero K rec links B o)
-  unfolding openGiven roundsLeave sizesOf
+  given-tables : AreTables K H (o .code) (S .references) links B (updateGiven zero K rec links B (opens o))
+  unfolding updateGiven roundsLeave sizesOf
   given-tables = record {
     change = changed-accepted (x .change) .0;
     accepted = changed-accepted (x .change) .1;
@@ -105,9 +106,9 @@ module _ (K : Shape) (shape : IsShape K) (rec : Record) (links : List ℕ) (B : 
     skipsKept = over-keeps _ _ (B .skips) (length-fill _ (places K)) (long .skips-fit);
   }
 
-  call-tables : AreTables K (networkAfter K rec links o) (o .code) (referencesOf K rec links B o) links B (openCall K rec links B o)
-  unfolding openCall referencesOf referencesBy
-  call-tables = subst (λ (k : ℕ). AreTables K H (o .code) (referencesBy k K rec links B o) links B (openGiven k K rec links B o)) (sym ok) given-tables
+  call-tables : AreTables K (networkAfter K rec links (opens o)) (o .code) (referencesOf K rec links B (opens o)) links B (updateCall K rec links B (opens o))
+  unfolding updateCall referencesOf referencesBy
+  call-tables = subst (λ (k : ℕ). AreTables K H (o .code) (referencesBy k K rec links B (opens o)) links B (updateGiven k K rec links B (opens o))) (sym ok) given-tables
 
-pub open-tables : (K : Shape) → IsShape K → LeavesTables K (openCall K)
+pub open-tables : (K : Shape) → IsShape K → LeavesTables K (updateCall K)
 open-tables K shape = call-tables K shape

@@ -1,6 +1,6 @@
--- Openings. Order of reading:
--- 1. the opening call on lent memory
-pub mod OpenCall
+-- Calls that change a network, and openings. Order of reading:
+-- 1. the call on lent memory, over updates
+pub mod UpdateCall
 -- 2. a map
 pub mod Memory
 -- 3. what a map's memory says of a network, marks and cover
@@ -9,7 +9,7 @@ pub mod Represents
 pub mod Refusals
 -- 5. what an accepted opening leaves in every table
 pub mod Tables
--- 6. demand 2 for openings
+-- 6. demand 2 for updates
 pub mod Demand2
 -- 7. small words for contracts, and the refusal of the lent map alone, which the stream's step cites
 pub mod Steps

@@ -1,11 +1,11 @@
--- WHICH REFUSAL AN OPENING GIVES (rule 8.1), in the published words: demand 1 (rule 11.1) for the opening.
--- `open-refusals` (proofs/Refusals) proves it of `openCall` for every shape.
+-- WHICH REFUSAL A CALL GIVES (rule 8.1), in the published words: demand 1 (rule 11.1) for every update.
+-- `update-refusals` (proofs/Refusals) proves it of `updateCall` for every shape.
 -- Assumes nothing.
 use mathlib.Core.List.{List, _∷_, _++_}
 use Prim.Native.Nat.{ℕ}
 use Rattle.lists.specs.Conditions.{Refuses, IsShort}
-use Rattle.graph.specs.Opening.{Notice}
-use Rattle.graph.specs.Refusals.{noticeConditions}
+use Rattle.graph.specs.Updates.{Update}
+use Rattle.graph.specs.Refusals.{ownConditions}
 use Rattle.rows.specs.Rows.{tableBit}
 use Rattle.map.specs.Memory.{Shape, places, mapNetwork}
 use Rattle.checks.specs.Refusals.{mapConditions}
@@ -14,22 +14,22 @@ use Rattle.rounds.specs.Leaves.{Lent}
 use Rattle.reckon.specs.Refusals.{roundsBuffers}
 use Rattle.outcome.specs.Outcome.{refusalOf}
 use Rattle.outcome.specs.declared.Outcome.the-variants.{Refused}
-use Rattle.opening.specs.OpenCall.{OpenLeft, leftOf}
+use Rattle.opening.specs.UpdateCall.{UpdateLeft, leftOf}
 
--- 1 short, 2 spoilt (links or figures), 3 apart, 5 taken, 6 lonely, 7 unsorted, 8 unknown
-abbrev pub openConditions : Shape → Record → List ℕ → Lent → Notice → List (Type 0 × ℕ)
-openConditions K rec links B o =
+-- 1 short, 2 spoilt (links or figures), 3 apart, then the update's own: of an opening 5 taken, 6 lonely, 7 unsorted, 8 unknown
+abbrev pub updateConditions : Shape → Record → List ℕ → Lent → Update → List (Type 0 × ℕ)
+updateConditions K rec links B o =
     let G = mapNetwork K rec links in
     (IsShort (roundsBuffers K links B), 1)
     ∷ mapConditions (places K) G (rec .number) (tableBit (K .words) (B .pairs)) (rec .chain) (rec .count)
-    ++ noticeConditions G o
+    ++ ownConditions G o
 
--- DEMAND 1 of a program whose opening call is `step`: refused with the first that holds, and then nothing changes
-abbrev pub OpenDemand1 : Shape → (Record → List ℕ → Lent → Notice → OpenLeft) → Type 0
-OpenDemand1 K step =
-    (rec : Record) (links : List ℕ) (B : Lent) (o : Notice)
+-- DEMAND 1 of a program whose update call is `step`: refused with the first that holds, and then nothing changes
+abbrev pub UpdateDemand1 : Shape → (Record → List ℕ → Lent → Update → UpdateLeft) → Type 0
+UpdateDemand1 K step =
+    (rec : Record) (links : List ℕ) (B : Lent) (o : Update)
     → Refuses
-    (openConditions K rec links B o)
+    (updateConditions K rec links B o)
     (refusalOf (step rec links B o .report .outcome))
     (λ k. leftOf (record { outcome = Refused k; searches = 0 }) rec links B)
     (step rec links B o)

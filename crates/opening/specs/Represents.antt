@@ -17,7 +17,7 @@ use Rattle.map.specs.Memory.{Shape, places}
 use Rattle.outcome.specs.declared.Change.{Change}
 use Rattle.outcome.specs.declared.Change.the-variants.{Shrank}
 use Rattle.outcome.specs.declared.Outcome.the-variants.{Accepted, Refused}
-use Rattle.opening.specs.OpenCall.{OpenLeft}
+use Rattle.opening.specs.UpdateCall.{UpdateLeft}
 use Rattle.opening.specs.Memory.{Memory}
 
 -- the map M is that of the network G (rule 9.5)
@@ -30,7 +30,7 @@ pub record Represents (K : Shape) (M : Memory) (G : Network) : Type 0 where
   pub count : M .rec .count ≡ countPairs (range (places K)) (tableBit (K .words) (M .pairs))
 
 -- a call's marks: references are the depots that the rules search from in the call, H the network after it, l what the call left
-pub record IsMarked (K : Shape) (H : Network) (references : List ℕ) (l : OpenLeft) : Type 0 where
+pub record IsMarked (K : Shape) (H : Network) (references : List ℕ) (l : UpdateLeft) : Type 0 where
   pub noneRefused : (k : ℕ) → l .report .outcome ≡ Refused k → l .report .searches ≡ 0
   pub marks : (a : Change) → l .report .outcome ≡ Accepted a → (v : ℕ) → v < places K → (getD (l .lent .skips) v 0 ≡ K .searchedMark) ↔ T (memb v references)
   pub searches : (a : Change) → l .report .outcome ≡ Accepted a → l .report .searches ≡ countb (λ v. eqb (getD (l .lent .skips) v 0) (K .searchedMark)) (range (places K))

@@ -1,5 +1,5 @@
 -- WHAT AN ACCEPTED OPENING LEAVES IN EVERY TABLE (section 6 of the rules), by the published words, on any stored figures that are not refused.
--- `open-tables` (proofs/Tables) proves it of `openCall`. Which places are marked as searched stands in `IsMarked`, what the map means in `Represents`.
+-- `open-tables` (proofs/Tables) proves it of `updateCall`. Which places are marked as searched stands in `IsMarked`, what the map means in `Represents`.
 -- Assumes nothing.
 use mathlib.Core.Path.{_≡_}
 use mathlib.Core.Bool.{not}
@@ -12,6 +12,7 @@ use Rattle.graph.specs.Network.{Network, IsEcc, delivers}
 use Rattle.graph.specs.Distance.{unreached}
 use Rattle.graph.specs.Correct.{IsSkipped}
 use Rattle.graph.specs.Opening.{Notice}
+use Rattle.graph.specs.Updates.{opens}
 use Rattle.map.specs.Memory.{Shape, places, tableWords}
 use Rattle.map.specs.declared.Record.{Record}
 use Rattle.search.specs.SearchCall.{searchLeft}
@@ -22,15 +23,15 @@ use Rattle.rounds.specs.Sizes.{sizesOf}
 use Rattle.outcome.specs.declared.Change.{Change}
 use Rattle.outcome.specs.declared.Change.the-variants.{Shrank}
 use Rattle.outcome.specs.declared.Outcome.the-variants.{Accepted}
-use Rattle.opening.specs.OpenCall.{openRefusal, networkAfter, OpenLeft, referencesOf}
+use Rattle.opening.specs.UpdateCall.{updateRefusal, networkAfter, UpdateLeft, referencesOf, Step}
 
 -- the place of v holds neither a reference nor a bound: 257 and 65,535
-abbrev pub IsBlank : Shape → OpenLeft → ℕ → Type 0
+abbrev pub IsBlank : Shape → UpdateLeft → ℕ → Type 0
 IsBlank K l v = (getD (l .lent .skips) v 0 ≡ K .otherMark) × (getD (l .lent .bounds) v 0 ≡ unreached)
 
 -- An opening of a, lent the link table and the tables B: H is the network after it, references the depots that the rules search from, in order, and l
 -- what the call left.
-pub record AreTables (K : Shape) (H : Network) (a : ℕ) (references links : List ℕ) (B : Lent) (l : OpenLeft) : Type 0 where
+pub record AreTables (K : Shape) (H : Network) (a : ℕ) (references links : List ℕ) (B : Lent) (l : UpdateLeft) : Type 0 where
   -- grew, kept or shrank
   pub change : Change
   pub accepted : l .report .outcome ≡ Accepted change
@@ -52,8 +53,8 @@ pub record AreTables (K : Shape) (H : Network) (a : ℕ) (references links : Lis
   pub boundsKept : KeepsPast (places K) (B .bounds) (l .lent .bounds)
   pub skipsKept : KeepsPast (places K) (B .skips) (l .lent .skips)
 
--- of a program whose opening call is `step`: every call that nothing refuses leaves such tables
-abbrev pub LeavesTables : Shape → (Record → List ℕ → Lent → Notice → OpenLeft) → Type 0
+-- of a program whose update call is `step`: every opening that nothing refuses leaves such tables
+abbrev pub LeavesTables : Shape → Step → Type 0
 LeavesTables K step =
-    (rec : Record) (links : List ℕ) (B : Lent) (o : Notice) → openRefusal K rec links (B .pairs) (sizesOf links B) o ≡ 0 → o .code < places K
-    → AreTables K (networkAfter K rec links o) (o .code) (referencesOf K rec links B o) links B (step rec links B o)
+    (rec : Record) (links : List ℕ) (B : Lent) (o : Notice) → updateRefusal K rec links (B .pairs) (sizesOf links B) (opens o) ≡ 0 → o .code < places K
+    → AreTables K (networkAfter K rec links (opens o)) (o .code) (referencesOf K rec links B (opens o)) links B (step rec links B (opens o))

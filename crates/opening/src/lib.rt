@@ -6,10 +6,11 @@ ghost use lib.Dec.{eqb};
 ghost use lib.ListN.{length};
 ghost use Rattle.lists.specs.Lists.{overwrite};
 ghost use Rattle.rows.specs.Rows.{rowBit, encodeRow};
+ghost use Rattle.graph.specs.Updates.{opens};
 ghost use Rattle.map.specs.Memory.{base};
 ghost use Rattle.rounds.specs.Sizes.{sizes};
 ghost use Rattle.rounds.specs.Slices.{lentBefore, lentAfter, sizesAt};
-ghost use Rattle.opening.specs.OpenCall.{openRefusal, openLeft, openGiven, openCall};
+ghost use Rattle.opening.specs.UpdateCall.{updateRefusal, updateLeft, updateGiven, updateCall};
 ghost use Rattle.opening.specs.Steps.{mapRefusal, noticeOf, refusedWith};
 use map::Record;
 use outcome::Outcome;
@@ -96,12 +97,12 @@ fn open_map(
     neighbours: &[u8],
 ) -> Returned
     requires { let long = sizesAt links pairs hops bounds skips even odd in
-        ⌜ openRefusal base rec (now links) (now pairs) long (noticeOf code (now neighbours)) ≡ 0 ⌝ }
+        ⌜ updateRefusal base rec (now links) (now pairs) long (opens (noticeOf code (now neighbours))) ≡ 0 ⌝ }
     ensures { λ r.
         let before = lentBefore pairs hops bounds skips even odd in
         let after = lentAfter pairs hops bounds skips even odd in
-        let notice = noticeOf code (now (neighbours .entry)) in
-        ⌜ openLeft r (now (links .exit)) after ≡ openGiven 0 base rec (now (links .entry)) before notice ⌝ }
+        let asked = opens (noticeOf code (now (neighbours .entry))) in
+        ⌜ updateLeft r (now (links .exit)) after ≡ updateGiven 0 base rec (now (links .entry)) before asked ⌝ }
 {
     admission::link_depot(links, 4, code, neighbours);
     let mut codes = rec.codes;
@@ -154,8 +155,8 @@ pub fn open_sound(
     ensures { λ r.
         let before = lentBefore pairs hops bounds skips even odd in
         let after = lentAfter pairs hops bounds skips even odd in
-        let notice = noticeOf code (now (neighbours .entry)) in
-        ⌜ openLeft r (now (links .exit)) after ≡ openCall base rec (now (links .entry)) before notice ⌝ }
+        let asked = opens (noticeOf code (now (neighbours .entry))) in
+        ⌜ updateLeft r (now (links .exit)) after ≡ updateCall base rec (now (links .entry)) before asked ⌝ }
 {
     let codes = rec.codes;
     let refusal = admission::notice_refusal(&codes, 4, code, neighbours);
@@ -193,8 +194,8 @@ pub fn open_step(
     ensures { λ r.
         let before = lentBefore pairs hops bounds skips even odd in
         let after = lentAfter pairs hops bounds skips even odd in
-        let notice = noticeOf code (now (neighbours .entry)) in
-        ⌜ openLeft r (now (links .exit)) after ≡ openCall base rec (now (links .entry)) before notice ⌝ }
+        let asked = opens (noticeOf code (now (neighbours .entry))) in
+        ⌜ updateLeft r (now (links .exit)) after ≡ updateCall base rec (now (links .entry)) before asked ⌝ }
 {
     let refusal = map_refusal(
         rec,

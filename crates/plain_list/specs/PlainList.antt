@@ -5,7 +5,7 @@ use Prim.Native.Nat.{ℕ, zero, suc}
 use lib.Dec.{eqb, ltb}
 use Rattle.graph.specs.Network.{Network}
 use Rattle.graph.specs.Chart.{diameter}
-use Rattle.graph.specs.Opening.{Notice, withDepot}
+use Rattle.graph.specs.Updates.{Update, applied}
 use Rattle.outcome.specs.declared.Outcome.{Outcome}
 use Rattle.outcome.specs.declared.Outcome.the-variants.{Accepted, Refused}
 use Rattle.outcome.specs.declared.Change.the-variants.{Grew, Kept, Shrank}
@@ -21,7 +21,7 @@ plainAnswer zero G H = moved (diameter G) (diameter H)
 plainAnswer (suc k) G H = Refused (suc k)
 
 -- the network after the call
-unfoldable pub plainNext : ℕ → Network → Notice → Network
-unfolding withDepot
-plainNext zero G o = withDepot G o
+unfoldable pub plainNext : ℕ → Network → Update → Network
+unfolding applied
+plainNext zero G o = applied G o
 plainNext (suc k) G o = G

@@ -46,7 +46,9 @@ pub struct Sifted {
 // Takes the stale members out of x, whose bit b stands for the pair of u and first + b: those whose way is below chain.
 fn sift(x: u64, hops: &[u16], u: usize, first: usize, chain: u16) -> Sifted
     requires { ⌜ (u < length (now hops)) × (first + 64 ≤ length (now hops)) ⌝ }
-    ensures { λ r. ⌜ (r .word ≡ wordOf 64 (stayingBit (wayBy (now (hops .entry))) chain u first x)) × (r .way ≡ greatestBit (wayBy (now (hops .entry))) chain u first x) ⌝ }
+    ensures { λ r.
+        let way = wayBy (now (hops .entry)) in
+        ⌜ (r .word ≡ wordOf 64 (stayingBit way chain u first x)) × (r .way ≡ greatestBit way chain u first x) ⌝ }
 {
     let mut word = x;
     let mut way: u16 = 0;

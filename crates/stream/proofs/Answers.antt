@@ -19,11 +19,12 @@ use Rattle.notice.specs.declared.Reading.the-variants.{Frame, Refused as NoRead
 use Rattle.notice.proofs.Tests.{frame-parts}
 use Rattle.lists.proofs.Scans.{all-at}
 use Rattle.notice.proofs.Theorems.{read-frame}
-use Rattle.opening.specs.OpenCall.{OpenLeft, openLeft, openCall}
+use Rattle.opening.specs.UpdateCall.{UpdateLeft, updateLeft, updateCall}
 use Rattle.opening.specs.Steps.{noticeOf, refusedWith}
 use Rattle.opening.specs.declared.Returned.{Returned}
-use Rattle.transcript.specs.Transcript.{noticeIn}
+use Rattle.transcript.specs.Transcript.{updateIn}
 use Rattle.stream.specs.Feeding.{answerTo}
+use Rattle.graph.specs.Updates.{opens}
 
 -- the reader on a frame buffer that is long enough
 read-into : (text buffer : List ℕ) → frameLimit ≤ length buffer → readCall text buffer ≡ readInto (readLine text) buffer
@@ -86,12 +87,12 @@ garbled-read text buffer {r} {n} {after} k g e = go (readLine text) refl (sym (a
 
 -- ---- the answers
 
-pub answered-frame : (text : List ℕ) (rec : Record) (links : List ℕ) (B : Lent) (f : List ℕ) (v : ℕ) {n : ℕ} {after : List ℕ} {x : OpenLeft} → readLine text ≡ frame f v → FrameStands f n after
-    → x ≡ openCall base rec links B (noticeOf (getD after 1 0) (take (n - 3) (drop 3 after))) → x ≡ answerTo (readLine text) rec links B
-unfolding answerTo noticeIn
+pub answered-frame : (text : List ℕ) (rec : Record) (links : List ℕ) (B : Lent) (f : List ℕ) (v : ℕ) {n : ℕ} {after : List ℕ} {x : UpdateLeft} → readLine text ≡ frame f v → FrameStands f n after
+    → x ≡ updateCall base rec links B (opens (noticeOf (getD after 1 0) (take (n - 3) (drop 3 after)))) → x ≡ answerTo (readLine text) rec links B
+unfolding answerTo updateIn
 answered-frame text rec links B f v q s e = rw (q, ← s .code, ← s .neighbours) e
 
 pub answered-garbled : (text : List ℕ) (rec : Record) (links : List ℕ) (B : Lent) {n : ℕ} {r : Returned} → (readLine text ≡ garbled) × (n ≡ garbledLine) → r ≡ refusedWith n rec
-    → openLeft r links B ≡ answerTo (readLine text) rec links B
+    → updateLeft r links B ≡ answerTo (readLine text) rec links B
 unfolding answerTo
 answered-garbled text rec links B q e = rw (q .0, e, q .1)

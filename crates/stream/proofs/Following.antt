@@ -3,7 +3,7 @@
 use mathlib.Core.Path.{_≡_, refl, sym, ap, ap₂, _∙_, subst}
 use mathlib.Core.Bool.{Bool, true, not}
 use mathlib.Core.List.{List, _∷_}
-use Prim.Native.Nat.{ℕ, zero, suc, _<_}
+use Prim.Native.Nat.{ℕ, zero, suc}
 use native.Mathlib.Omega.{arith}
 use lib.ListN.{getD}
 use borrow.Author.Tests.{ltb-true}
@@ -13,7 +13,8 @@ use Rattle.lists.proofs.Counts.{count-filter, count-none, sum-filter, sum-ext}
 use Rattle.graph.specs.Network.{Network}
 use Rattle.graph.specs.Distance.{vertices}
 use Rattle.graph.specs.Chart.{diameter, farthest, countPairs}
-use Rattle.graph.specs.Opening.{Notice, emptyNetwork, withDepot, openFaults}
+use Rattle.graph.specs.Opening.{emptyNetwork}
+use Rattle.graph.specs.Updates.{Update, updateFaults, applied}
 use Rattle.graph.proofs.Theorems.{farthest-is}
 use Rattle.map.specs.Memory.{base, places, tableWords}
 use Rattle.map.specs.Empty.{zeros, emptyRecord}
@@ -25,7 +26,7 @@ use Rattle.notice.specs.Lines.{Line, garbled, frame, readLine}
 use Rattle.notice.proofs.Tests.{frame-parts}
 use Rattle.lists.proofs.Scans.{all-at}
 use Rattle.notice.proofs.Theorems.{read-frame}
-use Rattle.opening.specs.OpenCall.{openRefusal, networkAfter, openedBy, OpenLeft, openGiven, openCall}
+use Rattle.opening.specs.UpdateCall.{updateRefusal, networkAfter, updatedBy, UpdateLeft, updateGiven, updateCall}
 use Rattle.opening.specs.Steps.{mapRefusal}
 use Rattle.plain_list.specs.PlainList.{moved, plainAnswer, plainNext}
 use Rattle.opening.specs.Memory.{Memory, emptyMemory}
@@ -35,11 +36,12 @@ use Rattle.opening.proofs.Openings.{given-searches, opened-moved, opened-writes
 use Rattle.opening.proofs.Refuses.{refused-never}
 use Rattle.opening.proofs.Keeps.{sizes-kept}
 use Rattle.opening.proofs.Empties.{empty-held, empty-memory}
-use Rattle.transcript.specs.Transcript.{noticeIn, Followed, searchesBy, followBy, followLine, reportOn}
+use Rattle.transcript.specs.Transcript.{updateIn, Followed, searchesBy, followBy, followLine, reportOn}
 use Rattle.line_buffer.specs.Lines.{reportOf}
 use Rattle.stream.specs.Feeding.{answerTo}
 use Rattle.map.proofs.Theorems.{base-shape}
 use Rattle.graph.proofs.Delivers.{delivers-open}
+use Rattle.opening.specs.UpdateCall.{IsWithin}
 
 -- ---- the number of farthest pairs is that of pairs of open depots
 
@@ -79,31 +81,31 @@ module _ (G : Network) (held : IsHeld base G) (rec : Record) (links : List ℕ) 
 
   -- ---- an opening
 
-  module _ (o : Notice) (low : o .code < places base) where
-    refusal-is : openRefusal base rec links (B .pairs) (sizesOf links B) o ≡ firstOf (openFaults G o)
+  module _ (o : Update) (low : IsWithin base o) where
+    refusal-is : updateRefusal base rec links (B .pairs) (sizesOf links B) o ≡ firstOf (updateFaults G o)
     unfolding firstOf
     refusal-is =
         refused-alike base base-shape G held (diameter G) (farthest G) (figures-are-sound base base-shape G held) rec links (B .pairs) (sizesOf links B) o (λ l. says)
-        ∙ ap (λ (b : Bool). firstOf ((not b, 1) ∷ openFaults G o)) long
+        ∙ ap (λ (b : Bool). firstOf ((not b, 1) ∷ updateFaults G o)) long
 
     -- what the opening with refusal k leaves, against the network's line
-    pub record IsOpening (x : OpenLeft) (y : Followed) : Type 0 where
+    pub record IsOpening (x : UpdateLeft) (y : Followed) : Type 0 where
       pub outcome : x .report .outcome ≡ y .outcome
       pub searches : x .report .searches ≡ y .searches
       pub isHeld : IsHeld base (y .network)
       pub isSaid : Says base (y .network) (x .after) (x .links) (x .lent .pairs)
 
-    module _ (ok : openRefusal base rec links (B .pairs) (sizesOf links B) o ≡ 0) where
-      next-is : networkAfter base rec links o ≡ withDepot G o
-      next-is = after-is base rec links o ∙ ap (λ (N : Network). withDepot N o) (says .network)
+    module _ (ok : updateRefusal base rec links (B .pairs) (sizesOf links B) o ≡ 0) where
+      next-is : networkAfter base rec links o ≡ applied G o
+      next-is = after-is base rec links o ∙ ap (λ (N : Network). applied N o) (says .network)
 
-      searches-are : openGiven zero base rec links B o .report .searches ≡ searchesBy zero G (withDepot G o) o
-      unfolding searchesBy openedBy
+      searches-are : updateGiven zero base rec links B o .report .searches ≡ searchesBy zero G (applied G o) o
+      unfolding searchesBy updatedBy
       searches-are =
           given-searches base rec links B o
           ∙ rw (next-is, says .chain, says .pairs)
 
-      accepted : IsOpening (openGiven zero base rec links B o) (followBy zero G o)
+      accepted : IsOpening (updateGiven zero base rec links B o) (followBy zero G o)
       unfolding followBy plainAnswer plainNext
       accepted =
           let now = held-after base base-shape rec links (B .pairs) (sizesOf links B) o ok low in
@@ -114,23 +116,23 @@ module _ (G : Network) (held : IsHeld base G) (rec : Record) (links : List ℕ) 
                 ∙ ap₂ (λ (D : ℕ) (N : Network). moved D (diameter N)) (says .chain) next-is;
             searches = searches-are;
             isHeld = subst (IsHeld base) next-is now;
-            isSaid = subst (λ (N : Network). Says base N (openGiven zero base rec links B o .after) (openGiven zero base rec links B o .links) (openGiven zero base rec links B o .lent .pairs)) next-is
+            isSaid = subst (λ (N : Network). Says base N (updateGiven zero base rec links B o .after) (updateGiven zero base rec links B o .links) (updateGiven zero base rec links B o .lent .pairs)) next-is
                 (subst (λ (A : Memory). Says base (networkAfter base rec links o) (A .rec) (A .links) (A .pairs))
                 (sym (opened-writes base base-shape rec links B o ok low (says-true base G held rec links (B .pairs) says)))
                 (written-says base (networkAfter base rec links o) now M));
           }
 
-    refused : (k : ℕ) → IsOpening (openGiven (suc k) base rec links B o) (followBy (suc k) G o)
-    unfolding followBy plainAnswer plainNext searchesBy openGiven
+    refused : (k : ℕ) → IsOpening (updateGiven (suc k) base rec links B o) (followBy (suc k) G o)
+    unfolding followBy plainAnswer plainNext searchesBy updateGiven
     refused k = record { outcome = refl; searches = refl; isHeld = held; isSaid = says }
 
-    opening-by : (k : ℕ) → openRefusal base rec links (B .pairs) (sizesOf links B) o ≡ k → IsOpening (openGiven k base rec links B o) (followBy k G o)
+    opening-by : (k : ℕ) → updateRefusal base rec links (B .pairs) (sizesOf links B) o ≡ k → IsOpening (updateGiven k base rec links B o) (followBy k G o)
     opening-by zero ok = accepted ok
     opening-by (suc k) ko = refused k
 
-    opening-is : IsOpening (openCall base rec links B o) (followBy (firstOf (openFaults G o)) G o)
-    unfolding openCall
-    opening-is = subst (λ (k : ℕ). IsOpening (openGiven k base rec links B o) (followBy (firstOf (openFaults G o)) G o)) (sym refusal-is) (opening-by (firstOf (openFaults G o)) refusal-is)
+    opening-is : IsOpening (updateCall base rec links B o) (followBy (firstOf (updateFaults G o)) G o)
+    unfolding updateCall
+    opening-is = subst (λ (k : ℕ). IsOpening (updateGiven k base rec links B o) (followBy (firstOf (updateFaults G o)) G o)) (sym refusal-is) (opening-by (firstOf (updateFaults G o)) refusal-is)
 
   -- ---- a line
 
@@ -141,7 +143,7 @@ module _ (G : Network) (held : IsHeld base G) (rec : Record) (links : List ℕ) 
     pub isSaid : Says base (followLine G l .network) (answerTo l rec links B .after) (answerTo l rec links B .links) (answerTo l rec links B .lent .pairs)
     pub sizes : sizesOf (answerTo l rec links B .links) (answerTo l rec links B .lent) ≡ sizesOf links B
 
-  report-is : (n : ℕ) (x : OpenLeft) (y : Followed) → x .report .outcome ≡ y .outcome → x .report .searches ≡ y .searches → IsHeld base (y .network) → Says base (y .network) (x .after) (x .links) (x .lent .pairs)
+  report-is : (n : ℕ) (x : UpdateLeft) (y : Followed) → x .report .outcome ≡ y .outcome → x .report .searches ≡ y .searches → IsHeld base (y .network) → Says base (y .network) (x .after) (x .links) (x .lent .pairs)
       → reportOf n (record { report = x .report; after = x .after }) ≡ reportOn n y
   unfolding reportOn
   report-is n x y p q h s = λ i. record {
@@ -162,19 +164,19 @@ module _ (G : Network) (held : IsHeld base G) (rec : Record) (links : List ℕ) 
     sizes = refl;
   }
 
-  frame-line : (f : List ℕ) (u : ℕ) → noticeIn f .code < places base → IsLine (frame f u)
+  frame-line : (f : List ℕ) (u : ℕ) → IsWithin base (updateIn f) → IsLine (frame f u)
   unfolding answerTo followLine
   frame-line f u low =
-      let x = opening-is (noticeIn f) low in
+      let x = opening-is (updateIn f) low in
       record {
         report = λ n. report-is n (answerTo (frame f u) rec links B) (followLine G (frame f u)) (x .outcome) (x .searches) (x .isHeld) (x .isSaid);
         isHeld = x .isHeld;
         isSaid = x .isSaid;
-        sizes = sizes-kept base base-shape rec links B (noticeIn f);
+        sizes = sizes-kept base base-shape rec links B (updateIn f);
       }
 
   pub line-is : (text : List ℕ) (l : Line) → readLine text ≡ l → IsLine l
-  unfolding noticeIn isByte
+  unfolding updateIn isByte
   line-is text garbled e = garbled-line
   line-is text (frame f u) e =
       let p = read-frame text f u e in

@@ -10,7 +10,7 @@ use Rattle.lists.proofs.Tests.{or-right}
 use Rattle.rounds.specs.Leaves.{Lent}
 use Rattle.notice.specs.Lines.{readLine}
 use Rattle.report.specs.Line.{reportLine}
-use Rattle.opening.specs.OpenCall.{openLeft}
+use Rattle.opening.specs.UpdateCall.{updateLeft}
 use Rattle.opening.specs.declared.Returned.{Returned}
 use Rattle.line_buffer.specs.Lines.{reportOf, pasted}
 use Rattle.stream.specs.Feeding.{answerTo, Feeding, feeding, progressOf, fedOf, stopped, tookLine, finishCall}
@@ -18,7 +18,7 @@ use Rattle.stream.specs.declared.Progress.{Progress}
 
 -- the answer to the held bytes, and its report behind what was written
 pub took : (F : Feeding) {got : Returned} {links : List ℕ} {B : Lent} {out : List ℕ} {end : ℕ}
-    → openLeft got links B ≡ answerTo (readLine (take (F .fed .progress .held) (F .line))) (F .fed .progress .rec) (F .links) (F .lent)
+    → updateLeft got links B ≡ answerTo (readLine (take (F .fed .progress .held) (F .line))) (F .fed .progress .rec) (F .links) (F .lent)
     → (out ≡ pasted (reportLine (reportOf (F .fed .progress .lines + 1) got)) (F .fed .written) (F .out)) × (end ≡ F .fed .written + length (reportLine (reportOf (F .fed .progress .lines + 1) got)))
     → feeding (fedOf (progressOf (got .after) (F .fed .progress .lines + 1) 0) (F .fed .used) end) links B (F .line) out ≡ tookLine F
 unfolding tookLine

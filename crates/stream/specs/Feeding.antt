@@ -13,11 +13,11 @@ use Rattle.map.specs.declared.Record.{Record}
 use Rattle.rounds.specs.Leaves.{Lent}
 use Rattle.rounds.specs.Sizes.{sizesOf}
 use Rattle.outcome.specs.Numbers.{garbledLine}
-use Rattle.opening.specs.OpenCall.{OpenLeft, leftOf, openCall}
+use Rattle.opening.specs.UpdateCall.{UpdateLeft, leftOf, updateCall}
 use Rattle.opening.specs.Steps.{mapRefusal, refusedWith}
 use Rattle.notice.specs.Lines.{lineLimit, lineEnd, Line, garbled, frame, readLine}
 use Rattle.report.specs.Line.{reportLine}
-use Rattle.transcript.specs.Transcript.{noticeIn}
+use Rattle.transcript.specs.Transcript.{updateIn}
 use Rattle.line_buffer.specs.Lines.{holding, holdByte, reportOf, pasted, isStopped}
 use Rattle.stream.specs.declared.Progress.{Progress}
 use Rattle.stream.specs.declared.Fed.{Fed}
@@ -49,9 +49,9 @@ pub record IsReady (p : Progress) (links : List ℕ) (B : Lent) (line : List ℕ
 -- ---- a line's answer
 
 -- the reader's refusal, or the opening call of the frame
-unfoldable pub answerTo : Line → Record → List ℕ → Lent → OpenLeft
+unfoldable pub answerTo : Line → Record → List ℕ → Lent → UpdateLeft
 answerTo garbled rec links B = let x = refusedWith garbledLine rec in leftOf (x .report) (x .after) links B
-answerTo (frame f used) rec links B = openCall base rec links B (noticeIn f)
+answerTo (frame f used) rec links B = updateCall base rec links B (updateIn f)
 
 -- ---- the step
 

@@ -6,7 +6,7 @@ ghost use Rattle.map.specs.Memory.{base, tableWords};
 ghost use Rattle.rounds.specs.Slices.{lentAt, lentBefore, lentAfter, sizesAt};
 ghost use Rattle.notice.specs.Lines.{readLine};
 ghost use Rattle.report.specs.Line.{bufferLimit};
-ghost use Rattle.opening.specs.OpenCall.{openLeft};
+ghost use Rattle.opening.specs.UpdateCall.{updateLeft};
 ghost use Rattle.opening.specs.Steps.{mapRefusal, refusedWith};
 ghost use Rattle.transcript.specs.Transcript.{linesLimit};
 ghost use Rattle.stream.specs.Feeding.{streamBegun, beginCall, answerTo, IsReady, feeding, tookLine, feedCall, finishCall};
@@ -80,7 +80,7 @@ fn answer_line(
     ensures { λ r.
         let before = lentBefore pairs hops bounds skips even odd in
         let after = lentAfter pairs hops bounds skips even odd in
-        ⌜ openLeft r (now (links .exit)) after ≡ answerTo (readLine (now (text .entry))) rec (now (links .entry)) before ⌝ }
+        ⌜ updateLeft r (now (links .exit)) after ≡ answerTo (readLine (now (text .entry))) rec (now (links .entry)) before ⌝ }
 {
     let mut frame = [0u8; 258];
     let got = notice::read_notice(text, &mut frame);

@@ -10,7 +10,8 @@ use Rattle.lists.specs.Lists.{firstOf}
 use Rattle.graph.specs.Network.{Network}
 use Rattle.graph.specs.Distance.{vertices}
 use Rattle.graph.specs.Chart.{chart, diameter, farthest, countPairs}
-use Rattle.graph.specs.Opening.{Notice, emptyNetwork, openFaults, opening}
+use Rattle.graph.specs.Opening.{emptyNetwork}
+use Rattle.graph.specs.Updates.{Update, opens, updateFaults, steps}
 use Rattle.outcome.specs.Numbers.{garbledLine}
 use Rattle.outcome.specs.declared.Outcome.{Outcome}
 use Rattle.outcome.specs.declared.Outcome.the-variants.{Refused}
@@ -38,9 +39,9 @@ linesOf (b ∷ bs) = let ls = linesOf bs in cond (eqb b lineEnd) ((b ∷ []) ∷
 
 -- ---- a line's answer
 
--- the notice in a frame: kind, code, count, neighbours
-unfoldable pub noticeIn : List ℕ → Notice
-noticeIn f = record { code = getD f 1 0; neighbours = drop 3 f }
+-- the update that a frame asks for: kind, code, count, neighbours
+unfoldable pub updateIn : List ℕ → Update
+updateIn f = opens (record { code = getD f 1 0; neighbours = drop 3 f })
 
 -- what a line gives: its outcome, the network after it, and the searches of its call
 pub record Followed : Type 0 where
@@ -48,22 +49,22 @@ pub record Followed : Type 0 where
   pub network : Network
   pub searches : ℕ
 
--- the searches of an opening that is not refused are those of section 4's steps, on the true figures of the network before it
-unfoldable pub searchesBy : ℕ → Network → Network → Notice → ℕ
-unfolding chart diameter farthest opening
-searchesBy zero G H o = length (opening (chart H) (o .code) (diameter G) (farthest G) .final .references)
+-- the searches of an update that is not refused are those of its steps, on the true figures of the network before it
+unfoldable pub searchesBy : ℕ → Network → Network → Update → ℕ
+unfolding chart diameter farthest steps
+searchesBy zero G H o = length (steps (chart H) o (diameter G) (farthest G) .final .references)
 searchesBy (suc k) G H o = 0
 
--- an opening whose refusal is k, 0 for none: the plain list's answer
-unfoldable pub followBy : ℕ → Network → Notice → Followed
+-- an update whose refusal is k, 0 for none: the plain list's answer
+unfoldable pub followBy : ℕ → Network → Update → Followed
 unfolding plainNext plainAnswer searchesBy
 followBy k G o = let H = plainNext k G o in record { outcome = plainAnswer k G H; network = H; searches = searchesBy k G H o }
 
 -- a line as the reader takes it: to the reader a blank line, an overlong one and a last stretch without 0A are garbled (rule 10.3)
 unfoldable pub followLine : Network → Line → Followed
-unfolding noticeIn followBy firstOf openFaults
+unfolding updateIn followBy firstOf updateFaults
 followLine G garbled = record { outcome = Refused garbledLine; network = G; searches = 0 }
-followLine G (frame f used) = let o = noticeIn f in followBy (firstOf (openFaults G o)) G o
+followLine G (frame f used) = let o = updateIn f in followBy (firstOf (updateFaults G o)) G o
 
 -- ---- the output
 

@@ -7,47 +7,48 @@ use native.Mathlib.Omega.{arith}
 use lib.ListN.{length, length-take}
 use borrow.Author.Tests.{le-ltb}
 use Rattle.lists.proofs.Fills.{overwrite-length}
-use Rattle.graph.specs.Opening.{Notice, Change, grew, kept, shrank}
+use Rattle.graph.specs.Opening.{Change, grew, kept, shrank}
 use Rattle.rows.specs.Rows.{encodeRow}
 use Rattle.rows.proofs.Written.{encode-row-length}
 use Rattle.map.specs.Memory.{base}
 use Rattle.rounds.specs.Leaves.{Lent}
 use Rattle.rounds.specs.Sizes.{sizesOf}
-use Rattle.opening.specs.OpenCall.{changeOf, openRefusal, networkAfter, openedBy, OpenLeft, openGiven, openCall}
+use Rattle.opening.specs.UpdateCall.{changeOf, updateRefusal, networkAfter, updatedBy, UpdateLeft, updateGiven, updateCall}
 use Rattle.c_values.specs.Words.{recordWords, recordOf}
 use Rattle.c_values.proofs.Theorems.{words-read}
 use Rattle.zorpedi.specs.Outs.{OpenOut, openFrom, openOut}
+use Rattle.graph.specs.Updates.{Update}
 
 -- ---- the opening
 
 -- the words hold the record that the call leaves, and the tables are its tables
-abbrev Holds : OpenOut → OpenLeft → Type 0
+abbrev Holds : OpenOut → UpdateLeft → Type 0
 Holds y x = (recordOf (y .words) ≡ x .after) × (y .links ≡ x .links) × (y .lent ≡ x .lent)
 
-holds-accepted : (x : OpenLeft) (l : List ℕ) (old : ℕ) (c : Change) → length (x .after .codes) ≡ 4 → Holds (openFrom (changeOf c) x l old) x
+holds-accepted : (x : UpdateLeft) (l : List ℕ) (old : ℕ) (c : Change) → length (x .after .codes) ≡ 4 → Holds (openFrom (changeOf c) x l old) x
 unfolding openFrom changeOf
 holds-accepted x l old grew e = (words-read (x .after) l e, refl, refl)
 holds-accepted x l old kept e = (words-read (x .after) l e, refl, refl)
 holds-accepted x l old shrank e = (words-read (x .after) l e, refl, refl)
 
-module _ (l links : List ℕ) (B : Lent) (o : Notice) (old : ℕ) (h : recordWords ≤ length l) where
+module _ (l links : List ℕ) (B : Lent) (o : Update) (old : ℕ) (h : recordWords ≤ length l) where
   codes-four : length (recordOf l .codes) ≡ 4
   unfolding recordOf
   codes-four = length-take 4 l ∙ omega (arith, h)
 
-  refused : (k : ℕ) → let x = openGiven (suc k) base (recordOf l) links B o in Holds (openFrom (x .report .outcome) x l old) x
-  unfolding openGiven openFrom
+  refused : (k : ℕ) → let x = updateGiven (suc k) base (recordOf l) links B o in Holds (openFrom (x .report .outcome) x l old) x
+  unfolding updateGiven openFrom
   refused k = (refl, refl, refl)
 
-  holds-given : (k : ℕ) → let x = openGiven k base (recordOf l) links B o in Holds (openFrom (x .report .outcome) x l old) x
-  unfolding openGiven
+  holds-given : (k : ℕ) → let x = updateGiven k base (recordOf l) links B o in Holds (openFrom (x .report .outcome) x l old) x
+  unfolding updateGiven
   holds-given zero =
       let row = encodeRow 4 (networkAfter base (recordOf l) links o .isOpen) in
-      holds-accepted (openGiven 0 base (recordOf l) links B o) l old (openedBy base (recordOf l) links (B .pairs) o .change)
+      holds-accepted (updateGiven 0 base (recordOf l) links B o) l old (updatedBy base (recordOf l) links (B .pairs) o .change)
       (overwrite-length row (recordOf l .codes) (omega (arith, encode-row-length 4 (networkAfter base (recordOf l) links o .isOpen), codes-four)) ∙ codes-four)
   holds-given (suc k) = refused k
 
-  -- ON A RECORD OF SEVEN WORDS the call leaves what `openCall` leaves, accepted or refused: a list of these calls is a list of those
-  pub opened-words : Holds (openOut l links B o old) (openCall base (recordOf l) links B o)
-  unfolding openCall openOut
-  opened-words = rw (le-ltb (length l) recordWords h) (holds-given (openRefusal base (recordOf l) links (B .pairs) (sizesOf links B) o))
+  -- ON A RECORD OF SEVEN WORDS the call leaves what `updateCall` leaves, accepted or refused: a list of these calls is a list of those
+  pub opened-words : Holds (openOut l links B o old) (updateCall base (recordOf l) links B o)
+  unfolding updateCall openOut
+  opened-words = rw (le-ltb (length l) recordWords h) (holds-given (updateRefusal base (recordOf l) links (B .pairs) (sizesOf links B) o))

@@ -6,7 +6,7 @@ use Prim.Native.Nat.{ℕ}
 use lib.Dec.{ltb}
 use lib.ListN.{length}
 use Rattle.lists.specs.Lists.{overwrite}
-use Rattle.graph.specs.Opening.{Notice}
+use Rattle.graph.specs.Updates.{Update}
 use Rattle.layers.specs.Layers.{Tables}
 use Rattle.map.specs.Memory.{base}
 use Rattle.map.specs.Empty.{EmptyLeft, emptyCall}
@@ -23,7 +23,7 @@ use Rattle.outcome.specs.Numbers.{shortBuffer}
 use Rattle.outcome.specs.Outcome.{letterOf}
 use Rattle.outcome.specs.declared.Outcome.{Outcome}
 use Rattle.outcome.specs.declared.Outcome.the-variants.{Accepted, Refused}
-use Rattle.opening.specs.OpenCall.{OpenLeft, openCall}
+use Rattle.opening.specs.UpdateCall.{UpdateLeft, updateCall}
 use Rattle.c_values.specs.Words.{recordWords, recordOf, wordsOf}
 
 -- ---- emptying
@@ -100,11 +100,11 @@ abbrev pub openedOut : ℕ → List ℕ → ℕ → List ℕ → Lent → OpenOu
 openedOut a words n links B = record { answer = a; words = words; searches = n; links = links; lent = B }
 
 -- the number for each case of the outcome: the letter of an accepted opening (71 G, 75 K, 83 S), or the refusal's number
-unfoldable pub openFrom : Outcome → OpenLeft → List ℕ → ℕ → OpenOut
+unfoldable pub openFrom : Outcome → UpdateLeft → List ℕ → ℕ → OpenOut
 openFrom (Accepted c) x words old = openedOut (letterOf (Accepted c)) (overwrite (wordsOf (x .after)) words) (x .report .searches) (x .links) (x .lent)
 openFrom (Refused k) x words old = openedOut k words old (x .links) (x .lent)
 
-unfoldable pub openOut : List ℕ → List ℕ → Lent → Notice → ℕ → OpenOut
+unfoldable pub openOut : List ℕ → List ℕ → Lent → Update → ℕ → OpenOut
 openOut words links B o old =
-    let x = openCall base (recordOf words) links B o in
+    let x = updateCall base (recordOf words) links B o in
     cond (ltb (length words) recordWords) (openedOut shortBuffer words old links B) (openFrom (x .report .outcome) x words old)

@@ -2,6 +2,7 @@
 ghost use mathlib.Core.Path.{_≡_};
 ghost use Rattle.layers.specs.Slices.{tablesBefore, tablesAfter};
 ghost use Rattle.rounds.specs.Slices.{lentBefore, lentAfter};
+ghost use Rattle.graph.specs.Updates.{opens};
 ghost use Rattle.opening.specs.Steps.{noticeOf};
 ghost use Rattle.zorpedi.specs.Outs.{emptyOut, emptiedOut, searchOut, searchedOut, reckonOut, reckonedOut, openOut, openedOut};
 use map::Emptying;
@@ -117,9 +118,9 @@ pub extern "C" fn zorpedi_open(
     ensures { λ r.
         let before = lentBefore pairs hops bounds skips even odd in
         let after = lentAfter pairs hops bounds skips even odd in
-        let notice = noticeOf code (now (neighbours .entry)) in
+        let asked = opens (noticeOf code (now (neighbours .entry))) in
         ⌜ openedOut r (now (words .exit)) (now (searches .exit)) (now (links .exit)) after
-        ≡ openOut (now (words .entry)) (now (links .entry)) before notice (now (searches .entry)) ⌝ }
+        ≡ openOut (now (words .entry)) (now (links .entry)) before asked (now (searches .entry)) ⌝ }
 {
     if words.len() < 7 {
         return 1;

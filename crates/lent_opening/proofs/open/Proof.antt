@@ -47,10 +47,11 @@ use denote.Triple.Walked.{goes-gave-slice, Walks, ends-at, walked, walk-meets}
 use denote.Signature.{plain, typesAt}
 use Rattle.map.specs.declared.Record.{Record}
 use Rattle.opening.specs.declared.Returned.{Returned}
+use Rattle.graph.specs.Updates.{opens as opensDepot}
 use Rattle.layers.specs.Layers.{tables}
 use Rattle.map.specs.Memory.{base as baseShape}
 use Rattle.rounds.specs.Leaves.{lent}
-use Rattle.opening.specs.OpenCall.{openLeft, openCall}
+use Rattle.opening.specs.UpdateCall.{updateLeft, updateCall}
 use Rattle.opening.specs.Steps.{noticeOf}
 use Rattle.lent_opening.proofs.Records.{R, vals, report-val}
 use Rattle.map.proofs.Record as RT
@@ -152,9 +153,9 @@ module _ {M : Type 1} (𝓤 : URA M) (H : Heap 𝓤) (A : Atoms 𝓤) (W : Given
 
   abbrev Fact : Returned → Ends → Type 0
   Fact r zs =
-      openLeft r (zs .0) (lent (zs .1 .0) (tables (zs .1 .1 .0) (zs .1 .1 .1 .1 .1 .0) (zs .1 .1 .1 .1 .1 .1 .0)) (zs .1 .1 .1 .0)
-      (zs .1 .1 .1 .1 .0)) ≡ openCall baseShape h (links .now)
-      (lent (pairs .now) (tables (hops .now) (even .now) (odd .now)) (bounds .now) (skips .now)) (noticeOf code (neighbours .now))
+      updateLeft r (zs .0) (lent (zs .1 .0) (tables (zs .1 .1 .0) (zs .1 .1 .1 .1 .1 .0) (zs .1 .1 .1 .1 .1 .1 .0)) (zs .1 .1 .1 .0)
+      (zs .1 .1 .1 .1 .0)) ≡ updateCall baseShape h (links .now)
+      (lent (pairs .now) (tables (hops .now) (even .now) (odd .now)) (bounds .now) (skips .now)) (opensDepot (noticeOf code (neighbours .now)))
 
   abbrev at-end : Returned → Ends → List (Item 𝓤)
   at-end r zs =

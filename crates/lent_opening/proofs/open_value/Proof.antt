@@ -48,10 +48,11 @@ use denote.Triple.Walked.{goes-gave-slice, Walks, ends-at, walked, walk-meets}
 use denote.Signature.{plain, typesAt}
 use Rattle.map.specs.declared.Record.{Record}
 use Rattle.opening.specs.declared.Report.{Report}
+use Rattle.graph.specs.Updates.{opens as opensDepot}
 use Rattle.layers.specs.Layers.{tables}
 use Rattle.map.specs.Memory.{base as baseShape}
 use Rattle.rounds.specs.Leaves.{lent}
-use Rattle.opening.specs.OpenCall.{leftOf, openCall}
+use Rattle.opening.specs.UpdateCall.{leftOf, updateCall}
 use Rattle.opening.specs.Steps.{noticeOf}
 use Rattle.lent_opening.proofs.Records.{R, rec-val, vals, report-val, opened, opened-val, lie, unlie}
 use Rattle.map.proofs.Record as RT
@@ -158,8 +159,8 @@ module _ {M : Type 1} (𝓤 : URA M) (H : Heap 𝓤) (A : Atoms 𝓤) (W : Given
   abbrev Fact : Report → Record → Ends → Type 0
   Fact r h′ zs =
       leftOf r h′ (zs .0) (lent (zs .1 .0) (tables (zs .1 .1 .0) (zs .1 .1 .1 .1 .1 .0) (zs .1 .1 .1 .1 .1 .1 .0)) (zs .1 .1 .1 .0)
-      (zs .1 .1 .1 .1 .0)) ≡ openCall baseShape h (links .now)
-      (lent (pairs .now) (tables (hops .now) (even .now) (odd .now)) (bounds .now) (skips .now)) (noticeOf code (neighbours .now))
+      (zs .1 .1 .1 .1 .0)) ≡ updateCall baseShape h (links .now)
+      (lent (pairs .now) (tables (hops .now) (even .now) (odd .now)) (bounds .now) (skips .now)) (opensDepot (noticeOf code (neighbours .now)))
 
   abbrev at-end : Ends → List (Item 𝓤)
   at-end zs =
