@@ -52,3 +52,15 @@ module _ (r : ReportFields) (out : List ℕ) (at : ℕ) (k : at + bufferLimit �
     report-fits q same =
         let z = ap (λ (x : ReportLeft). length (x .buffer)) written in
         omega (arith, report-length q, same, z, length-append (reportLine r) (drop (length (reportLine r)) (drop at out)), length-drop at out, length-take (length out - at) (drop at out))
+
+    -- the ending of a line that was written
+    pub report-put : {n : ℕ} → w ≡ Line n → length part ≡ length (take (length out - at) (drop at out))
+        → (take at out ++ (part ++ drop (length out - at) (drop at out)) ≡ pasted (reportLine r) at out)
+        × (at + n ≡ at + length (reportLine r))
+        × (at + n ≤ length (take at out ++ (part ++ drop (length out - at) (drop at out))))
+    report-put {n} q same =
+        let back = ap length (part-back out part at) in (
+          report-placed,
+          ap (λ (m : ℕ). at + m) (report-length q),
+          omega (arith, report-fits q same, back, length-append (take at out) part, length-take at out, length-take (length out - at) (drop at out), length-drop at out),
+        )

@@ -268,3 +268,14 @@ module _ (piece : List ℕ) (F₀ F : Feeding) (turn : AtTurn piece F₀ F) wher
       free = took-free (withPart Q F) part-free;
       held = subst (λ (n : ℕ). n ≤ lineLimit) (sym (took-held (withPart Q F))) zero-le;
     }
+
+-- ---- the endings of the call
+
+module _ (p : Progress) (links : List ℕ) (B : Lent) (line out piece : List ℕ) (F : Feeding) (turn : AtTurn piece (feeding (fedOf p 0 0) links B line out) F) where
+  -- the piece is used up
+  pub call-ended : length piece ≤ F .fed .used → F ≡ feedCall p links B line out piece
+  call-ended l = turn-end piece (feeding (fedOf p 0 0) links B line out) F turn l ∙ call-is p links B line out piece
+
+  -- the stream has stopped, which b says
+  pub call-stopped : {b : Bool} → F .fed .used < length piece → b ≡ stopped F → b ≡ true → F ≡ feedCall p links B line out piece
+  call-stopped l s e = turn-stopped piece (feeding (fedOf p 0 0) links B line out) F turn l (sym s ∙ e) ∙ call-is p links B line out piece

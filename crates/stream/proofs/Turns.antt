@@ -1,6 +1,6 @@
 -- A LINE TAKEN, and the end of the stream. Assumes nothing.
-use mathlib.Core.Path.{_≡_, sym}
-use mathlib.Core.Bool.{true, false}
+use mathlib.Core.Path.{_≡_, sym, _∙_}
+use mathlib.Core.Bool.{Bool, true, false}
 use mathlib.Core.List.{List}
 use Prim.Native.Nat.{ℕ, _+_}
 use lib.Dec.{eqb}
@@ -34,10 +34,11 @@ module _ (p : Progress) (links : List ℕ) (B : Lent) (line out : List ℕ) wher
   unfolding finishCall
   finish-none e = rw (eq-eqb (p .held) 0 e)
 
-  pub finish-stopped : true ≡ stopped start → start ≡ finishCall p links B line out
+  -- b says whether the stream has stopped
+  pub finish-stopped : {b : Bool} → b ≡ stopped start → b ≡ true → start ≡ finishCall p links B line out
   unfolding finishCall
-  finish-stopped e = rw (or-right (eqb (p .held) 0) (sym e))
+  finish-stopped s e = rw (or-right (eqb (p .held) 0) (sym s ∙ e))
 
-  pub finish-took : (p .held ≡ 0 → ⊥) → stopped start ≡ false → tookLine start ≡ finishCall p links B line out
+  pub finish-took : {b : Bool} {F : Feeding} → (p .held ≡ 0 → ⊥) → b ≡ stopped start → b ≡ false → F ≡ tookLine start → F ≡ finishCall p links B line out
   unfolding finishCall
-  finish-took n e = rw (ne-eqb (p .held) 0 n, e)
+  finish-took n s e q = rw (ne-eqb (p .held) 0 n, sym s ∙ e) q

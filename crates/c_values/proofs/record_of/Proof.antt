@@ -4,13 +4,6 @@ use borrow.Author.Needs.{needs}
 use Rattle.c_values.proofs.record_of.Statement.{statement}
 use Rattle.c_values.proofs.record_of.Tie as tie
 
-returns : tie.Need-returns
-returns c =
-    let after-at-16-bits2 : tie.After-at-16-bits2 = search in
-    let after-at-16-bits : tie.After-at-16-bits = search in
-    let start : tie.Start = search in
-    read-record _ (start .pre) (after-at-16-bits .at-16-bits .ensures) (after-at-16-bits2 .at-16-bits2 .ensures) (c .at-32-bits .ensures)
-
 pub record-of-spec : {M : Type 1} → statement M
 record-of-spec =
     tie.close
@@ -19,4 +12,4 @@ record-of-spec =
     (λ c. search needs) (λ c. search needs) (λ c. search needs)  -- shared-slice-read-t9, shared-slice-read-at-16-bits, at-16-bits-requires
     (λ c. search needs) (λ c. search needs) (λ c. search needs)  -- shared-slice-read-at-16-bits-2, at-16-bits-requires-2, shared-slice-read-at-32-bits
     (λ c. search needs)  -- at-32-bits-requires
-    returns)
+    (λ c. search read-record))  -- returns

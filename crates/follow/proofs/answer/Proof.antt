@@ -1,8 +1,8 @@
 -- `follow::answer` leaves the stream ready for the next piece. The measure is what is left of the piece. Assumes nothing.
-use mathlib.Core.Path.{_≡_, refl, sym, _∙_}
-use Prim.Native.Nat.{_+_, _-_, _≤_, zero-le}
+use mathlib.Core.Path.{_≡_}
+use Prim.Native.Nat.{_-_, _≤_}
 use native.Mathlib.Omega.{arith}
-use lib.ListN.{length, drop, length-take, length-drop}
+use lib.ListN.{length}
 use lib.Seq.{length-take-le}
 use Rattle.layers.specs.Layers.{tables}
 use Rattle.rounds.specs.Leaves.{lent}
@@ -14,7 +14,7 @@ use Rattle.follow.proofs.answer.Tie as tie
 abbrev Inv-loop : tie.InvT-loop
 Inv-loop links₀ pairs₀ hops₀ bounds₀ skips₀ even₀ odd₀ line₀ out₀ piece now₀ at₀ links pairs hops bounds skips even odd line out now at =
     IsReady now links (lent pairs (tables hops even odd) bounds skips) line
-    × (length links ≡ length links₀)
+    × ((length links ≡ length links₀)
     × (length pairs ≡ length pairs₀)
     × (length hops ≡ length hops₀)
     × (length bounds ≡ length bounds₀)
@@ -22,7 +22,7 @@ Inv-loop links₀ pairs₀ hops₀ bounds₀ skips₀ even₀ odd₀ line₀ out
     × (length even ≡ length even₀)
     × (length odd ≡ length odd₀)
     × (length line ≡ length line₀)
-    × (length out ≡ length out₀)
+    × (length out ≡ length out₀))
     × (at ≤ length piece)
 
 abbrev μ-loop : tie.MeasureT-loop
@@ -41,170 +41,34 @@ before-at-loop c = search
 
 ruleset back = (before-feed, before-in-loop, before-at-loop)
 
-loop-holds : tie.Need-loop-holds Inv-loop μ-loop
-loop-holds c =
+-- the step leaves each slice as long as it was lent
+same : (c : tie.After-feed Inv-loop μ-loop) →
     let start : tie.Start Inv-loop μ-loop = search back in
-    (start .pre, refl, refl, refl, refl, refl, refl, refl, refl, refl, zero-le)
-
-slice-aggregate-write-out : tie.Need-slice-aggregate-write-out Inv-loop μ-loop
-slice-aggregate-write-out c =
-    let after-feed : tie.After-feed Inv-loop μ-loop = search back in
-    sym (length-take-le _ _ (after-feed .feed .ensures .3))
-
-same-length : tie.Need-same-length Inv-loop μ-loop
-same-length c =
-    let after-feed : tie.After-feed Inv-loop μ-loop = search back in
+    let last = c .feed .last in
+    let lent = start .args in
+    (length (last .1 .0) ≡ length (lent .links .now))
+    × (length (last .1 .1 .0) ≡ length (lent .pairs .now))
+    × (length (last .1 .1 .1 .0) ≡ length (lent .hops .now))
+    × (length (last .1 .1 .1 .1 .0) ≡ length (lent .bounds .now))
+    × (length (last .1 .1 .1 .1 .1 .0) ≡ length (lent .skips .now))
+    × (length (last .1 .1 .1 .1 .1 .1 .0) ≡ length (lent .even .now))
+    × (length (last .1 .1 .1 .1 .1 .1 .1 .0) ≡ length (lent .odd .now))
+    × (length (last .1 .1 .1 .1 .1 .1 .1 .1 .0) ≡ length (lent .line .now))
+    × (length (last .1 .1 .1 .1 .1 .1 .1 .1 .1 .0) ≡ length (lent .out .now))
+same c =
     let at-loop : tie.At-loop Inv-loop μ-loop = search back in
-    after-feed .feed .kept .1 .0 ∙ at-loop .loop .inv .1
-
-same-length-2 : tie.Need-same-length-2 Inv-loop μ-loop
-same-length-2 c =
-    let after-feed : tie.After-feed Inv-loop μ-loop = search back in
-    let at-loop : tie.At-loop Inv-loop μ-loop = search back in
-    after-feed .feed .kept .1 .1 .0 ∙ at-loop .loop .inv .2
-
-same-length-3 : tie.Need-same-length-3 Inv-loop μ-loop
-same-length-3 c =
-    let after-feed : tie.After-feed Inv-loop μ-loop = search back in
-    let at-loop : tie.At-loop Inv-loop μ-loop = search back in
-    after-feed .feed .kept .1 .1 .1 .0 ∙ at-loop .loop .inv .3
-
-same-length-4 : tie.Need-same-length-4 Inv-loop μ-loop
-same-length-4 c =
-    let after-feed : tie.After-feed Inv-loop μ-loop = search back in
-    let at-loop : tie.At-loop Inv-loop μ-loop = search back in
-    after-feed .feed .kept .1 .1 .1 .1 .0 ∙ at-loop .loop .inv .4
-
-same-length-5 : tie.Need-same-length-5 Inv-loop μ-loop
-same-length-5 c =
-    let after-feed : tie.After-feed Inv-loop μ-loop = search back in
-    let at-loop : tie.At-loop Inv-loop μ-loop = search back in
-    after-feed .feed .kept .1 .1 .1 .1 .1 .0 ∙ at-loop .loop .inv .5
-
-same-length-6 : tie.Need-same-length-6 Inv-loop μ-loop
-same-length-6 c =
-    let after-feed : tie.After-feed Inv-loop μ-loop = search back in
-    let at-loop : tie.At-loop Inv-loop μ-loop = search back in
-    after-feed .feed .kept .1 .1 .1 .1 .1 .1 .0 ∙ at-loop .loop .inv .6
-
-same-length-7 : tie.Need-same-length-7 Inv-loop μ-loop
-same-length-7 c =
-    let after-feed : tie.After-feed Inv-loop μ-loop = search back in
-    let at-loop : tie.At-loop Inv-loop μ-loop = search back in
-    after-feed .feed .kept .1 .1 .1 .1 .1 .1 .1 .0 ∙ at-loop .loop .inv .7
-
-same-length-8 : tie.Need-same-length-8 Inv-loop μ-loop
-same-length-8 c =
-    let after-feed : tie.After-feed Inv-loop μ-loop = search back in
-    let at-loop : tie.At-loop Inv-loop μ-loop = search back in
-    after-feed .feed .kept .1 .1 .1 .1 .1 .1 .1 .1 .0 ∙ at-loop .loop .inv .8
-
-same-length-9 : tie.Need-same-length-9 Inv-loop μ-loop
-same-length-9 c =
-    let after-feed : tie.After-feed Inv-loop μ-loop = search back in
-    let at-loop : tie.At-loop Inv-loop μ-loop = search back in
-    after-feed .feed .kept .1 .1 .1 .1 .1 .1 .1 .1 .1 .0 ∙ at-loop .loop .inv .9
-
-same-length-10 : tie.Need-same-length-10 Inv-loop μ-loop
-same-length-10 c =
-    let after-feed : tie.After-feed Inv-loop μ-loop = search back in
-    let at-loop : tie.At-loop Inv-loop μ-loop = search back in
-    after-feed .feed .kept .1 .0 ∙ at-loop .loop .inv .1
-
-same-length-11 : tie.Need-same-length-11 Inv-loop μ-loop
-same-length-11 c =
-    let after-feed : tie.After-feed Inv-loop μ-loop = search back in
-    let at-loop : tie.At-loop Inv-loop μ-loop = search back in
-    after-feed .feed .kept .1 .1 .0 ∙ at-loop .loop .inv .2
-
-same-length-12 : tie.Need-same-length-12 Inv-loop μ-loop
-same-length-12 c =
-    let after-feed : tie.After-feed Inv-loop μ-loop = search back in
-    let at-loop : tie.At-loop Inv-loop μ-loop = search back in
-    after-feed .feed .kept .1 .1 .1 .0 ∙ at-loop .loop .inv .3
-
-same-length-13 : tie.Need-same-length-13 Inv-loop μ-loop
-same-length-13 c =
-    let after-feed : tie.After-feed Inv-loop μ-loop = search back in
-    let at-loop : tie.At-loop Inv-loop μ-loop = search back in
-    after-feed .feed .kept .1 .1 .1 .1 .0 ∙ at-loop .loop .inv .4
-
-same-length-14 : tie.Need-same-length-14 Inv-loop μ-loop
-same-length-14 c =
-    let after-feed : tie.After-feed Inv-loop μ-loop = search back in
-    let at-loop : tie.At-loop Inv-loop μ-loop = search back in
-    after-feed .feed .kept .1 .1 .1 .1 .1 .0 ∙ at-loop .loop .inv .5
-
-same-length-15 : tie.Need-same-length-15 Inv-loop μ-loop
-same-length-15 c =
-    let after-feed : tie.After-feed Inv-loop μ-loop = search back in
-    let at-loop : tie.At-loop Inv-loop μ-loop = search back in
-    after-feed .feed .kept .1 .1 .1 .1 .1 .1 .0 ∙ at-loop .loop .inv .6
-
-same-length-16 : tie.Need-same-length-16 Inv-loop μ-loop
-same-length-16 c =
-    let after-feed : tie.After-feed Inv-loop μ-loop = search back in
-    let at-loop : tie.At-loop Inv-loop μ-loop = search back in
-    after-feed .feed .kept .1 .1 .1 .1 .1 .1 .1 .0 ∙ at-loop .loop .inv .7
-
-same-length-17 : tie.Need-same-length-17 Inv-loop μ-loop
-same-length-17 c =
-    let after-feed : tie.After-feed Inv-loop μ-loop = search back in
-    let at-loop : tie.At-loop Inv-loop μ-loop = search back in
-    after-feed .feed .kept .1 .1 .1 .1 .1 .1 .1 .1 .0 ∙ at-loop .loop .inv .8
-
-same-length-18 : tie.Need-same-length-18 Inv-loop μ-loop
-same-length-18 c =
-    let after-feed : tie.After-feed Inv-loop μ-loop = search back in
-    let at-loop : tie.At-loop Inv-loop μ-loop = search back in
-    after-feed .feed .kept .1 .1 .1 .1 .1 .1 .1 .1 .1 .0 ∙ at-loop .loop .inv .9
-
--- what was used is of the piece
-within : (c : tie.Else2 Inv-loop μ-loop) →
-    let after-feed : tie.After-feed Inv-loop μ-loop = search back in
-    let at-loop : tie.At-loop Inv-loop μ-loop = search back in
-    let start : tie.Start Inv-loop μ-loop = search back in
-    (at-loop .loop .at) + after-feed .feed .result .used ≤ length (start .args .piece .now)
-within c =
-    let after-feed : tie.After-feed Inv-loop μ-loop = search back in
-    let at-loop : tie.At-loop Inv-loop μ-loop = search back in
-    let start : tie.Start Inv-loop μ-loop = search back in
-    omega (
-      arith,
-      after-feed .feed .ensures .2,
-      length-take (length (start .args .piece .now) - (at-loop .loop .at)) (drop (at-loop .loop .at) (start .args .piece .now)),
-      length-drop (at-loop .loop .at) (start .args .piece .now),
-      at-loop .loop .inv .10,
-    )
+    omega (arith, c .feed .kept, at-loop .loop .inv)
 
 add-at : tie.Need-add-at Inv-loop μ-loop
 add-at c =
+    let after-feed : tie.After-feed Inv-loop μ-loop = search back in
     let start : tie.Start Inv-loop μ-loop = search back in
-    omega (arith, within c, start .good .1 .1 .1 .1 .1 .1 .1 .1 .1 .1 .0 .0)
-
-loop-less : tie.Need-loop-less Inv-loop μ-loop
-loop-less c =
-    let in-loop : tie.In-loop Inv-loop μ-loop = search back in
-    omega (arith, within c, c .if2 .left, in-loop .loop-test .taken)
+    omega (arith, start .good)
 
 loop-again : tie.Need-loop-again Inv-loop μ-loop
 loop-again c =
     let after-feed : tie.After-feed Inv-loop μ-loop = search back in
-    let at-loop : tie.At-loop Inv-loop μ-loop = search back in
-    let k = after-feed .feed .kept in
-    let v = at-loop .loop .inv in (
-      after-feed .feed .ensures .1,
-      k .1 .0 ∙ v .1,
-      k .1 .1 .0 ∙ v .2,
-      k .1 .1 .1 .0 ∙ v .3,
-      k .1 .1 .1 .1 .0 ∙ v .4,
-      k .1 .1 .1 .1 .1 .0 ∙ v .5,
-      k .1 .1 .1 .1 .1 .1 .0 ∙ v .6,
-      k .1 .1 .1 .1 .1 .1 .1 .0 ∙ v .7,
-      k .1 .1 .1 .1 .1 .1 .1 .1 .0 ∙ v .8,
-      k .1 .1 .1 .1 .1 .1 .1 .1 .1 .0 ∙ v .9,
-      within c,
-    )
+    (after-feed .feed .ensures .1, same after-feed, omega arith)
 
 pub answer-spec : {M : Type 1} → statement M
 answer-spec =
@@ -212,33 +76,32 @@ answer-spec =
     (tie.spec
     Inv-loop
     μ-loop
-    loop-holds
-    (λ c. search needs) (λ c. search needs) (λ c. search needs) (λ c. search needs)  -- sub-feed, part-feed-start, part-feed-end, feed-requires
-    (λ c. search needs)  -- slice-reshare-prefix-write-out
-    slice-aggregate-write-out
+    (λ c. search needs) (λ c. search needs) (λ c. search needs) (λ c. search needs)  -- loop-holds, sub-feed, part-feed-start, part-feed-end
+    (λ c. search needs) (λ c. search needs)  -- feed-requires, slice-reshare-prefix-write-out
+    (λ c. search (length-take-le, needs))  -- slice-aggregate-write-out
     (λ c. search needs)  -- write-out-requires
-    same-length
-    same-length-2
-    same-length-3
-    same-length-4
-    same-length-5
-    same-length-6
-    same-length-7
-    same-length-8
-    same-length-9
+    (λ c. search (same (search back)))  -- same-length
+    (λ c. search (same (search back)))  -- same-length-2
+    (λ c. search (same (search back)))  -- same-length-3
+    (λ c. search (same (search back)))  -- same-length-4
+    (λ c. search (same (search back)))  -- same-length-5
+    (λ c. search (same (search back)))  -- same-length-6
+    (λ c. search (same (search back)))  -- same-length-7
+    (λ c. search (same (search back)))  -- same-length-8
+    (λ c. search (same (search back)))  -- same-length-9
     (λ c. search needs)  -- returns
-    same-length-10
-    same-length-11
-    same-length-12
-    same-length-13
-    same-length-14
-    same-length-15
-    same-length-16
-    same-length-17
-    same-length-18
+    (λ c. search (same (search back)))  -- same-length-10
+    (λ c. search (same (search back)))  -- same-length-11
+    (λ c. search (same (search back)))  -- same-length-12
+    (λ c. search (same (search back)))  -- same-length-13
+    (λ c. search (same (search back)))  -- same-length-14
+    (λ c. search (same (search back)))  -- same-length-15
+    (λ c. search (same (search back)))  -- same-length-16
+    (λ c. search (same (search back)))  -- same-length-17
+    (λ c. search (same (search back)))  -- same-length-18
     (λ c. search needs)  -- returns-2
     add-at
-    loop-less
+    (λ c. search needs)  -- loop-less
     loop-again
     (λ c. search needs) (λ c. search needs) (λ c. search needs)  -- is-stopped-requires, same-length-19, same-length-20
     (λ c. search needs) (λ c. search needs) (λ c. search needs) (λ c. search needs)  -- same-length-21, same-length-22, same-length-23, same-length-24

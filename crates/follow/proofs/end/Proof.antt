@@ -1,21 +1,15 @@
 -- `follow::end` writes what the end of the input adds. Assumes nothing.
-use mathlib.Core.Path.{sym}
 use lib.Seq.{length-take-le}
 use borrow.Author.Needs.{needs}
 use Rattle.follow.proofs.end.Statement.{statement}
 use Rattle.follow.proofs.end.Tie as tie
-
-slice-aggregate-write-out : tie.Need-slice-aggregate-write-out
-slice-aggregate-write-out c =
-    let after-finish : tie.After-finish = search in
-    sym (length-take-le _ _ (after-finish .finish .ensures .1))
 
 pub end-spec : {M : Type 1} → statement M
 end-spec =
     tie.close
     (tie.spec
     (λ c. search needs) (λ c. search needs)  -- finish-requires, slice-reshare-prefix-write-out
-    slice-aggregate-write-out
+    (λ c. search (length-take-le, needs))  -- slice-aggregate-write-out
     (λ c. search needs) (λ c. search needs) (λ c. search needs)  -- write-out-requires, say-read-requires, same-length
     (λ c. search needs) (λ c. search needs) (λ c. search needs) (λ c. search needs)  -- same-length-2, same-length-3, same-length-4, same-length-5
     (λ c. search needs) (λ c. search needs) (λ c. search needs)  -- same-length-6, same-length-7, same-length-8

@@ -1,8 +1,6 @@
 -- `line_buffer::put_report` meets its contract: the part of the buffer behind what is written takes the line. Assumes nothing.
-use mathlib.Core.Path.{ap}
-use Prim.Native.Nat.{ℕ, _+_}
 use native.Mathlib.Omega.{arith}
-use Rattle.line_buffer.proofs.Reports.{report-length, report-placed, report-taken, report-fits}
+use Rattle.line_buffer.proofs.Reports.{report-placed, report-taken, report-fits, report-put}
 use borrow.Author.Needs.{needs}
 use Rattle.line_buffer.proofs.put_report.Statement.{statement}
 use Rattle.line_buffer.proofs.put_report.Tie as tie
@@ -20,35 +18,21 @@ add-result c =
       after-slice-known .slice-known .given 0,
     )
 
-same-length : tie.Need-same-length
-same-length c = search needs
-
 returns : tie.Need-returns
 returns c =
     let after-answer : tie.After-answer = search in
     let after-write-report : tie.After-write-report = search in
-    let start : tie.Start = search in (
-      report-placed _ _ _ (start .pre) _ (after-write-report .write-report .ensures),
-      ap (λ (n : ℕ). start .args .at + n)
-          (report-length _ (start .args .out .now) _ (start .pre) _ (after-write-report .write-report .ensures) (after-answer .answer .given .1)),
-      omega (
-        arith,
-        report-fits _ (start .args .out .now) (start .args .at) (start .pre) _ (after-write-report .write-report .ensures)
-            (after-answer .answer .given .1) (after-write-report .write-report .kept .0),
-        same-length c,
-      ),
-    )
-
-same-length-2 : tie.Need-same-length-2
-same-length-2 c = search needs
+    let start : tie.Start = search in
+    report-put _ _ _ (start .pre) _ (after-write-report .write-report .ensures) (after-answer .answer .given .1)
+    (after-write-report .write-report .kept .0)
 
 returns-2 : tie.Need-returns-2
 returns-2 c =
     let after-write-report : tie.After-write-report = search in
     let start : tie.Start = search in (
-      report-placed _ _ _ (start .pre) _ (after-write-report .write-report .ensures),
+      search (report-placed, needs),
       omega (arith, report-taken _ (start .args .out .now) _ (start .pre) _ (after-write-report .write-report .ensures) (c .enum-told .given .1) .1),
-      omega (arith, start .pre, same-length-2 c),
+      search needs,
     )
 
 pub put-report-spec : {M : Type 1} → statement M
@@ -59,7 +43,7 @@ put-report-spec =
     (λ c. search needs) (λ c. search needs)  -- write-report-requires, enum-known-answer
     add-result
     (λ c. search needs)  -- enum-told
-    same-length
+    (λ c. search needs)  -- same-length
     returns
-    same-length-2
+    (λ c. search needs)  -- same-length-2
     returns-2)

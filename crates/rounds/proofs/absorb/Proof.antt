@@ -6,9 +6,6 @@ use borrow.Author.Needs.{needs}
 use Rattle.rounds.proofs.absorb.Statement.{statement}
 use Rattle.rounds.proofs.absorb.Tie as tie
 
-returns : tie.Need-returns
-returns c = search (absorb-is, thinned-twice)
-
 pub absorb-spec : {M : Type 1} → statement M
 absorb-spec =
     tie.close
@@ -16,4 +13,4 @@ absorb-spec =
     (λ c. search needs) (λ c. search needs) (λ c. search needs) (λ c. search needs)  -- settle-by-requires, raise-requires, leave-requires, cast-relax
     (λ c. search needs) (λ c. search needs) (λ c. search needs) (λ c. search needs)  -- relax-requires, same-length, same-length-2, same-length-3
     (λ c. search needs)  -- same-length-4
-    returns)
+    (λ c. search (absorb-is, thinned-twice)))  -- returns

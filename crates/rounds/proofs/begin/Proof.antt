@@ -6,9 +6,6 @@ use borrow.Author.Needs.{needs}
 use Rattle.rounds.proofs.begin.Statement.{statement}
 use Rattle.rounds.proofs.begin.Tie as tie
 
-returns : tie.Need-returns
-returns c = search (begin-is, ranked-row, ranked-all)
-
 pub begin-spec : {M : Type 1} → statement M
 begin-spec =
     tie.close
@@ -16,4 +13,4 @@ begin-spec =
     (λ c. search needs) (λ c. search needs) (λ c. search needs) (λ c. search needs)  -- mul-clear, mul-clear-2, clear-requires, mul-fill
     (λ c. search needs) (λ c. search needs) (λ c. search needs) (λ c. search needs)  -- fill-requires, mul-fill-2, fill-requires-2, rank-all-requires
     (λ c. search needs) (λ c. search needs) (λ c. search needs) (λ c. search needs)  -- same-length, same-length-2, same-length-3, same-length-4
-    returns)
+    (λ c. search (begin-is, ranked-row, ranked-all)))  -- returns

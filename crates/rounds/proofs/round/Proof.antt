@@ -19,9 +19,6 @@ add-t41 c =
     let start : tie.Start = search back in
     search needs
 
-returns : tie.Need-returns
-returns c = search round-is-absorbed
-
 pub round-spec : {M : Type 1} → statement M
 round-spec =
     tie.close
@@ -31,4 +28,4 @@ round-spec =
     (λ c. search needs) (λ c. search needs) (λ c. search needs) (λ c. search needs)  -- same-length, same-length-2, same-length-3, same-length-4
     (λ c. search needs) (λ c. search needs) (λ c. search needs) (λ c. search needs)  -- same-length-5, same-length-6, same-length-7, same-length-8
     (λ c. search needs)  -- same-length-9
-    returns)
+    (λ c. search round-is-absorbed))  -- returns

@@ -4,6 +4,7 @@ use mathlib.Core.Path.{_≡_, subst}
 use mathlib.Core.Option.{some}
 use Prim.Native.Nat.{_*_}
 use lib.ListN.{length}
+use native.Mathlib.Omega.{arith}
 use Rattle.lists.specs.Lists.{range, countb}
 use Rattle.rows.specs.Rows.{rowBit}
 use Rattle.layers.specs.Layers.{tables}
@@ -23,7 +24,7 @@ Inv-loop hops₀ even₀ odd₀ seen₀ next₀ pairs₀ bounds₀ skips₀ rank
     AtRound words links mark
     (workspace (tables hops₀ even₀ odd₀) (tally pairs₀ (now₀ .count)) (marks bounds₀ skips₀ (waitingOf words ranks₀)) (now₀ .candidate) (now₀ .searches))
     (workspace (tables hops even odd) (tally pairs (now .count)) (marks bounds skips (waitingOf words ranks)) (now .candidate) (now .searches))
-    × (length hops ≡ length hops₀)
+    × ((length hops ≡ length hops₀)
     × (length even ≡ length even₀)
     × (length odd ≡ length odd₀)
     × (length seen ≡ length seen₀)
@@ -31,7 +32,7 @@ Inv-loop hops₀ even₀ odd₀ seen₀ next₀ pairs₀ bounds₀ skips₀ rank
     × (length pairs ≡ length pairs₀)
     × (length bounds ≡ length bounds₀)
     × (length skips ≡ length skips₀)
-    × (length ranks ≡ length ranks₀)
+    × (length ranks ≡ length ranks₀))
     × AreRanks words links ranks
 
 abbrev μ-loop : tie.MeasureT-loop
@@ -49,17 +50,14 @@ picked c =
     let after-found : tie.After-found Inv-loop μ-loop = search in
     let after-pick-next : tie.After-pick-next Inv-loop μ-loop = search in
     let at-loop : tie.At-loop Inv-loop μ-loop = search in
-    ranked-pick _ _ _ (at-loop .loop .inv .10) _ (subst (PickIs _ _) (after-found .found .given .1) (after-pick-next .pick-next .ensures))
-
-loop-holds : tie.Need-loop-holds Inv-loop μ-loop
-loop-holds c = search at-start
+    ranked-pick _ _ _ (at-loop .loop .inv .2) _ (subst (PickIs _ _) (after-found .found .given .1) (after-pick-next .pick-next .ensures))
 
 returns : tie.Need-returns Inv-loop μ-loop
 returns c =
     let after-pick-next : tie.After-pick-next Inv-loop μ-loop = search in
     let at-loop : tie.At-loop Inv-loop μ-loop = search in
     going-end _ _ _ _ _ (at-loop .loop .inv .0 .going)
-    (ranked-none _ _ _ (at-loop .loop .inv .10) (subst (PickIs _ _) (c .enum-told .given .1) (after-pick-next .pick-next .ensures)))
+    (ranked-none _ _ _ (at-loop .loop .inv .2) (subst (PickIs _ _) (c .enum-told .given .1) (after-pick-next .pick-next .ensures)))
 
 round-requires : tie.Need-round-requires Inv-loop μ-loop
 round-requires c κs =
@@ -87,15 +85,7 @@ loop-again c =
     let at-loop : tie.At-loop Inv-loop μ-loop = search in
     let v = at-loop .loop .inv in (
       at-next _ _ _ _ _ _ _ _ _ _ _ _ (v .0) (picked after-known-told) (waiting-fits _ _) (after-round .round .ensures .0),
-      search needs,
-      search needs,
-      search needs,
-      search needs,
-      search needs,
-      search needs,
-      search needs,
-      search needs,
-      search needs,
+      omega (arith, after-round .round .kept, v .1),
       search (thinned-ranks, needs),
     )
 
@@ -105,7 +95,7 @@ run-rounds-spec =
     (tie.spec
     Inv-loop
     μ-loop
-    loop-holds
+    (λ c. search at-start)  -- loop-holds
     (λ c. search needs) (λ c. search needs) (λ c. search needs) (λ c. search needs)  -- pick-next-requires, enum-known-found, enum-told, same-length
     (λ c. search needs) (λ c. search needs) (λ c. search needs) (λ c. search needs)  -- same-length-2, same-length-3, same-length-4, same-length-5
     (λ c. search needs) (λ c. search needs) (λ c. search needs) (λ c. search needs)  -- same-length-6, same-length-7, same-length-8, same-length-9

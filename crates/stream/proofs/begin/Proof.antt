@@ -4,15 +4,9 @@ use borrow.Author.Needs.{needs}
 use Rattle.stream.proofs.begin.Statement.{statement}
 use Rattle.stream.proofs.begin.Tie as tie
 
-returns : tie.Need-returns
-returns c =
-    let after-empty-map : tie.After-empty-map = search in
-    let start : tie.Start = search in
-    begins _ _ _ (start .pre) (after-empty-map .empty-map .ensures)
-
 pub begin-spec : {M : Type 1} → statement M
 begin-spec =
     tie.close
     (tie.spec
     (λ c. search needs) (λ c. search needs) (λ c. search needs)  -- empty-map-requires, same-length, same-length-2
-    returns)
+    (λ c. search begins))  -- returns

@@ -1,15 +1,15 @@
 -- `stream::feed` meets its contract. The loop's invariant is `AtTurn` (Feeds.antt): from here the bytes end where they end from the start, and
 -- nothing refuses the map. The measure is what is left of the piece. Assumes nothing.
 use borrow.Author.Tests.{not-true, not-false}
-use mathlib.Core.Path.{_≡_, refl, sym, ap, _∙_, subst}
-use Prim.Native.Nat.{_-_, _≤_, zero-le}
+use mathlib.Core.Path.{_≡_, sym, ap, _∙_, subst}
+use Prim.Native.Nat.{_-_, _≤_}
 use native.Mathlib.Omega.{arith}
 use lib.ListN.{length}
 use Rattle.layers.specs.Layers.{tables}
 use Rattle.rounds.specs.Leaves.{lent}
 use Rattle.stream.specs.Feeding.{Feeding, feeding}
 use Rattle.line_buffer.proofs.Stops.{going}
-use Rattle.stream.proofs.Feeds.{AtTurn, turn-end, turn-stopped, at-start, ready-turn, call-is, free-sizes, took-used, turn-held}
+use Rattle.stream.proofs.Feeds.{AtTurn, call-ended, call-stopped, at-start, ready-turn, call-is, free-sizes, took-used, turn-held}
 use Rattle.stream.proofs.Feeds.{part-free, part-held, part-beyond, part-inside, turn-next}
 use borrow.Author.Needs.{needs}
 use Rattle.stream.proofs.feed.Statement.{statement}
@@ -19,7 +19,7 @@ abbrev Inv-loop : tie.InvT-loop
 Inv-loop links₀ pairs₀ hops₀ bounds₀ skips₀ even₀ odd₀ line₀ out₀ piece now₀ links pairs hops bounds skips even odd line out now =
     AtTurn piece (feeding now₀ links₀ (lent pairs₀ (tables hops₀ even₀ odd₀) bounds₀ skips₀) line₀ out₀)
     (feeding now links (lent pairs (tables hops even odd) bounds skips) line out)
-    × (length links ≡ length links₀)
+    × ((length links ≡ length links₀)
     × (length pairs ≡ length pairs₀)
     × (length hops ≡ length hops₀)
     × (length bounds ≡ length bounds₀)
@@ -27,7 +27,7 @@ Inv-loop links₀ pairs₀ hops₀ bounds₀ skips₀ even₀ odd₀ line₀ out
     × (length even ≡ length even₀)
     × (length odd ≡ length odd₀)
     × (length line ≡ length line₀)
-    × (length out ≡ length out₀)
+    × (length out ≡ length out₀))
     × (now .used ≤ length piece)
     × (now .written ≤ length out)
 
@@ -50,29 +50,12 @@ before-at-loop c = search
 
 ruleset back = (before-take-line, before-hold-part, before-is-stopped, before-at-loop)
 
-loop-holds : tie.Need-loop-holds Inv-loop μ-loop
-loop-holds c =
-    let start : tie.Start Inv-loop μ-loop = search back in
-    (at-start _ _ _ _ _ _ (start .pre), refl, refl, refl, refl, refl, refl, refl, refl, refl, zero-le, zero-le)
-
 returns : tie.Need-returns Inv-loop μ-loop
 returns c =
-    let after-is-stopped : tie.After-is-stopped Inv-loop μ-loop = search back in
-    let then1 : tie.Then1 Inv-loop μ-loop = search back in
     let at-loop : tie.At-loop Inv-loop μ-loop = search back in
     let start : tie.Start Inv-loop μ-loop = search back in
-    let v = at-loop .loop .inv in (
-      turn-stopped _ _ _ (v .0) (then1 .if1 .taken) (sym (after-is-stopped .is-stopped .ensures) ∙ c .if2 .taken) ∙ call-is _ _ _ _ _ _,
-      ready-turn _ _ _ (v .0) (omega (arith, start .pre .room, v .8)),
-      v .10,
-      v .11,
-    )
-
-hold-part-requires : tie.Need-hold-part-requires Inv-loop μ-loop
-hold-part-requires c κs =
-    let at-loop : tie.At-loop Inv-loop μ-loop = search back in
-    let start : tie.Start Inv-loop μ-loop = search back in
-    omega (arith, start .pre .room, at-loop .loop .inv .8)
+    let v = at-loop .loop .inv in
+    (search call-stopped, ready-turn _ _ _ (v .0) (omega (arith, start .pre .room, v .1)), v .2, v .3)
 
 returns-2 : tie.Need-returns-2 Inv-loop μ-loop
 returns-2 c =
@@ -87,11 +70,11 @@ returns-2 c =
       turn-held _ _ _ (v .0) _ q on (not-true _ (c .if3 .taken)) ∙ call-is _ _ _ _ _ _,
       record {
         free = part-free _ _ _ (v .0) _ q on;
-        room = omega (arith, after-hold-part .hold-part .kept .0, v .8, start .pre .room);
+        room = omega (arith, after-hold-part .hold-part .kept .0, v .1, start .pre .room);
         held = part-held _ _ _ (v .0) _ q on;
       },
-      part-inside _ _ _ (v .0) _ q on (v .10),
-      v .11,
+      part-inside _ _ _ (v .0) _ q on (v .2),
+      v .3,
     )
 
 take-line-requires : tie.Need-take-line-requires Inv-loop μ-loop
@@ -106,7 +89,7 @@ take-line-requires c κs =
     let q = after-hold-part .hold-part .ensures in
     let g = going _ _ _ on in (
       free-sizes _ _ _ _ _ _ _ _ (part-free _ _ _ (v .0) _ q on),
-      omega (arith, part-held _ _ _ (v .0) _ q on, after-hold-part .hold-part .kept .0, v .8, start .pre .room),
+      omega (arith, part-held _ _ _ (v .0) _ q on, after-hold-part .hold-part .kept .0, v .1, start .pre .room),
       g .0,
       g .1,
     )
@@ -136,19 +119,10 @@ loop-again c =
     let v = at-loop .loop .inv in
     let on = sym (after-is-stopped .is-stopped .ensures) ∙ else2 .if2 .left in
     let next = turn-next _ _ _ (v .0) _ (after-hold-part .hold-part .ensures) on (not-false _ (else3 .if3 .left)) in
-    let k = after-take-line .take-line .kept in
     let used = ap (λ (F : Feeding). F .fed .used) (after-take-line .take-line .ensures .0) ∙ took-used _ in
-    let inside = part-inside _ _ _ (v .0) _ (after-hold-part .hold-part .ensures) on (v .10) in (
+    let inside = part-inside _ _ _ (v .0) _ (after-hold-part .hold-part .ensures) on (v .2) in (
       subst (AtTurn _ _) (sym (after-take-line .take-line .ensures .0)) next,
-      k .1 .0 ∙ v .1,
-      k .1 .1 .0 ∙ v .2,
-      k .1 .1 .1 .0 ∙ v .3,
-      k .1 .1 .1 .1 .0 ∙ v .4,
-      k .1 .1 .1 .1 .1 .0 ∙ v .5,
-      k .1 .1 .1 .1 .1 .1 .0 ∙ v .6,
-      k .1 .1 .1 .1 .1 .1 .1 .0 ∙ v .7,
-      after-hold-part .hold-part .kept .0 ∙ v .8,
-      k .1 .1 .1 .1 .1 .1 .1 .1 .0 ∙ v .9,
+      omega (arith, after-take-line .take-line .kept, after-hold-part .hold-part .kept, v .1),
       omega (arith, used, inside),
       after-take-line .take-line .ensures .1,
     )
@@ -157,12 +131,8 @@ returns-3 : tie.Need-returns-3 Inv-loop μ-loop
 returns-3 c =
     let at-loop : tie.At-loop Inv-loop μ-loop = search back in
     let start : tie.Start Inv-loop μ-loop = search back in
-    let v = at-loop .loop .inv in (
-      turn-end _ _ _ (v .0) (c .if1 .left) ∙ call-is _ _ _ _ _ _,
-      ready-turn _ _ _ (v .0) (omega (arith, start .pre .room, v .8)),
-      v .10,
-      v .11,
-    )
+    let v = at-loop .loop .inv in
+    (search call-ended, ready-turn _ _ _ (v .0) (omega (arith, start .pre .room, v .1)), v .2, v .3)
 
 pub feed-spec : {M : Type 1} → statement M
 feed-spec =
@@ -170,15 +140,14 @@ feed-spec =
     (tie.spec
     Inv-loop
     μ-loop
-    loop-holds
+    (λ c. search (at-start, needs))  -- loop-holds
     (λ c. search needs) (λ c. search needs) (λ c. search needs) (λ c. search needs)  -- is-stopped-requires, same-length, same-length-2, same-length-3
     (λ c. search needs) (λ c. search needs) (λ c. search needs) (λ c. search needs)  -- same-length-4, same-length-5, same-length-6, same-length-7
     (λ c. search needs) (λ c. search needs)  -- same-length-8, same-length-9
     returns
-    hold-part-requires
-    (λ c. search needs) (λ c. search needs) (λ c. search needs) (λ c. search needs)  -- same-length-10, same-length-11, same-length-12, same-length-13
-    (λ c. search needs) (λ c. search needs) (λ c. search needs) (λ c. search needs)  -- same-length-14, same-length-15, same-length-16, same-length-17
-    (λ c. search needs)  -- same-length-18
+    (λ c. search needs) (λ c. search needs) (λ c. search needs)  -- hold-part-requires, same-length-10, same-length-11
+    (λ c. search needs) (λ c. search needs) (λ c. search needs) (λ c. search needs)  -- same-length-12, same-length-13, same-length-14, same-length-15
+    (λ c. search needs) (λ c. search needs) (λ c. search needs)  -- same-length-16, same-length-17, same-length-18
     returns-2
     take-line-requires
     loop-less

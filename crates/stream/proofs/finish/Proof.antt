@@ -1,6 +1,5 @@
 -- `stream::finish` meets its contract. Assumes nothing.
 use mathlib.Core.Path.{sym, _∙_}
-use Prim.Native.Nat.{zero-le}
 use native.Mathlib.Omega.{arith}
 use Rattle.stream.proofs.Feeds.{free-sizes}
 use Rattle.line_buffer.proofs.Stops.{going}
@@ -8,9 +7,6 @@ use Rattle.stream.proofs.Turns.{finish-none, finish-stopped, finish-too
 use borrow.Author.Needs.{needs}
 use Rattle.stream.proofs.finish.Statement.{statement}
 use Rattle.stream.proofs.finish.Tie as tie
-
-returns : tie.Need-returns
-returns c = (finish-none _ _ _ _ _ (c .if1 .taken), zero-le)
 
 -- the way back, from each call to the one before it
 abbrev before-take-line : tie.After-take-line → tie.After-is-stopped
@@ -21,11 +17,6 @@ before-is-stopped c = search
 
 ruleset back = (before-take-line, before-is-stopped)
 
-returns-2 : tie.Need-returns-2
-returns-2 c =
-    let after-is-stopped : tie.After-is-stopped = search back in
-    (finish-stopped _ _ _ _ _ (sym (c .if2 .taken) ∙ after-is-stopped .is-stopped .ensures), zero-le)
-
 take-line-requires : tie.Need-take-line-requires
 take-line-requires c κs =
     let else2 : tie.Else2 = search back in
@@ -34,25 +25,14 @@ take-line-requires c κs =
     let g = going _ _ _ (sym (after-is-stopped .is-stopped .ensures) ∙ else2 .if2 .left) in
     (free-sizes _ _ _ _ _ _ _ _ (start .pre .free), omega (arith, start .pre .held, start .pre .room), g .0, g .1)
 
-returns-3 : tie.Need-returns-3
-returns-3 c =
-    let after-take-line : tie.After-take-line = search back in
-    let else2 : tie.Else2 = search back in
-    let after-is-stopped : tie.After-is-stopped = search back in
-    let else1 : tie.Else1 = search back in (
-      after-take-line .take-line .ensures .0 ∙ finish-took _ _ _ _ _ (else1 .if1 .left)
-          (sym (after-is-stopped .is-stopped .ensures) ∙ else2 .if2 .left),
-      after-take-line .take-line .ensures .1,
-    )
-
 pub finish-spec : {M : Type 1} → statement M
 finish-spec =
     tie.close
     (tie.spec
-    returns
+    (λ c. search (finish-none, needs))  -- returns
     (λ c. search needs)  -- is-stopped-requires
-    returns-2
+    (λ c. search (finish-stopped, needs))  -- returns-2
     take-line-requires
     (λ c. search needs) (λ c. search needs) (λ c. search needs) (λ c. search needs)  -- same-length, same-length-2, same-length-3, same-length-4
     (λ c. search needs) (λ c. search needs) (λ c. search needs) (λ c. search needs)  -- same-length-5, same-length-6, same-length-7, same-length-8
-    returns-3)
+    (λ c. search (finish-took, needs)))  -- returns-3

@@ -1,5 +1,4 @@
 -- `stream::take_line` meets its contract: the answer to the held bytes, then its report. Assumes nothing.
-use mathlib.Core.Path.{sym}
 use native.Mathlib.Omega.{arith}
 use lib.Seq.{length-take-le}
 use Rattle.stream.specs.Feeding.{feeding}
@@ -17,21 +16,6 @@ before-answer-line c = search
 
 ruleset back = (before-put-report, before-answer-line)
 
-slice-aggregate-answer-line : tie.Need-slice-aggregate-answer-line
-slice-aggregate-answer-line c =
-    let start : tie.Start = search back in
-    sym (length-take-le _ _ (start .pre .1))
-
-add-number : tie.Need-add-number
-add-number c =
-    let start : tie.Start = search back in
-    omega (arith, start .pre .2)
-
-put-report-requires : tie.Need-put-report-requires
-put-report-requires c κs =
-    let start : tie.Start = search back in
-    start .pre .3
-
 returns : tie.Need-returns
 returns c =
     let after-put-report : tie.After-put-report = search back in
@@ -44,10 +28,10 @@ pub take-line-spec : {M : Type 1} → statement M
 take-line-spec =
     tie.close
     (tie.spec
-    slice-aggregate-answer-line
+    (λ c. search (length-take-le, needs))  -- slice-aggregate-answer-line
     (λ c. search needs)  -- answer-line-requires
-    add-number
-    put-report-requires
+    (λ c. let start : tie.Start = search back in omega arith)  -- add-number
+    (λ c κs. let start : tie.Start = search back in start .pre .3)  -- put-report-requires
     (λ c. search needs) (λ c. search needs) (λ c. search needs) (λ c. search needs)  -- same-length, same-length-2, same-length-3, same-length-4
     (λ c. search needs) (λ c. search needs) (λ c. search needs) (λ c. search needs)  -- same-length-5, same-length-6, same-length-7, same-length-8
     returns)

@@ -4,9 +4,6 @@ use borrow.Author.Needs.{needs}
 use Rattle.zorpedi.proofs.maps.zorpedi_open.Statement.{statement}
 use Rattle.zorpedi.proofs.maps.zorpedi_open.Tie as tie
 
-returns : tie.Need-returns
-returns c = open-short _ _ _ _ _ (c .if1 .taken)
-
 -- the way back, from each call to the one before it
 abbrev before-put-record : tie.After-put-record → tie.After-open-step
 before-put-record c = search
@@ -23,8 +20,7 @@ returns-2 c =
     let after-open-step : tie.After-open-step = search back in
     let after-record-of : tie.After-record-of = search back in
     let else1 : tie.Else1 = search back in
-    open-done _ _ _ _ _ (else1 .if1 .left) (after-record-of .record-of .ensures) _ (after-open-step .open-step .ensures)
-    (after-enum-told .enum-told .given .1) (c .letter .ensures) (after-put-record .put-record .ensures)
+    search (open-done, needs)
 
 returns-3 : tie.Need-returns-3
 returns-3 c =
@@ -39,7 +35,7 @@ pub zorpedi-open-spec : {M : Type 1} → statement M
 zorpedi-open-spec =
     tie.close
     (tie.spec
-    returns
+    (λ c. search open-short)  -- returns
     (λ c. search needs) (λ c. search needs) (λ c. search needs)  -- record-of-requires, open-step-requires, enum-told
     (λ c. search needs) (λ c. search needs) (λ c. search needs)  -- put-record-requires, letter-requires, enum-known-outcome
     (λ c. search needs) (λ c. search needs) (λ c. search needs) (λ c. search needs)  -- same-length, same-length-2, same-length-3, same-length-4

@@ -17,17 +17,6 @@ before-record-of c = search
 
 ruleset back = (before-put-record, before-finish, before-record-of)
 
-returns : tie.Need-returns
-returns c =
-    let after-step-refusal : tie.After-step-refusal = search back in
-    finish-refused _ _ _ _ _ _ _ _ _ _ _ _ _ _ (after-step-refusal .step-refusal .ensures) (c .if1 .taken)
-
-record-of-requires : tie.Need-record-of-requires
-record-of-requires c κs =
-    let else1 : tie.Else1 = search back in
-    let after-step-refusal : tie.After-step-refusal = search back in
-    step-room _ _ _ _ _ _ _ (after-step-refusal .step-refusal .ensures) (else1 .if1 .left)
-
 finish-requires : tie.Need-finish-requires
 finish-requires c κs =
     let after-record-of : tie.After-record-of = search back in
@@ -48,16 +37,15 @@ returns-2 c =
     let after-record-of : tie.After-record-of = search back in
     let else1 : tie.Else1 = search back in
     let after-step-refusal : tie.After-step-refusal = search back in
-    finish-done _ _ _ _ _ _ _ _ _ _ _ _ _ _ (after-step-refusal .step-refusal .ensures) (else1 .if1 .left)
-    (after-record-of .record-of .ensures) _ _ _ _ _ _ (after-put-record .put-record .ensures) (after-finish .finish .ensures .0)
+    search (finish-done, needs)
 
 pub zorpedi-finish-spec : {M : Type 1} → statement M
 zorpedi-finish-spec =
     tie.close
     (tie.spec
     (λ c. search needs) (λ c. search needs) (λ c. search needs) (λ c. search needs)  -- step-refusal-requires, same-length, same-length-2, same-length-3
-    returns
-    record-of-requires
+    (λ c. search finish-refused)  -- returns
+    (λ c κs. search step-room)  -- record-of-requires
     finish-requires
     put-record-requires
     (λ c. search needs) (λ c. search needs) (λ c. search needs) (λ c. search needs)  -- same-length-4, same-length-5, same-length-6, same-length-7

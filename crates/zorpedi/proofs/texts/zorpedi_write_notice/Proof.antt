@@ -4,24 +4,12 @@ use borrow.Author.Needs.{needs}
 use Rattle.zorpedi.proofs.texts.zorpedi_write_notice.Statement.{statement}
 use Rattle.zorpedi.proofs.texts.zorpedi_write_notice.Tie as tie
 
-returns : tie.Need-returns
-returns c =
-    let after-got : tie.After-got = search in
-    let after-write-notice : tie.After-write-notice = search in
-    write-line-out _ _ _ _ (after-write-notice .write-notice .ensures) (after-got .got .given .1)
-
-returns-2 : tie.Need-returns-2
-returns-2 c =
-    let after-got2 : tie.After-got2 = search in
-    let after-write-notice : tie.After-write-notice = search in
-    write-refused-out _ _ _ _ (after-write-notice .write-notice .ensures) (after-got2 .got2 .given .1)
-
 pub zorpedi-write-notice-spec : {M : Type 1} → statement M
 zorpedi-write-notice-spec =
     tie.close
     (tie.spec
     (λ c. search needs) (λ c. search needs) (λ c. search needs)  -- write-notice-requires, enum-known-got, enum-known-got-2
     (λ c. search needs)  -- same-length
-    returns
+    (λ c. search write-line-out)  -- returns
     (λ c. search needs)  -- same-length-2
-    returns-2)
+    (λ c. search write-refused-out))  -- returns-2
