@@ -5,13 +5,10 @@ use borrow.Author.Needs.{needs}
 use Rattle.insertion.proofs.join.Statement.{statement}
 use Rattle.insertion.proofs.join.Tie as tie
 
-returns : tie.Need-returns
-returns c = search join-is
-
 pub join-spec : {M : Type 1} → statement M
 join-spec =
     tie.close
     (tie.spec
     (λ c. search needs) (λ c. search needs) (λ c. search needs)  -- settle-by-requires, mark-once-requires, same-length
     (λ c. search needs) (λ c. search needs)  -- same-length-2, same-length-3
-    returns)
+    (λ c. search join-is))  -- returns

@@ -48,27 +48,6 @@ run-rounds-requires c κs =
       search needs,
     )
 
-same-length : tie.Need-same-length
-same-length c =
-    let after-run-rounds : tie.After-run-rounds = search back in
-    let after-absorb : tie.After-absorb = search back in
-    let after-begin : tie.After-begin = search back in
-    omega (arith, after-run-rounds .run-rounds .kept, after-absorb .absorb .kept, after-begin .begin .kept)
-
-same-length-3 : tie.Need-same-length-3
-same-length-3 c =
-    let after-run-rounds : tie.After-run-rounds = search back in
-    let after-absorb : tie.After-absorb = search back in
-    let after-begin : tie.After-begin = search back in
-    search needs
-
-same-length-4 : tie.Need-same-length-4
-same-length-4 c =
-    let after-run-rounds : tie.After-run-rounds = search back in
-    let after-absorb : tie.After-absorb = search back in
-    let after-begin : tie.After-begin = search back in
-    search needs
-
 returns : tie.Need-returns
 returns c =
     let after-run-rounds : tie.After-run-rounds = search back in
@@ -87,9 +66,9 @@ shrink-spec =
     (λ c. search needs) (λ c. search needs)  -- slice-aggregate-run-rounds, slice-aggregate-run-rounds-2
     (λ c. search needs)  -- slice-aggregate-run-rounds-3
     run-rounds-requires
-    same-length
+    (λ c. let begun : tie.After-begin = search back in let absorbed : tie.After-absorb = search back in search needs)  -- same-length
     (λ c. search needs)  -- same-length-2
-    same-length-3
-    same-length-4
+    (λ c. let begun : tie.After-begin = search back in let absorbed : tie.After-absorb = search back in search needs)  -- same-length-3
+    (λ c. let begun : tie.After-begin = search back in let absorbed : tie.After-absorb = search back in search needs)  -- same-length-4
     (λ c. search needs) (λ c. search needs)  -- same-length-5, same-length-6
     returns)
