@@ -21,9 +21,8 @@ STEP_SAYS = f'updateLeft r {LEFT} ≡ {ASKED}'
 OPEN_SAYS = f'leftOf r h′ {LEFT} ≡ {ASKED}'
 CITED = '''\
 use Rattle.graph.specs.Updates.{opens as opensDepot}
-use Rattle.layers.specs.Layers.{tables}
+use Rattle.map.specs.Room.{tables, lent}
 use Rattle.map.specs.Memory.{base as baseShape}
-use Rattle.rounds.specs.Leaves.{lent}
 use Rattle.opening.specs.UpdateCall.{leftOf, updateLeft, updateCall}
 use Rattle.opening.specs.Steps.{noticeOf}'''
 

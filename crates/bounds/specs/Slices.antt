@@ -3,7 +3,7 @@
 -- Assumes nothing.
 use Prim.Native.Nat.{ℕ}
 use denote.Ref.{now}
-use Rattle.layers.specs.Slices.{Slice, Moments}
+use Rattle.map.specs.Slices.{Slice, Moments}
 use Rattle.bounds.specs.Bounds.{Marks, marks}
 use Rattle.ranks.specs.Ranks.{waitingOf}
 

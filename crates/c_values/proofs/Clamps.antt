@@ -21,7 +21,7 @@ use Rattle.map.specs.Memory.{base, networkOf}
 use Rattle.checks.specs.Sound.{allSet, soundLinks, soundFigures}
 use Rattle.map.specs.Bits.{soundLink, soundPair}
 use Rattle.pairs.proofs.PairCounts.{pairs-few}
-use Rattle.rounds.specs.Sizes.{Sizes, longEnough}
+use Rattle.map.specs.Room.{Sizes, longEnough}
 use Rattle.opening.specs.Steps.{mapRefusal}
 use Rattle.c_values.specs.Words.{recordOf, clampedOf}
 

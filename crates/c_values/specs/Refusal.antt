@@ -5,7 +5,7 @@ use Prim.Native.Nat.{ℕ}
 use lib.Dec.{ltb}
 use lib.ListN.{length}
 use Rattle.map.specs.Memory.{base}
-use Rattle.rounds.specs.Sizes.{Sizes}
+use Rattle.map.specs.Room.{Sizes}
 use Rattle.outcome.specs.Numbers.{shortBuffer}
 use Rattle.notice.specs.Lines.{lineLimit}
 use Rattle.report.specs.Line.{bufferLimit}

@@ -3,7 +3,7 @@ ghost use mathlib.Core.Path.{_≡_};
 ghost use Prim.Native.Nat.{_≤_, _<_, min};
 ghost use lib.ListN.{length, set};
 ghost use Rattle.lists.specs.Lists.{overwrite};
-ghost use Rattle.rounds.specs.Sizes.{sizes};
+ghost use Rattle.map.specs.Room.{sizes};
 ghost use Rattle.c_values.specs.Words.{recordWords, wordsOf, clampedOf};
 ghost use Rattle.c_values.specs.Outcomes.{outcomeOf};
 ghost use Rattle.c_values.specs.Refusal.{stepRefusal};

@@ -17,8 +17,7 @@ use Rattle.graph.specs.Cases.{pairList, AnswerLine, caseLetter, PlainMap, lineF
 use Rattle.graph.proofs.Theorems.{figures-are, true-chain, true-pairs, farthest-is}
 use Rattle.map.specs.Memory.{base}
 use Rattle.map.specs.declared.Record.{Record}
-use Rattle.rounds.specs.Leaves.{Lent}
-use Rattle.rounds.specs.Sizes.{sizesOf, longEnough}
+use Rattle.map.specs.Room.{Lent, sizesOf, longEnough}
 use Rattle.outcome.specs.Outcome as Outcome
 use Rattle.opening.specs.UpdateCall.{changeOf, updateRefusal, networkAfter, updatedBy, UpdateLeft, updateGiven, updateCall}
 use Rattle.history.specs.PlainRun.{plainRefusal}

@@ -20,8 +20,8 @@ use Rattle.map.specs.Memory.{base, mapNetwork}
 use Rattle.checks.specs.Sound.{soundLinks}
 use Rattle.map.specs.declared.Record.{Record}
 use Rattle.checks.proofs.Theorems.{sound-links-iff}
-use Rattle.rounds.specs.Leaves.{Lent, roundsLeave}
-use Rattle.rounds.specs.Sizes.{sizesOf}
+use Rattle.map.specs.Room.{Lent, sizesOf}
+use Rattle.rounds.specs.Leaves.{roundsLeave}
 use Rattle.reckon.specs.ReckonCall.{reckonRefusal, figuredBy, ReckonLeft, reckonGiven, reckonCall}
 use Rattle.reckon.specs.declared.Reckoning.the-variants.{Searches}
 use Rattle.reckon.proofs.Reckons.{refused-never}

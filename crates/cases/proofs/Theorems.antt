@@ -24,7 +24,7 @@ use Rattle.map.specs.declared.Emptying.the-variants.{Done}
 use Rattle.map.proofs.Theorems.{emptied-is-empty, base-shape}
 use Rattle.reckon.specs.ReckonCall.{reckonCall}
 use Rattle.outcome.specs.Outcome.{letterOf, refusalOf}
-use Rattle.opening.specs.UpdateCall.{updateCall}
+use Rattle.opening.specs.UpdateCall.{updateCall, IsWithin}
 use Rattle.plain_list.specs.PlainList.{moved}
 use Rattle.opening.specs.Memory.{Memory, emptyMemory}
 use Rattle.history.specs.History.{Call}
@@ -44,7 +44,6 @@ use Rattle.cases.proofs.Paths.{path-held}
 use Rattle.cases.proofs.Reckonings.{pathResult, path-result}
 use Rattle.cases.proofs.Lines.{figuredFor, lines-are}
 use Rattle.history.specs.PlainRun.{Ask}
-use Rattle.opening.specs.UpdateCall.{IsWithin}
 
 -- ---- the paths reckoned, by the rules on the network
 

@@ -13,8 +13,7 @@ use Rattle.graph.specs.Rounds.{reckon}
 use Rattle.graph.specs.Cases.{pairList, AnswerLine}
 use Rattle.map.specs.Memory.{base, mapNetwork}
 use Rattle.map.specs.declared.Record.{Record}
-use Rattle.rounds.specs.Leaves.{Lent}
-use Rattle.rounds.specs.Sizes.{sizesOf, longEnough}
+use Rattle.map.specs.Room.{Lent, sizesOf, longEnough}
 use Rattle.reckon.specs.ReckonCall.{reckoningNumber, searchesOf, ReckonLeft}
 use Rattle.outcome.specs.Outcome as Outcome
 use Rattle.opening.specs.UpdateCall.{UpdateLeft, Step}

@@ -13,7 +13,7 @@ use Rattle.map.specs.Memory.{base, networkOf}
 use Rattle.map.specs.Empty.{EmptyLeft}
 use Rattle.map.specs.declared.Record.{Record}
 use Rattle.map.specs.declared.Emptying.the-variants.{Done}
-use Rattle.rounds.specs.Leaves.{Lent}
+use Rattle.map.specs.Room.{Lent}
 use Rattle.reckon.specs.ReckonCall.{ReckonLeft}
 use Rattle.opening.specs.Memory.{emptyMemory}
 use Rattle.history.specs.History.{Call}

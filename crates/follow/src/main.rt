@@ -1,7 +1,7 @@
 // The program: notice lines from standard input, a report line for each to standard output. What a read brings is answered and written before
 // the next read, so that a person or a scanner on a pipe sees each report at once; a file goes through in large pieces. A read or write that
 // fails is said on standard error.
-ghost use Rattle.rounds.specs.Slices.{lentAt, lentAfter};
+ghost use Rattle.map.specs.Slices.{lentAt, lentAfter};
 ghost use Rattle.stream.specs.Feeding.{IsReady};
 
 mod system;

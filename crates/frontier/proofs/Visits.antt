@@ -15,11 +15,10 @@ use Rattle.lists.proofs.Fills.{fill-more}
 use Rattle.words.specs.Bits.{bit, wordOf}
 use Rattle.words.specs.Least.{IsLeast, WithoutLeast}
 use Rattle.words.proofs.Bits.{bit-of-zero, bit-wordOf, wordOf-ext}
-use Rattle.rows.specs.Rows.{rowBit, tableBit, encodeRow}
+use Rattle.rows.specs.Rows.{rowBit, tableBit, encodeRow, inWord}
 use Rattle.rows.proofs.Written.{row-in}
 use Rattle.rows.proofs.Turns.{turn-none}
 use Rattle.frontier.specs.declared.Four.{Four}
-use Rattle.rows.specs.Rows.{inWord}
 use Rattle.frontier.specs.Steps.{reaches, hopSet, linkWord, Reached, reached, reachSet, AreWords, noWords, putWord, visited, visitOf}
 use Rattle.frontier.proofs.Links.{or-false, side, side-ext, put-here, put-past, linkedTo, word-one, hop-ext, hop-one, hop-both, visit-ext, visit-none, visit-both, visit-fits}
 

@@ -4,10 +4,9 @@ ghost use mathlib.Core.Bool.{_||_};
 ghost use Prim.Native.Nat.{_+_, _*_, _<_, _≤_};
 ghost use lib.ListN.{length};
 ghost use Rattle.words.specs.Bits.{bit, wordOf};
-ghost use Rattle.rows.specs.Rows.{rowBit, tableBit};
-ghost use Rattle.frontier.specs.Steps.{SearchRoom, AreWords, noWords, reached, reachSet, putWord, visited, visitOf};
-ghost use Rattle.rows.specs.Rows.{inWord};
-ghost use Rattle.frontier.specs.Steps.{unseen, unseenOf, passed, passOn, stepped, stepOf};
+ghost use Rattle.rows.specs.Rows.{rowBit, tableBit, inWord};
+ghost use Rattle.frontier.specs.Steps.{SearchRoom, AreWords, noWords, reached, reachSet, putWord, visited, visitOf, unseen, unseenOf, passed};
+ghost use Rattle.frontier.specs.Steps.{passOn, stepped, stepOf};
 
 // Four words side by side. They are passed by value, so that a walk keeps them in registers whatever tables lie beside them.
 struct Four {

@@ -1,21 +1,17 @@
 -- ONE CALL on the memory of a network: it is refused as the plain list refuses it, answers as the list answers, and leaves the memory of the
 -- network that the list then holds. Assumes nothing.
 use mathlib.Core.Path.{_≡_, refl, sym, ap, ap₂, _∙_, subst}
-use mathlib.Core.Bool.{true, _&&_}
+use mathlib.Core.Bool.{true}
 use mathlib.Core.List.{List}
 use Prim.Native.Nat.{ℕ, zero, suc, _≤_}
-use lib.Dec.{leb}
 use lib.ListN.{length}
-use borrow.Author.Tests.{leb-true}
-use Rattle.lists.proofs.Tests.{and-true}
 use Rattle.rows.specs.Rows.{tableBit, encodeRow, encodeTable}
 use Rattle.rows.proofs.Written.{encode-row-length, encode-table-length}
 use Rattle.graph.specs.Network.{Network, AreTrue, delivers}
 use Rattle.graph.specs.Chart.{diameter, farthest}
 use Rattle.graph.specs.Updates.{applied}
-use Rattle.map.specs.Memory.{Shape, IsShape, places, tableWords, mapNetwork}
-use Rattle.rounds.specs.Leaves.{Lent}
-use Rattle.rounds.specs.Sizes.{Sizes, sizesOf, longEnough}
+use Rattle.map.specs.Memory.{Shape, IsShape, tableWords, mapNetwork}
+use Rattle.map.specs.Room.{Lent, Sizes, sizesOf, longEnough}
 use Rattle.opening.specs.UpdateCall.{updateRefusal, networkAfter, UpdateLeft, updateGiven, referencesBy}
 use Rattle.plain_list.specs.PlainList.{moved, plainAnswer, plainNext}
 use Rattle.history.specs.PlainRun.{plainRefusal}
@@ -30,24 +26,7 @@ use Rattle.opening.proofs.Memories.{IsHeld, Says, record-path, memory-path, wri
 use Rattle.opening.proofs.Grants.{after-is, granted-long, held-after, figures-are-sound, refused-alike}
 use Rattle.opening.proofs.Openings.{opened-moved, opened-writes, says-true}
 use Rattle.opening.proofs.Marks.{refused-marked, opened-marked}
-
--- buffers that are long enough have the two tables whole
-long-tables : (K : Shape) (s : Sizes) → longEnough K s ≡ true → (tableWords K ≤ s .links) × (tableWords K ≤ s .pairs)
-unfolding longEnough
-long-tables K s h =
-    let t = leb (tableWords K) (s .links) in
-    let p = leb (tableWords K) (s .pairs) in
-    let d = leb (places K) (s .hops) in
-    let b = leb (places K) (s .bounds) in
-    let k = leb (places K) (s .skips) in
-    let e = leb (K .words) (s .even) in
-    let h₆ = and-true (t && p && d && b && k && e) (leb (K .words) (s .odd)) h in
-    let h₅ = and-true (t && p && d && b && k) e (h₆ .0) in
-    let h₄ = and-true (t && p && d && b) k (h₅ .0) in
-    let h₃ = and-true (t && p && d) b (h₄ .0) in
-    let h₂ = and-true (t && p) d (h₃ .0) in
-    let h₁ = and-true t p (h₂ .0) in
-    (leb-true (tableWords K) (s .links) (h₁ .0), leb-true (tableWords K) (s .pairs) (h₁ .1))
+use Rattle.map.proofs.Longs.{are-long}
 
 -- the map as a call is lent it, and as it stands when the call has left a map in the lent words
 abbrev lentMap : Memory → Call → Memory
@@ -90,7 +69,7 @@ module _ (K : Shape) (shape : IsShape K) (G : Network) (held : IsHeld K G) (c : 
 
   tables-whole : longEnough K (feedOf K c .sizes) ≡ true → (tableWords K ≤ lentSize (tableWords K) (c .links)) × (tableWords K ≤ lentSize (tableWords K) (c .pairs))
   unfolding feedOf
-  tables-whole long = long-tables K (feedOf K c .sizes) long
+  tables-whole long = let fit = are-long K (feedOf K c .sizes) long in (fit .links-fit, fit .pairs-fit)
 
   lent-written : longEnough K (feedOf K c .sizes) ≡ true → lentMap M c ≡ writeMap K G (lentMap M c)
   unfolding writeMap memoryFor

@@ -4,14 +4,12 @@
 use mathlib.Core.List.{List, [], _∷_, _++_}
 use Prim.Native.Nat.{ℕ, _+_, min}
 use lib.ListN.{length, take, drop}
-use Rattle.layers.specs.Layers.{Tables}
+use Rattle.map.specs.Room.{Tables, Lent}
 use Rattle.map.specs.Memory.{Shape, tableWords}
-use Rattle.rounds.specs.Leaves.{Lent}
 use Rattle.outcome.specs.declared.Outcome.{Outcome}
-use Rattle.opening.specs.UpdateCall.{UpdateLeft}
+use Rattle.opening.specs.UpdateCall.{UpdateLeft, Step}
 use Rattle.history.specs.PlainRun.{Ask, Feed}
 use Rattle.opening.specs.Memory.{Memory}
-use Rattle.opening.specs.UpdateCall.{Step}
 
 -- how a table of the map is lent: its first k words alone, or whole, with further words of the caller's behind it
 pub data Part : Type 0 where

@@ -6,7 +6,7 @@ use Rattle.lists.specs.Lists.{firstOf}
 use Rattle.graph.specs.Network.{Network}
 use Rattle.graph.specs.Updates.{Update, updateFaults}
 use Rattle.map.specs.Memory.{Shape}
-use Rattle.rounds.specs.Sizes.{Sizes, longEnough}
+use Rattle.map.specs.Room.{Sizes, longEnough}
 use Rattle.outcome.specs.declared.Outcome.{Outcome}
 use Rattle.plain_list.specs.PlainList.{plainAnswer, plainNext}
 

@@ -19,7 +19,8 @@ use Rattle.graph.specs.Opening.{opening, openCase, stayingPairs, anyPair, via}
 use Rattle.graph.specs.Correct.{IsNet}
 use Rattle.graph.proofs.Charts.{chart-metric, depot-in}
 use Rattle.rows.specs.Rows.{tableBit, encodeTable}
-use Rattle.layers.specs.Layers.{tables, Tables, Searched, searched, searchLeaves, searchTable}
+use Rattle.map.specs.Room.{tables, Tables, Lent, lent}
+use Rattle.layers.specs.Layers.{Searched, searched, searchLeaves, searchTable}
 use Rattle.layers.proofs.Theorems.{table-depth, table-leaves, depth-is}
 use Rattle.map.specs.Memory.{base, networkOf}
 use Rattle.map.proofs.Theorems.{network-open-below}
@@ -27,7 +28,7 @@ use Rattle.outcome.specs.declared.Change.the-variants.{Grew, Kept, Shrank}
 use Rattle.pairs.specs.Pairs.{Tally, tally, tallyOf, pairsWith, settleOf}
 use Rattle.stale_pairs.specs.Stale.{dropped, wayBy, dropOf}
 use Rattle.pairs.proofs.Tallies.{tally-ext, table-over}
-use Rattle.rounds.specs.Leaves.{Lent, lent, Ran, ran, ranBy, roundsLeave}
+use Rattle.rounds.specs.Leaves.{Ran, ran, ranBy, roundsLeave}
 use Rattle.rounds.specs.Workspace.{lastRow}
 use Rattle.rounds.proofs.Holding.{leaves-over}
 use Rattle.rounds.proofs.Pairing.{own-pairs, settle-is}

@@ -13,21 +13,21 @@ use Rattle.lists.proofs.Tests.{look, t→true, true→t, clash, and-true}
 use Rattle.lists.proofs.Members.{any-intro, any-elim, range-in, range-out}
 use Rattle.lists.proofs.Counts.{max-ge, max-le-of}
 use Rattle.lists.proofs.Fills.{fill-at}
-use Rattle.graph.specs.Network.{Network}
+use Rattle.graph.specs.Network.{Network, delivers}
 use Rattle.graph.specs.Distance.{dist}
 use Rattle.graph.specs.Chart.{chart, Pairs, countPairs}
 use Rattle.graph.specs.Opening.{via, stayingPairs, anyPair, shrunkCandidate}
 use Rattle.graph.specs.Correct.{IsNet}
 use Rattle.graph.proofs.Charts.{depot-in, depot-out}
 use Rattle.rows.specs.Rows.{tableBit}
-use Rattle.layers.specs.Layers.{Tables, searchLeaves}
+use Rattle.map.specs.Room.{Tables}
+use Rattle.layers.specs.Layers.{searchLeaves}
 use Rattle.pairs.specs.Pairs.{Tally, tally, tallyOf}
 use Rattle.stale_pairs.specs.Stale.{Dropped, dropped, wayBy, dropOf}
 use Rattle.pairs.proofs.PairCounts.{pairs-none, pairs-zero}
 use Rattle.pairs.proofs.Tallies.{tally-ext}
 use Rattle.stale_pairs.proofs.Theorems.{drop-way}
 use Rattle.graph.proofs.Delivers.{delivers-open}
-use Rattle.graph.specs.Network.{delivers}
 
 -- ---- the greatest of a list
 

@@ -15,10 +15,11 @@ use Rattle.graph.specs.Chart.{Pairs, chart, ecc, countPairs}
 use Rattle.graph.specs.Rounds.{waiting, searched, markOf, boundOf}
 use Rattle.graph.specs.Opening.{searchedOnce}
 use Rattle.rows.specs.Rows.{encodeTable}
-use Rattle.layers.specs.Layers.{Tables, searchLeaves}
+use Rattle.map.specs.Room.{Tables, Lent, lent}
+use Rattle.layers.specs.Layers.{searchLeaves}
 use Rattle.map.specs.Memory.{Shape, places, base}
 use Rattle.pairs.specs.Pairs.{Tally, tally, tallyOf, settleOf}
-use Rattle.rounds.specs.Leaves.{Lent, lent, ran, ranBy, roundsLeave, searchAfter}
+use Rattle.rounds.specs.Leaves.{ran, ranBy, roundsLeave, searchAfter}
 use Rattle.rounds.specs.Workspace.{lastRow}
 use Rattle.bounds.specs.Once.{Marked, marking, markOnce as marksOnce}
 use Rattle.insertion.specs.Steps.{markOnceIn, Joined, joined, joinOf}

@@ -14,11 +14,12 @@ use Rattle.graph.specs.Rounds.{State, round, rounds, pick, remaining, orStop, s
 use Rattle.graph.specs.Opening.{opening, openCase, searchedOnce, stayingPairs, shrunkCandidate, anyPair, via}
 use Rattle.graph.proofs.Charts.{depot-in}
 use Rattle.rows.specs.Rows.{tableBit}
-use Rattle.layers.specs.Layers.{Tables, searchLeaves}
+use Rattle.map.specs.Room.{Tables, Lent, lent}
+use Rattle.layers.specs.Layers.{searchLeaves}
 use Rattle.map.specs.Memory.{Shape, base, networkOf}
 use Rattle.pairs.specs.Pairs.{Tally, tally, Counted}
 use Rattle.bounds.specs.Bounds.{Marks, marks}
-use Rattle.rounds.specs.Leaves.{Lent, lent, ran, ranBy, roundsLeave, searchAfter}
+use Rattle.rounds.specs.Leaves.{ran, ranBy, roundsLeave, searchAfter}
 use Rattle.rounds.specs.Workspace.{Workspace, workspace, Absorbed, absorbed, absorbing, absorbOf, runOf, RoundsBegun, roundsBegun, roundsBeginOf}
 use Rattle.rounds.proofs.Holding.{Origin, Holds, leaves-over, after-snoc}
 use Rattle.rounds.proofs.Simulation.{Running, running-round, absorb}

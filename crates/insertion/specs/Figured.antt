@@ -13,7 +13,8 @@ use Rattle.graph.specs.Opening.{opening, grew, kept, shrank}
 use Rattle.graph.specs.Correct.{IsNet}
 use Rattle.rows.specs.Rows.{tableBit}
 use Rattle.map.specs.Memory.{Shape, places, tableWords, networkOf}
-use Rattle.rounds.specs.Leaves.{Lent, Ran, ranBy}
+use Rattle.map.specs.Room.{Lent}
+use Rattle.rounds.specs.Leaves.{Ran, ranBy}
 use Rattle.outcome.specs.declared.Change.{Change}
 use Rattle.outcome.specs.declared.Change.the-variants.{Grew, Kept, Shrank}
 

@@ -9,11 +9,11 @@ use lib.ListN.{length}
 use Rattle.graph.specs.Chart.{chart, ecc}
 use Rattle.graph.specs.Correct.{IsNet}
 use Rattle.rows.specs.Rows.{tableBit}
-use Rattle.layers.specs.Layers.{Tables, searchLeaves}
+use Rattle.map.specs.Room.{Tables, Lent}
+use Rattle.layers.specs.Layers.{searchLeaves}
 use Rattle.map.specs.Memory.{Shape, places, tableWords, networkOf}
 use Rattle.pairs.specs.Pairs.{Tally, settleOf}
 use Rattle.bounds.specs.Once.{Marked, markOnce as marksOnce}
-use Rattle.rounds.specs.Leaves.{Lent}
 use Rattle.rounds.specs.Workspace.{lastRow}
 use Rattle.graph.specs.Network.{delivers}
 

@@ -18,7 +18,8 @@ use Rattle.rows.specs.Rows.{rowBit, tableBit, encodeRow, putBit}
 use Rattle.rows.proofs.Written.{row-at}
 use Rattle.rows.proofs.Wholes.{encode-row-ext, row-over}
 use Rattle.rows.proofs.Puts.{put-row}
-use Rattle.layers.specs.Layers.{layerBit, Tables, tables}
+use Rattle.layers.specs.Layers.{layerBit}
+use Rattle.map.specs.Room.{Tables, tables}
 use Rattle.frontier.specs.Steps.{reaches, fresh, Stepped, stepped, stepOf}
 use Rattle.layers.specs.Begin.{SearchBegun, searchBegun, searchBeginOf}
 use Rattle.layers.proofs.Hops.{near, fresh-is, seen-is, hops-visit}

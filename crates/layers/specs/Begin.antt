@@ -6,7 +6,7 @@ use lib.Dec.{eqb}
 use Rattle.lists.specs.Lists.{range, mapl, overwrite}
 use Rattle.graph.specs.Distance.{unreached}
 use Rattle.rows.specs.Rows.{encodeRow}
-use Rattle.layers.specs.Layers.{Tables}
+use Rattle.map.specs.Room.{Tables}
 
 -- the start of a search from s: no hop, s alone in the even row and seen
 pub record SearchBegun : Type 0 where

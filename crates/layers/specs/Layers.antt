@@ -8,6 +8,7 @@ use Rattle.lists.specs.Lists.{range, mapl, maxOf, overwrite}
 use Rattle.graph.specs.Network.{Network}
 use Rattle.graph.specs.Distance.{vertices, unreached, dist}
 use Rattle.rows.specs.Rows.{tableBit, encodeRow}
+use Rattle.map.specs.Room.{Tables}
 
 -- the links of a table alone, every code open: what a search walks over
 unfoldable pub tableNetwork : ℕ → List ℕ → Network
@@ -21,15 +22,6 @@ depthFrom G s = maxOf (λ v. cond (ltb (dist G s v) unreached) (dist G s v) 0) (
 -- row the one before it, none where e is 0
 unfoldable pub layerBit : (ℕ → ℕ) → ℕ → ℕ → ℕ → Bool
 layerBit h e parity v = cond (eqb (e % 2) parity) (eqb (h v) e) (not (eqb e 0) && eqb (h v) (e - 1))
-
--- the hop table and the two layer rows
-pub record Tables : Type 0 where
-  pub hops : List ℕ
-  pub even : List ℕ
-  pub odd : List ℕ
-
-abbrev pub tables : List ℕ → List ℕ → List ℕ → Tables
-tables h x y = record { hops = h; even = x; odd = y }
 
 -- as a search from s leaves them: the distances (65,535 where there is none), and the layers
 unfoldable pub searchLeaves : ℕ → Network → ℕ → Tables → Tables

@@ -3,5 +3,3 @@
 pub mod Layers
 -- 2. how it begins. Nobody has to believe this file
 pub mod Begin
--- 3. the slices of a search as one value, for the contracts
-pub mod Slices

@@ -3,7 +3,7 @@ ghost use mathlib.Core.Path.{_≡_};
 ghost use Prim.Native.Nat.{_*_, _<_, _≤_};
 ghost use lib.ListN.{length};
 ghost use Rattle.layers.specs.Layers.{searched, searchTable};
-ghost use Rattle.layers.specs.Slices.{tablesBefore, tablesAfter};
+ghost use Rattle.map.specs.Slices.{tablesBefore, tablesAfter};
 ghost use Rattle.frontier.specs.Steps.{SearchRoom};
 ghost use Rattle.layers.specs.Begin.{searchBegun, searchBeginOf};
 

@@ -2,7 +2,7 @@
 ghost use mathlib.Core.Path.{_≡_};
 ghost use Rattle.graph.specs.Updates.{opens};
 ghost use Rattle.map.specs.Memory.{base};
-ghost use Rattle.rounds.specs.Slices.{lentBefore, lentAfter};
+ghost use Rattle.map.specs.Slices.{lentBefore, lentAfter};
 ghost use Rattle.opening.specs.UpdateCall.{leftOf, updateLeft, updateCall};
 ghost use Rattle.opening.specs.Steps.{noticeOf};
 use map::Record;

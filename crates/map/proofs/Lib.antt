@@ -2,3 +2,5 @@
 pub mod Empties
 -- What words mean as a network, and what the emptying means.
 pub mod Theorems
+-- The seven sizes.
+pub mod Longs

@@ -1,7 +1,11 @@
 -- The memory of one map. Order of reading:
 -- 1. the shape of a map, and what its words mean
 pub mod Memory
--- 2. which bits of its tables may stand. Nobody has to believe `IsLent`
+-- 2. the room that calls are lent: tables and sizes. Nobody has to believe `sizes`
+pub mod Room
+-- 3. which bits of its tables may stand. Nobody has to believe `IsLent`
 pub mod Bits
--- 3. emptying a map
+-- 4. emptying a map
 pub mod Empty
+-- 5. the lent slices as one value, for the contracts. Nobody has to believe `sizesAt`
+pub mod Slices

@@ -5,6 +5,7 @@ ghost use Prim.Native.Nat.{_*_, _<_, _≤_};
 ghost use lib.ListN.{length};
 ghost use Rattle.rows.specs.Rows.{rowBit};
 ghost use Rattle.map.specs.Memory.{base, networkOf};
+ghost use Rattle.map.specs.Room.{sizes, longEnough};
 ghost use Rattle.map.specs.Bits.{IsLent, soundLink, soundPair};
 ghost use Rattle.map.specs.Empty.{emptyLeft, emptyCall};
 
@@ -47,6 +48,41 @@ pub fn pair_is_sound(codes: &[u64], words: usize, low: usize, high: usize) -> bo
         return false;
     }
     is_open(codes, words, high)
+}
+
+// ---- the room
+
+// Whether the seven buffers of a reckoning or an opening have their named sizes.
+pub fn are_long(
+    links: usize,
+    pairs: usize,
+    hops: usize,
+    bounds: usize,
+    skips: usize,
+    even: usize,
+    odd: usize,
+) -> bool
+    ensures { λ r. ⌜ r ≡ longEnough base (sizes links pairs hops bounds skips even odd) ⌝ }
+{
+    if links < 1024 {
+        return false;
+    }
+    if pairs < 1024 {
+        return false;
+    }
+    if hops < 256 {
+        return false;
+    }
+    if bounds < 256 {
+        return false;
+    }
+    if skips < 256 {
+        return false;
+    }
+    if even < 4 {
+        return false;
+    }
+    4 <= odd
 }
 
 // ---- emptying

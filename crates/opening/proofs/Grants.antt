@@ -28,7 +28,7 @@ use Rattle.checks.specs.Sound.{soundLinks, soundFigures, AreLinksSound, AreFigu
 use Rattle.map.specs.declared.Record.{Record}
 use Rattle.map.proofs.Theorems.{network-most}
 use Rattle.checks.proofs.Theorems.{sound-links-iff, sound-figures-iff}
-use Rattle.rounds.specs.Sizes.{Sizes, longEnough}
+use Rattle.map.specs.Room.{Sizes, longEnough}
 use Rattle.opening.specs.UpdateCall.{updateRefusal, networkAfter, IsWithin}
 use Rattle.opening.proofs.Memories.{IsHeld, Stores, number-is, depots-few}
 use Rattle.graph.proofs.Delivers.{delivers-open}

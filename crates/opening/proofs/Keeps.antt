@@ -18,14 +18,14 @@ use Rattle.graph.specs.Rounds.{markOf, boundOf}
 use Rattle.graph.specs.Opening.{Opened}
 use Rattle.graph.specs.Correct.{AreSound}
 use Rattle.graph.proofs.Delivers.{delivers-open}
-use Rattle.layers.specs.Layers.{layerBit, depthFrom, Tables, searchLeaves}
+use Rattle.layers.specs.Layers.{layerBit, depthFrom, searchLeaves}
+use Rattle.map.specs.Room.{Tables, Lent, sizesOf, longEnough}
 use Rattle.map.specs.Memory.{Shape, IsShape, places, networkOf, mapNetwork}
 use Rattle.checks.specs.Sound.{AreFiguresSound}
 use Rattle.map.specs.declared.Record.{Record}
 use Rattle.map.proofs.Theorems.{network-linked-below}
-use Rattle.rounds.specs.Leaves.{searchAfter, Lent, roundsLeave}
-use Rattle.rounds.specs.Sizes.{sizesOf, longEnough}
-use Rattle.reckon.proofs.Longs.{are-long}
+use Rattle.rounds.specs.Leaves.{searchAfter, roundsLeave}
+use Rattle.map.proofs.Longs.{are-long}
 use Rattle.opening.specs.UpdateCall.{updateRefusal, networkAfter, updatedBy, updateGiven, updateCall, IsWithin}
 use Rattle.opening.specs.Steps.{mapRefusal}
 use Rattle.opening.proofs.Memories.{IsHeld, Stores, depots-few, network-read, pairs-read}

@@ -23,8 +23,7 @@ use Rattle.graph.specs.Opening.{Change, grew, kept, shrank, Opened}
 use Rattle.graph.specs.Correct.{IsCovered, Stands, AreReferences, IsSearched}
 use Rattle.map.specs.Memory.{Shape, IsShape, places}
 use Rattle.map.specs.declared.Record.{Record}
-use Rattle.rounds.specs.Leaves.{Lent}
-use Rattle.rounds.specs.Sizes.{sizesOf}
+use Rattle.map.specs.Room.{Lent, sizesOf}
 use Rattle.outcome.specs.declared.Change.the-variants.{Shrank}
 use Rattle.outcome.specs.declared.Outcome.the-variants.{Accepted, Refused}
 use Rattle.opening.specs.UpdateCall.{changeOf, updateRefusal, networkAfter, updatedBy, updateGiven, referencesBy, IsWithin}

@@ -18,8 +18,8 @@ use Rattle.graph.specs.Correct.{Moved, IsOpened}
 use Rattle.graph.proofs.Theorems.{true-chain, true-pairs, figures-are}
 use Rattle.map.specs.Memory.{Shape, IsShape, places, mapNetwork}
 use Rattle.map.specs.declared.Record.{Record}
-use Rattle.rounds.specs.Leaves.{Lent, roundsLeave}
-use Rattle.rounds.specs.Sizes.{sizesOf}
+use Rattle.map.specs.Room.{Lent, sizesOf}
+use Rattle.rounds.specs.Leaves.{roundsLeave}
 use Rattle.opening.specs.UpdateCall.{changeOf, updateRefusal, networkAfter, updatedBy, updateGiven, referencesBy, IsWithin}
 use Rattle.plain_list.specs.PlainList.{moved}
 use Rattle.opening.specs.Demand2.{mapAfter}

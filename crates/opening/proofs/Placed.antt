@@ -20,14 +20,13 @@ use Rattle.rows.specs.Rows.{rowBit, tableBit, encodeRow, encodeTable, putBit}
 use Rattle.rows.proofs.Puts.{put-row}
 use Rattle.rows.proofs.Wholes.{row-whole, encode-row-ext}
 use Rattle.rows.proofs.Written.{row-read}
-use Rattle.layers.specs.Layers.{tables}
+use Rattle.map.specs.Room.{tables, Lent, lent, Sizes, sizes}
 use Rattle.map.specs.Memory.{base, networkOf}
 use Rattle.checks.specs.Sound.{AreFiguresSound}
 use Rattle.map.specs.declared.Record.{Record}
 use Rattle.map.proofs.Theorems.{network-linked-below, base-shape}
-use Rattle.rounds.specs.Leaves.{Lent, lent, Ran, ran, ranBy}
-use Rattle.rounds.specs.Sizes.{Sizes, sizes}
-use Rattle.reckon.proofs.Longs.{AreLong, are-long}
+use Rattle.rounds.specs.Leaves.{Ran, ran, ranBy}
+use Rattle.map.proofs.Longs.{AreLong, are-long}
 use Rattle.outcome.specs.declared.Change.{Change}
 use Rattle.outcome.specs.declared.Outcome.{Outcome}
 use Rattle.outcome.specs.declared.Outcome.the-variants.{Accepted}

@@ -10,8 +10,8 @@ use Rattle.rows.specs.Rows.{tableBit}
 use Rattle.map.specs.Memory.{Shape, IsShape, mapNetwork}
 use Rattle.map.proofs.Theorems.{network-listed}
 use Rattle.checks.proofs.Refusals.{map-tells}
-use Rattle.reckon.specs.Refusals.{roundsBuffers}
-use Rattle.reckon.proofs.Theorems.{long-is}
+use Rattle.map.specs.Room.{roundsBuffers}
+use Rattle.map.proofs.Longs.{long-is}
 use Rattle.outcome.specs.Outcome.{refusalOf}
 use Rattle.opening.specs.UpdateCall.{changeOf, updatedBy, updateRefusal, updateGiven, updateCall}
 use Rattle.opening.specs.Refusals.{updateConditions, UpdateDemand1}

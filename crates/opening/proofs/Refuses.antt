@@ -12,12 +12,10 @@ use Rattle.graph.specs.Chart.{Pairs}
 use Rattle.graph.specs.Opening.{Notice, openFaults}
 use Rattle.graph.specs.Updates.{Update, opens, updateFaults}
 use Rattle.rows.specs.Rows.{tableBit}
-use Rattle.layers.specs.Layers.{tables}
+use Rattle.map.specs.Room.{tables, Lent, lent, Sizes, sizes, sizesOf, longEnough}
 use Rattle.map.specs.Memory.{Shape, places, mapNetwork}
 use Rattle.checks.specs.Sound.{soundLinks, soundFigures}
 use Rattle.map.specs.declared.Record.{Record}
-use Rattle.rounds.specs.Leaves.{Lent, lent}
-use Rattle.rounds.specs.Sizes.{Sizes, sizes, sizesOf, longEnough}
 use Rattle.opening.specs.UpdateCall.{updateRefusal, UpdateLeft, updateLeft, updateGiven, updateCall}
 use Rattle.opening.specs.Steps.{mapRefusal, refusedWith}
 use Rattle.opening.specs.declared.Returned.{Returned}

@@ -22,9 +22,9 @@ use Rattle.search.specs.SearchCall.{searchLeft}
 use Rattle.search.specs.Demand2.{IsSearch}
 use Rattle.search.specs.declared.Found.the-variants.{Reached}
 use Rattle.search.proofs.Theorems.{leaves-search, over-keeps}
-use Rattle.rounds.specs.Leaves.{Lent, searchAfter, roundsLeave}
-use Rattle.rounds.specs.Sizes.{sizesOf}
-use Rattle.reckon.proofs.Longs.{AreLong, are-long}
+use Rattle.map.specs.Room.{Lent, sizesOf}
+use Rattle.rounds.specs.Leaves.{searchAfter, roundsLeave}
+use Rattle.map.proofs.Longs.{AreLong, are-long}
 use Rattle.reckon.proofs.Marks.{last-memb, bound-ecc}
 use Rattle.reckon.proofs.Skips.{skip-bound, closed-at, waiting-at}
 use Rattle.outcome.specs.declared.Change.{Change}

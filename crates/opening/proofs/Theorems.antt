@@ -6,9 +6,8 @@ use Rattle.rows.specs.Rows.{tableBit}
 use Rattle.graph.specs.Network.{AreTrue, delivers}
 use Rattle.map.specs.Memory.{Shape, IsShape, base, mapNetwork}
 use Rattle.map.specs.declared.Record.{Record}
-use Rattle.rounds.specs.Leaves.{Lent}
-use Rattle.rounds.specs.Sizes.{sizesOf}
-use Rattle.opening.specs.UpdateCall.{updateRefusal, networkAfter, updateGiven, updateCall, referencesBy, referencesOf}
+use Rattle.map.specs.Room.{Lent, sizesOf}
+use Rattle.opening.specs.UpdateCall.{updateRefusal, networkAfter, updateGiven, updateCall, referencesBy, referencesOf, IsWithin}
 use Rattle.opening.specs.Memory.{Memory}
 use Rattle.opening.specs.Represents.{Represents, IsMarked}
 use Rattle.opening.specs.Demand2.{mapAfter, UpdateDemand2}
@@ -18,7 +17,6 @@ use Rattle.opening.proofs.Openings.{opened-writes}
 use Rattle.opening.proofs.Marks.{opened-marked}
 use Rattle.map.proofs.Theorems.{base-shape}
 use Rattle.graph.specs.Updates.{Update}
-use Rattle.opening.specs.UpdateCall.{IsWithin}
 
 -- ---- DEMAND 2 for updates, on any lent memory
 

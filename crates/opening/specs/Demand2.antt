@@ -9,11 +9,9 @@ use Rattle.graph.specs.Updates.{Update}
 use Rattle.rows.specs.Rows.{tableBit}
 use Rattle.map.specs.Memory.{Shape, mapNetwork}
 use Rattle.map.specs.declared.Record.{Record}
-use Rattle.rounds.specs.Leaves.{Lent}
-use Rattle.rounds.specs.Sizes.{sizesOf}
-use Rattle.opening.specs.UpdateCall.{updateRefusal, networkAfter, referencesOf, UpdateLeft, IsWithin}
+use Rattle.map.specs.Room.{Lent, sizesOf}
+use Rattle.opening.specs.UpdateCall.{updateRefusal, networkAfter, referencesOf, UpdateLeft, IsWithin, Step}
 use Rattle.opening.specs.Memory.{Memory}
-use Rattle.opening.specs.UpdateCall.{Step}
 use Rattle.opening.specs.Represents.{Represents, IsMarked}
 
 -- the map among what a call leaves

@@ -10,8 +10,7 @@ use Rattle.rows.specs.Rows.{tableBit}
 use Rattle.map.specs.Memory.{Shape, places, mapNetwork}
 use Rattle.checks.specs.Refusals.{mapConditions}
 use Rattle.map.specs.declared.Record.{Record}
-use Rattle.rounds.specs.Leaves.{Lent}
-use Rattle.reckon.specs.Refusals.{roundsBuffers}
+use Rattle.map.specs.Room.{Lent, roundsBuffers}
 use Rattle.outcome.specs.Outcome.{refusalOf}
 use Rattle.outcome.specs.declared.Outcome.the-variants.{Refused}
 use Rattle.opening.specs.UpdateCall.{UpdateLeft, leftOf}

@@ -10,7 +10,7 @@ use Rattle.rows.specs.Rows.{tableBit}
 use Rattle.map.specs.Memory.{Shape, places, mapNetwork}
 use Rattle.checks.specs.Sound.{soundLinks, soundFigures}
 use Rattle.map.specs.declared.Record.{Record}
-use Rattle.rounds.specs.Sizes.{Sizes, longEnough}
+use Rattle.map.specs.Room.{Sizes, longEnough}
 use Rattle.outcome.specs.declared.Outcome.the-variants.{Refused}
 use Rattle.opening.specs.declared.Returned.{Returned}
 

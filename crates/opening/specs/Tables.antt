@@ -18,8 +18,7 @@ use Rattle.map.specs.declared.Record.{Record}
 use Rattle.search.specs.SearchCall.{searchLeft}
 use Rattle.search.specs.Demand2.{KeepsPast, IsSearch}
 use Rattle.search.specs.declared.Found.the-variants.{Reached}
-use Rattle.rounds.specs.Leaves.{Lent}
-use Rattle.rounds.specs.Sizes.{sizesOf}
+use Rattle.map.specs.Room.{Lent, sizesOf}
 use Rattle.outcome.specs.declared.Change.{Change}
 use Rattle.outcome.specs.declared.Change.the-variants.{Shrank}
 use Rattle.outcome.specs.declared.Outcome.the-variants.{Accepted}

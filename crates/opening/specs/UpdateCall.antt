@@ -15,8 +15,8 @@ use Rattle.rows.specs.Rows.{tableBit, encodeRow, encodeTable}
 use Rattle.map.specs.Memory.{Shape, places, mapNetwork}
 use Rattle.checks.specs.Sound.{soundLinks, soundFigures}
 use Rattle.map.specs.declared.Record.{Record}
-use Rattle.rounds.specs.Leaves.{Lent, roundsLeave}
-use Rattle.rounds.specs.Sizes.{Sizes, sizesOf, longEnough}
+use Rattle.map.specs.Room.{Lent, Sizes, sizesOf, longEnough}
+use Rattle.rounds.specs.Leaves.{roundsLeave}
 use Rattle.outcome.specs.declared.Change.the-variants.{Grew, Kept, Shrank}
 use Rattle.outcome.specs.declared.Outcome.{Outcome}
 use Rattle.outcome.specs.declared.Outcome.the-variants.{Accepted, Refused}

@@ -8,8 +8,8 @@ ghost use Rattle.lists.specs.Lists.{overwrite};
 ghost use Rattle.rows.specs.Rows.{rowBit, encodeRow};
 ghost use Rattle.graph.specs.Updates.{opens};
 ghost use Rattle.map.specs.Memory.{base};
-ghost use Rattle.rounds.specs.Sizes.{sizes};
-ghost use Rattle.rounds.specs.Slices.{lentBefore, lentAfter, sizesAt};
+ghost use Rattle.map.specs.Room.{sizes};
+ghost use Rattle.map.specs.Slices.{lentBefore, lentAfter, sizesAt};
 ghost use Rattle.opening.specs.UpdateCall.{updateRefusal, updateLeft, updateGiven, updateCall};
 ghost use Rattle.opening.specs.Steps.{mapRefusal, noticeOf, refusedWith};
 use map::Record;
@@ -44,7 +44,7 @@ pub fn map_refusal(
         let long = sizes (length (now (links .entry))) (length (now (pairs .entry))) hops bounds skips even odd in
         ⌜ r ≡ mapRefusal base rec (now (links .entry)) (now (pairs .entry)) long ⌝ }
 {
-    if !reckon::are_long(links.len(), pairs.len(), hops, bounds, skips, even, odd) {
+    if !map::are_long(links.len(), pairs.len(), hops, bounds, skips, even, odd) {
         return 1;
     }
     let codes = rec.codes;

@@ -14,10 +14,9 @@ use Rattle.lists.proofs.Tests.{and-true, and-intro, or-true, or-left, or-right,
 use Rattle.words.specs.Bits.{bit, wordOf}
 use Rattle.words.proofs.Bits.{bit-wordOf, wordOf-lt, word-minus}
 use Rattle.graph.specs.Chart.{Pairs}
-use Rattle.rows.specs.Rows.{rowBit, tableBit}
+use Rattle.rows.specs.Rows.{rowBit, tableBit, inWord}
 use Rattle.rows.proofs.Written.{row-in}
 use Rattle.pairs.specs.Pairs.{tally, tallyOf, pairsWith}
-use Rattle.rows.specs.Rows.{inWord}
 use Rattle.pairs.proofs.Tallies.{HoldsPairs, holds-table, holds-ext, tally-again}
 
 -- ---- the pairs of r with the members of any set

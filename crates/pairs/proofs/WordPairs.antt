@@ -21,11 +21,10 @@ use Rattle.words.specs.Least.{IsLeast, WithoutLeast}
 use Rattle.words.proofs.Bits.{bit-of-zero, wordOf-ext, wordOf-none, word-is, word-or, word-minus}
 use Rattle.words.proofs.Counts.{count-wordOf}
 use Rattle.graph.specs.Chart.{Pairs, countPairs}
-use Rattle.rows.specs.Rows.{tableBit}
+use Rattle.rows.specs.Rows.{tableBit, inWord}
 use Rattle.rows.proofs.Written.{table-word}
 use Rattle.rows.proofs.WordPuts.{put-word}
 use Rattle.pairs.specs.Pairs.{tally, tallyOf}
-use Rattle.rows.specs.Rows.{inWord}
 use Rattle.pairs.proofs.PairCounts.{pairs-with-part}
 use Rattle.pairs.proofs.Tallies.{HoldsPairs, holds-table, holds-count, holds-bit, holds-ext, tally-again}
 use Rattle.words.proofs.Lowest.{without-inside, without-here, without-other}

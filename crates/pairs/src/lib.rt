@@ -6,9 +6,8 @@ ghost use Prim.Native.Nat.{_+_, _*_, _<_, _≤_};
 ghost use lib.Dec.{eqb, ltb};
 ghost use lib.ListN.{length};
 ghost use Rattle.words.specs.Bits.{bit, wordOf};
-ghost use Rattle.rows.specs.Rows.{tableBit};
+ghost use Rattle.rows.specs.Rows.{tableBit, inWord};
 ghost use Rattle.pairs.specs.Pairs.{Counted, tally, tallyOf, pairsWith, settleOf};
-ghost use Rattle.rows.specs.Rows.{inWord};
 
 // Puts the pair low < high into the table, and answers how many pairs it then has.
 fn put_pair(pairs: &mut [u64], words: usize, low: usize, high: usize, count: u32) -> u32

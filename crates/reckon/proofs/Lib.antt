@@ -1,5 +1,3 @@
--- the seven sizes
-pub mod Longs
 -- the refusals of a reckoning, and what an accepted one leaves
 pub mod Reckons
 -- the tables that the rounds leave, read back

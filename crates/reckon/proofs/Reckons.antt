@@ -14,7 +14,7 @@ use Rattle.graph.specs.Chart.{chart}
 use Rattle.graph.specs.Rounds.{start, reckon}
 use Rattle.graph.specs.Correct.{IsNet}
 use Rattle.graph.proofs.Connected.{connected-iff}
-use Rattle.layers.specs.Layers.{tables}
+use Rattle.map.specs.Room.{tables, Lent, lent, Sizes, sizes, sizesOf, longEnough}
 use Rattle.map.specs.Memory.{Shape, IsShape, places, networkOf, mapNetwork}
 use Rattle.map.proofs.Theorems.{network-most}
 use Rattle.checks.specs.Sound.{soundLinks}
@@ -22,14 +22,13 @@ use Rattle.map.specs.declared.Record.{Record}
 use Rattle.checks.proofs.Theorems.{sound-links-iff}
 use Rattle.pairs.specs.Pairs.{tally}
 use Rattle.bounds.specs.Bounds.{marks}
-use Rattle.rounds.specs.Leaves.{Lent, lent, Ran, ran, ranBy}
-use Rattle.rounds.specs.Sizes.{Sizes, sizes, sizesOf, longEnough}
+use Rattle.rounds.specs.Leaves.{Ran, ran, ranBy}
 use Rattle.rounds.specs.Workspace.{Workspace, workspace, runOf, RoundsBegun, roundsBegun, roundsBeginOf}
 use Rattle.rounds.proofs.Holding.{Origin}
 use Rattle.rounds.proofs.Finish.{start-holds, start-running, run-leaves, run-figures}
 use Rattle.reckon.specs.ReckonCall.{linkFaults, reckonRefusal, figuredBy, reckonLeft, reckonGiven, reckonCall}
 use Rattle.reckon.specs.declared.Reckoning.the-variants.{Searches, Refused}
-use Rattle.reckon.proofs.Longs.{AreLong, are-long}
+use Rattle.map.proofs.Longs.{AreLong, are-long}
 
 -- ---- the refusals, by the code's tests
 

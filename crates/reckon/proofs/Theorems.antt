@@ -1,15 +1,15 @@
 -- THE THEOREMS of this crate: which refusal a whole reckoning gives, and demand 2 for it, for every shape of a map. Assumes nothing.
 use mathlib.Core.Path.{_≡_, refl, sym, ap, _∙_, subst}
 use mathlib.Core.Logic.{_↔_}
-use mathlib.Core.Bool.{Bool, and-assoc, and-true as and-with-true}
+use mathlib.Core.Bool.{Bool}
 use mathlib.Core.List.{List, [], _∷_}
 use Prim.Native.Nat.{ℕ, zero, suc, _<_}
 use native.Mathlib.Omega.{arith}
 use lib.Dec.{T}
 use lib.ListN.{length}
-use Rattle.lists.specs.Lists.{range, allb, memb, lastOr}
+use Rattle.lists.specs.Lists.{range, memb, lastOr}
 use Rattle.lists.proofs.Tests.{true→t}
-use Rattle.lists.proofs.Conditions.{allFit, decides-short, refuses-by}
+use Rattle.lists.proofs.Conditions.{decides-short, refuses-by}
 use Rattle.lists.proofs.Fills.{length-fill}
 use Rattle.graph.specs.Network.{Network, IsFarthest, delivers}
 use Rattle.graph.specs.Distance.{vertices}
@@ -19,7 +19,8 @@ use Rattle.graph.specs.Correct.{IsNet, IsReckoned}
 use Rattle.graph.proofs.Theorems.{reckoning-correct}
 use Rattle.graph.proofs.Skipped.{reckoning-skipped}
 use Rattle.rows.proofs.Written.{table-at, encode-table-length}
-use Rattle.layers.specs.Layers.{Tables, searchLeaves}
+use Rattle.map.specs.Room.{Tables, Lent, sizesOf, roundsBuffers}
+use Rattle.layers.specs.Layers.{searchLeaves}
 use Rattle.map.specs.Memory.{Shape, IsShape, places, base, mapNetwork}
 use Rattle.map.specs.declared.Record.{Record}
 use Rattle.map.proofs.Theorems.{network-open-below, network-length, base-shape}
@@ -29,16 +30,16 @@ use Rattle.search.specs.SearchCall.{searchLeft}
 use Rattle.search.specs.Demand2.{IsSearch}
 use Rattle.search.specs.declared.Found.the-variants.{Reached}
 use Rattle.search.proofs.Theorems.{leaves-search, over-keeps}
-use Rattle.rounds.specs.Leaves.{Lent, roundsLeave, searchAfter}
-use Rattle.rounds.specs.Sizes.{sizesOf, longEnough}
+use Rattle.rounds.specs.Leaves.{roundsLeave, searchAfter}
 use Rattle.reckon.specs.ReckonCall.{linkFaults, reckonRefusal, figuredBy, reckonGiven, reckonCall, reckoningNumber}
-use Rattle.reckon.specs.Refusals.{roundsBuffers, reckonConditions, ReckonDemand1}
+use Rattle.reckon.specs.Refusals.{reckonConditions, ReckonDemand1}
 use Rattle.reckon.specs.Demand2.{IsReckoning, ReckonDemand2}
 use Rattle.reckon.specs.declared.Reckoning.the-variants.{Refused}
-use Rattle.reckon.proofs.Longs.{AreLong}
+use Rattle.map.proofs.Longs.{AreLong}
 use Rattle.reckon.proofs.Reckons.{granted-long, granted-tests, granted-net}
 use Rattle.reckon.proofs.Marks.{last-memb, pairs-read, skip-marks, skips-counted, few-searches, bound-ecc}
 use Rattle.reckon.proofs.Skips.{skip-bound, closed-at}
+use Rattle.map.proofs.Longs.{long-is}
 
 module _ (K : Shape) (shape : IsShape K) (rec : Record) (links : List ℕ) (B : Lent) (ok : reckonRefusal K rec links (sizesOf links B) ≡ 0) where
   abbrev G : Network
@@ -130,11 +131,6 @@ call-numbered K rec links B = go (reckonRefusal K rec links (sizesOf links B))
     go (suc k) = refl
 
 -- ---- WHICH REFUSAL
-
--- the code's test of the sizes, and the condition's
-pub long-is : (K : Shape) (links : List ℕ) (B : Lent) → longEnough K (sizesOf links B) ≡ allFit (roundsBuffers K links B)
-unfolding longEnough sizesOf allb
-long-is K links B = simp (and-assoc, and-with-true)
 
 pub reckon-refusals : (K : Shape) → IsShape K → ReckonDemand1 K (reckonCall K)
 unfolding reckonCall reckonRefusal linkFaults reckonGiven

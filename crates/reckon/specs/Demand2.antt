@@ -21,8 +21,7 @@ use Rattle.map.specs.declared.Record.{Record}
 use Rattle.search.specs.SearchCall.{searchLeft}
 use Rattle.search.specs.Demand2.{KeepsPast, IsSearch}
 use Rattle.search.specs.declared.Found.the-variants.{Reached}
-use Rattle.rounds.specs.Leaves.{Lent}
-use Rattle.rounds.specs.Sizes.{sizesOf}
+use Rattle.map.specs.Room.{Lent, sizesOf}
 use Rattle.reckon.specs.ReckonCall.{reckonRefusal, ReckonLeft, reckoningNumber, searchesOf}
 use Rattle.reckon.specs.declared.Reckoning.the-variants.{Searches, Refused}
 

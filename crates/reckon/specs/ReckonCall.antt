@@ -11,8 +11,8 @@ use Rattle.graph.specs.Rounds.{State, reckon}
 use Rattle.map.specs.Memory.{Shape, places, mapNetwork}
 use Rattle.checks.specs.Sound.{soundLinks}
 use Rattle.map.specs.declared.Record.{Record}
-use Rattle.rounds.specs.Leaves.{Lent, roundsLeave}
-use Rattle.rounds.specs.Sizes.{Sizes, sizesOf, longEnough}
+use Rattle.map.specs.Room.{Lent, Sizes, sizesOf, longEnough}
+use Rattle.rounds.specs.Leaves.{roundsLeave}
 use Rattle.reckon.specs.declared.Reckoning.{Reckoning}
 use Rattle.reckon.specs.declared.Reckoning.the-variants.{Searches, Refused}
 use Rattle.reckon.specs.declared.Reckoned.{Reckoned}

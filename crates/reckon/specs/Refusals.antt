@@ -1,28 +1,16 @@
 -- WHICH REFUSAL A RECKONING GIVES (rule 8.1), in the published words: demand 1 (rule 11.1) for the whole reckoning.
 -- `reckon-refusals` (proofs/Theorems) proves it of `reckonCall` for every shape.
 -- Assumes nothing.
-use mathlib.Core.List.{List, [], _∷_}
+use mathlib.Core.List.{List, _∷_}
 use Prim.Native.Nat.{ℕ}
-use lib.ListN.{length}
 use Rattle.lists.specs.Conditions.{Refuses, IsShort}
-use Rattle.map.specs.Memory.{Shape, places, tableWords, mapNetwork}
+use Rattle.map.specs.Memory.{Shape, places, mapNetwork}
 use Rattle.checks.specs.Refusals.{linkConditions}
 use Rattle.map.specs.declared.Record.{Record}
-use Rattle.rounds.specs.Leaves.{Lent}
+use Rattle.map.specs.Room.{Lent}
 use Rattle.reckon.specs.ReckonCall.{ReckonLeft, reckonLeft, reckoningNumber}
 use Rattle.reckon.specs.declared.Reckoning.the-variants.{Refused}
-
--- the buffers that a reckoning or an opening is lent, each its named size with its length: link, pair, hop, bound and skip table, two layer rows
-abbrev pub roundsBuffers : Shape → List ℕ → Lent → List (ℕ × ℕ)
-roundsBuffers K links B =
-    (tableWords K, length links)
-    ∷ (tableWords K, length (B .pairs))
-    ∷ (places K, length (B .searched .hops))
-    ∷ (places K, length (B .bounds))
-    ∷ (places K, length (B .skips))
-    ∷ (K .words, length (B .searched .even))
-    ∷ (K .words, length (B .searched .odd))
-    ∷ []
+use Rattle.map.specs.Room.{Lent, roundsBuffers}
 
 -- 1 short, 2 spoilt (links alone: whatever figures are stored), 3 apart
 abbrev pub reckonConditions : Shape → Record → List ℕ → Lent → List (Type 0 × ℕ)

@@ -7,8 +7,8 @@ ghost use Rattle.graph.specs.Rounds.{reckon};
 ghost use Rattle.graph.specs.Correct.{IsNet};
 ghost use Rattle.map.specs.Memory.{base, networkOf};
 ghost use Rattle.rounds.specs.Leaves.{ran, ranBy};
-ghost use Rattle.rounds.specs.Sizes.{sizes, longEnough};
-ghost use Rattle.rounds.specs.Slices.{lentBefore, lentAfter};
+ghost use Rattle.map.specs.Room.{sizes};
+ghost use Rattle.map.specs.Slices.{lentBefore, lentAfter};
 ghost use Rattle.reckon.specs.ReckonCall.{reckonRefusal, reckonLeft, reckonCall};
 use map::Record;
 use rounds::RoundFigures;
@@ -25,39 +25,6 @@ pub struct Reckoned {
     pub after: Record,
 }
 
-// Whether the seven buffers of a reckoning or an opening have their named sizes.
-pub fn are_long(
-    links: usize,
-    pairs: usize,
-    hops: usize,
-    bounds: usize,
-    skips: usize,
-    even: usize,
-    odd: usize,
-) -> bool
-    ensures { λ r. ⌜ r ≡ longEnough base (sizes links pairs hops bounds skips even odd) ⌝ }
-{
-    if links < 1024 {
-        return false;
-    }
-    if pairs < 1024 {
-        return false;
-    }
-    if hops < 256 {
-        return false;
-    }
-    if bounds < 256 {
-        return false;
-    }
-    if skips < 256 {
-        return false;
-    }
-    if even < 4 {
-        return false;
-    }
-    4 <= odd
-}
-
 // The first refusal of a reckoning that holds, 0 for none, by the lengths of the lent tables. It only reads.
 fn reckon_refusal(
     rec: Record,
@@ -71,7 +38,7 @@ fn reckon_refusal(
 ) -> u8
     ensures { λ r. ⌜ r ≡ reckonRefusal base rec (now (links .entry)) (sizes (length (now (links .entry))) pairs hops bounds skips even odd) ⌝ }
 {
-    if !are_long(links.len(), pairs, hops, bounds, skips, even, odd) {
+    if !map::are_long(links.len(), pairs, hops, bounds, skips, even, odd) {
         return 1;
     }
     let codes = rec.codes;

@@ -29,7 +29,8 @@ use Rattle.map.specs.Memory.{Shape, IsShape, networkOf}
 use Rattle.map.proofs.Theorems.{network-most}
 use Rattle.pairs.specs.Pairs.{tally}
 use Rattle.bounds.specs.Bounds.{marks}
-use Rattle.rounds.specs.Leaves.{lent, searchAfter, roundsLeave}
+use Rattle.map.specs.Room.{lent}
+use Rattle.rounds.specs.Leaves.{searchAfter, roundsLeave}
 use Rattle.rounds.specs.Workspace.{Workspace, workspace, runOf}
 use Rattle.rounds.proofs.Holding.{runBound, runMark, Origin, boundPlace, skipPlace, waitingPlace, Holds}
 use Rattle.rounds.proofs.Simulation.{Running, run-holds}

@@ -14,7 +14,8 @@ use Rattle.graph.specs.Chart.{countPairs}
 use Rattle.graph.specs.Rounds.{Status, waiting, skipped, searched, isWaiting, State}
 use Rattle.rows.specs.Rows.{encodeRow, encodeTable}
 use Rattle.rows.proofs.Wholes.{row-over}
-use Rattle.layers.specs.Layers.{depthFrom, layerBit, Tables, searchLeaves}
+use Rattle.layers.specs.Layers.{depthFrom, layerBit, searchLeaves}
+use Rattle.map.specs.Room.{Tables}
 use Rattle.rounds.specs.Leaves.{searchAfter}
 use Rattle.rounds.specs.Workspace.{Workspace}
 

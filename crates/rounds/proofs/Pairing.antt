@@ -20,7 +20,8 @@ use Rattle.graph.proofs.Metric.{ecc-small}
 use Rattle.graph.proofs.Charts.{chart-metric, depot-in}
 use Rattle.rows.specs.Rows.{rowBit, tableBit, encodeTable}
 use Rattle.rows.proofs.Written.{row-at, table-at}
-use Rattle.layers.specs.Layers.{depthFrom, layerBit, Tables, searchLeaves}
+use Rattle.layers.specs.Layers.{depthFrom, layerBit, searchLeaves}
+use Rattle.map.specs.Room.{Tables}
 use Rattle.layers.proofs.Theorems.{depth-is}
 use Rattle.pairs.specs.Pairs.{tally, pairsWith, tallyOf, settleOf}
 use Rattle.pairs.proofs.Tallies.{tally-ext, table-over}

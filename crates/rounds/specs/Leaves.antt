@@ -10,23 +10,15 @@ use Rattle.graph.specs.Distance.{unreached}
 use Rattle.graph.specs.Chart.{countPairs}
 use Rattle.graph.specs.Rounds.{State, markOf, boundOf}
 use Rattle.rows.specs.Rows.{encodeTable}
-use Rattle.layers.specs.Layers.{Tables, searchLeaves}
+use Rattle.map.specs.Room.{Tables}
+use Rattle.layers.specs.Layers.{searchLeaves}
 use Rattle.map.specs.Memory.{Shape, places}
+use Rattle.map.specs.Room.{Lent}
 
 -- the hop table and the layer rows (rule 6.5): what the last search leaves; as they were without a search
 unfoldable pub searchAfter : ℕ → Network → List ℕ → Tables → Tables
 searchAfter W G [] B = B
 searchAfter W G (r ∷ rs) B = searchLeaves W G (lastOr r rs) B
-
--- the tables of a reckoning or opening, the link table apart
-pub record Lent : Type 0 where
-  pub pairs : List ℕ
-  pub searched : Tables
-  pub bounds : List ℕ
-  pub skips : List ℕ
-
-abbrev pub lent : List ℕ → Tables → List ℕ → List ℕ → Lent
-lent p T b s = record { pairs = p; searched = T; bounds = b; skips = s }
 
 -- the pairs that the rounds found, and each code's place of the bound and the skip table (rules 6.1 and 6.2)
 unfoldable pub roundsLeave : Shape → Network → State → Lent → Lent

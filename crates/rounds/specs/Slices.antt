@@ -1,14 +1,11 @@
--- THE LENT SLICES AS ONE VALUE, so that a contract names them once: by the references that a `requires` sees, and by those of an `ensures`, each
+-- THE WORKSPACE OF THE ROUNDS AS ONE VALUE, so that a contract names them once: by the references that a `requires` sees, and by those of an `ensures`, each
 -- at both moments of the call.
 -- Assumes nothing.
 use Prim.Native.Nat.{ℕ}
 use denote.Ref.{now}
-use lib.ListN.{length}
-use Rattle.layers.specs.Slices.{Slice, Moments, tablesAt}
+use Rattle.map.specs.Slices.{Slice, Moments, tablesAt}
 use Rattle.pairs.specs.Pairs.{tally}
 use Rattle.bounds.specs.Slices.{marksAt}
-use Rattle.rounds.specs.Leaves.{Lent, lent}
-use Rattle.rounds.specs.Sizes.{Sizes, sizes}
 use Rattle.rounds.specs.Workspace.{Workspace, workspace}
 
 -- ---- the workspace of the rounds: hops, even, odd, pairs, bounds, skips, ranks; then candidate, count and searches
@@ -24,29 +21,3 @@ workspaceBefore W hops even odd pairs bounds skips ranks =
 abbrev pub workspaceAfter : ℕ → Moments → Moments → Moments → Moments → Moments → Moments → Moments → ℕ → ℕ → ℕ → Workspace
 workspaceAfter W hops even odd pairs bounds skips ranks =
     workspaceAt W (hops .exit) (even .exit) (odd .exit) (pairs .exit) (bounds .exit) (skips .exit) (ranks .exit)
-
--- ---- the lent tables: pairs, hops, bounds, skips, even, odd
-
-abbrev pub lentAt : Slice → Slice → Slice → Slice → Slice → Slice → Lent
-lentAt pairs hops bounds skips even odd = lent (now pairs) (tablesAt hops even odd) (now bounds) (now skips)
-
-abbrev pub lentBefore : Moments → Moments → Moments → Moments → Moments → Moments → Lent
-lentBefore pairs hops bounds skips even odd =
-    lentAt (pairs .entry) (hops .entry) (bounds .entry) (skips .entry) (even .entry) (odd .entry)
-
-abbrev pub lentAfter : Moments → Moments → Moments → Moments → Moments → Moments → Lent
-lentAfter pairs hops bounds skips even odd =
-    lentAt (pairs .exit) (hops .exit) (bounds .exit) (skips .exit) (even .exit) (odd .exit)
-
--- ---- the lengths: links, pairs, hops, bounds, skips, even, odd
-
-abbrev pub sizesAt : Slice → Slice → Slice → Slice → Slice → Slice → Slice → Sizes
-sizesAt links pairs hops bounds skips even odd =
-    sizes
-    (length (now links))
-    (length (now pairs))
-    (length (now hops))
-    (length (now bounds))
-    (length (now skips))
-    (length (now even))
-    (length (now odd))

@@ -10,7 +10,8 @@ use lib.ListN.{length}
 use Rattle.lists.specs.Lists.{range, mapl, overwrite}
 use Rattle.graph.specs.Distance.{unreached}
 use Rattle.rows.specs.Rows.{rowBit, encodeRow, encodeTable}
-use Rattle.layers.specs.Layers.{Tables, searchTable}
+use Rattle.map.specs.Room.{Tables}
+use Rattle.layers.specs.Layers.{searchTable}
 use Rattle.pairs.specs.Pairs.{Tally, settleOf}
 use Rattle.bounds.specs.Bounds.{Marks, marks, leaveOf, relaxOf}
 use Rattle.ranks.specs.Ranks.{pickIn}

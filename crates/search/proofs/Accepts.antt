@@ -17,7 +17,8 @@ use Rattle.graph.specs.Chart.{chart, ecc}
 use Rattle.graph.specs.Correct.{IsNet}
 use Rattle.graph.proofs.Connected.{connected-iff}
 use Rattle.rows.specs.Rows.{tableBit}
-use Rattle.layers.specs.Layers.{Tables, tables, Searched, searched, searchLeaves, searchTable}
+use Rattle.map.specs.Room.{Tables, tables}
+use Rattle.layers.specs.Layers.{Searched, searched, searchLeaves, searchTable}
 use Rattle.layers.proofs.Theorems.{table-depth, table-leaves, depth-is}
 use Rattle.map.specs.Memory.{Shape, places, tableWords, IsShape, networkOf, mapNetwork}
 use Rattle.checks.specs.Sound.{soundLinks}

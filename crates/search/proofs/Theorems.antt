@@ -24,7 +24,8 @@ use Rattle.graph.proofs.Connected.{hop-open, hop-closed}
 use Rattle.graph.proofs.Theorems.{eccentricity-is, distance-below}
 use Rattle.rows.specs.Rows.{rowBit, encodeRow}
 use Rattle.rows.proofs.Written.{row-past, row-at, row-of-table, table-zero, encode-row-length}
-use Rattle.layers.specs.Layers.{depthFrom, layerBit, Tables, searchLeaves}
+use Rattle.layers.specs.Layers.{depthFrom, layerBit, searchLeaves}
+use Rattle.map.specs.Room.{Tables}
 use Rattle.layers.proofs.Theorems.{depth-is, layer-is}
 use Rattle.map.specs.Memory.{Shape, places, IsShape, mapNetwork}
 use Rattle.map.proofs.Theorems.{network-open-below}

@@ -11,7 +11,7 @@ use lib.ListN.{length, getD, drop}
 use Rattle.graph.specs.Network.{Network, IsDist, IsEcc, delivers}
 use Rattle.graph.specs.Distance.{unreached}
 use Rattle.rows.specs.Rows.{rowBit}
-use Rattle.layers.specs.Layers.{Tables}
+use Rattle.map.specs.Room.{Tables}
 use Rattle.map.specs.Memory.{Shape, places, mapNetwork}
 use Rattle.map.specs.declared.Record.{Record}
 use Rattle.search.specs.SearchCall.{searchRefusal, SearchLeft, searchCall, lastLayer}

@@ -6,7 +6,7 @@ use Prim.Native.Nat.{ℕ}
 use lib.ListN.{length}
 use Rattle.lists.specs.Conditions.{Refuses, IsShort}
 use Rattle.graph.specs.Refusals.{IsAbsent}
-use Rattle.layers.specs.Layers.{Tables}
+use Rattle.map.specs.Room.{Tables}
 use Rattle.map.specs.Memory.{Shape, places, tableWords, mapNetwork}
 use Rattle.checks.specs.Refusals.{linkConditions}
 use Rattle.map.specs.declared.Record.{Record}

@@ -8,7 +8,8 @@ use lib.ListN.{length, take}
 use Rattle.lists.specs.Lists.{firstOf}
 use Rattle.graph.specs.Distance.{connected}
 use Rattle.graph.specs.Chart.{chart, ecc}
-use Rattle.layers.specs.Layers.{Tables, searchLeaves}
+use Rattle.map.specs.Room.{Tables}
+use Rattle.layers.specs.Layers.{searchLeaves}
 use Rattle.map.specs.Memory.{Shape, places, tableWords, mapNetwork}
 use Rattle.checks.specs.Sound.{soundLinks}
 use Rattle.map.specs.declared.Record.{Record}

@@ -9,7 +9,7 @@ ghost use Rattle.lists.specs.Lists.{range, allb};
 ghost use Rattle.graph.specs.Network.{IsSound};
 ghost use Rattle.graph.specs.Distance.{unreached, connected};
 ghost use Rattle.rows.specs.Rows.{rowBit};
-ghost use Rattle.layers.specs.Slices.{tablesAt, tablesBefore, tablesAfter};
+ghost use Rattle.map.specs.Slices.{tablesAt, tablesBefore, tablesAfter};
 ghost use Rattle.map.specs.Memory.{base, networkOf};
 ghost use Rattle.map.specs.Bits.{IsLent};
 ghost use Rattle.search.specs.SearchCall.{searchRefusal, searchLeft, searchCall, lastLayer, rowsLeft, rowsOf};

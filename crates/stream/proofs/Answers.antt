@@ -10,7 +10,7 @@ use Rattle.lists.specs.Lists.{overwrite}
 use Rattle.outcome.specs.Numbers.{garbledLine}
 use Rattle.map.specs.Memory.{base}
 use Rattle.map.specs.declared.Record.{Record}
-use Rattle.rounds.specs.Leaves.{Lent}
+use Rattle.map.specs.Room.{Lent}
 use Rattle.hexadecimal.specs.Hex.{isByte}
 use Rattle.notice.specs.Lines.{Line, garbled, frame, readLine}
 use Rattle.notice.specs.Calls.{frameLimit, lineDone, lineRefused, readingOf, LineLeft, lineLeft, readInto, readCall}

@@ -10,11 +10,9 @@ use lib.ListN.{length, getD, take, drop, set, length-drop, drop-of-length-le}
 use lib.Seq.{drop-cons, drop-drop}
 use borrow.Author.Tests.{ltb-true}
 use Rattle.lists.proofs.Tests.{clash}
-use Rattle.layers.specs.Layers.{tables}
+use Rattle.map.specs.Room.{tables, Lent, lent, sizes, sizesOf}
 use Rattle.map.specs.Memory.{base}
 use Rattle.map.specs.declared.Record.{Record}
-use Rattle.rounds.specs.Leaves.{Lent, lent}
-use Rattle.rounds.specs.Sizes.{sizes, sizesOf}
 use Rattle.notice.specs.Lines.{lineLimit, lineEnd, Line, garbled, frame, readLine}
 use Rattle.hexadecimal.specs.Hex.{isByte}
 use Rattle.notice.proofs.Tests.{frame-parts}

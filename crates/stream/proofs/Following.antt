@@ -19,14 +19,13 @@ use Rattle.graph.proofs.Theorems.{farthest-is}
 use Rattle.map.specs.Memory.{base, places, tableWords}
 use Rattle.map.specs.Empty.{zeros, emptyRecord}
 use Rattle.map.specs.declared.Record.{Record}
-use Rattle.rounds.specs.Leaves.{Lent}
-use Rattle.rounds.specs.Sizes.{sizesOf, longEnough}
+use Rattle.map.specs.Room.{Lent, sizesOf, longEnough}
 use Rattle.hexadecimal.specs.Hex.{isByte}
 use Rattle.notice.specs.Lines.{Line, garbled, frame, readLine}
 use Rattle.notice.proofs.Tests.{frame-parts}
 use Rattle.lists.proofs.Scans.{all-at}
 use Rattle.notice.proofs.Theorems.{read-frame}
-use Rattle.opening.specs.UpdateCall.{updateRefusal, networkAfter, updatedBy, UpdateLeft, updateGiven, updateCall}
+use Rattle.opening.specs.UpdateCall.{updateRefusal, networkAfter, updatedBy, UpdateLeft, updateGiven, updateCall, IsWithin}
 use Rattle.opening.specs.Steps.{mapRefusal}
 use Rattle.plain_list.specs.PlainList.{moved, plainAnswer, plainNext}
 use Rattle.opening.specs.Memory.{Memory, emptyMemory}
@@ -41,7 +40,6 @@ use Rattle.line_buffer.specs.Lines.{reportOf}
 use Rattle.stream.specs.Feeding.{answerTo}
 use Rattle.map.proofs.Theorems.{base-shape}
 use Rattle.graph.proofs.Delivers.{delivers-open}
-use Rattle.opening.specs.UpdateCall.{IsWithin}
 
 -- ---- the number of farthest pairs is that of pairs of open depots
 

@@ -13,7 +13,7 @@ use Rattle.lists.specs.Lists.{overwrite}
 use Rattle.lists.proofs.Tests.{look}
 use Rattle.graph.specs.Network.{Network}
 use Rattle.map.specs.Memory.{base}
-use Rattle.rounds.specs.Sizes.{sizesOf, longEnough}
+use Rattle.map.specs.Room.{sizesOf, longEnough}
 use Rattle.notice.specs.Lines.{lineEnd, readLine}
 use Rattle.report.specs.Line.{bufferLimit, reportLine}
 use Rattle.opening.proofs.Memories.{IsHeld, Says}

@@ -10,8 +10,7 @@ use lib.ListN.{length, take}
 use borrow.Author.Tests.{lt-leb, le-leb}
 use Rattle.graph.specs.Opening.{emptyNetwork}
 use Rattle.map.specs.Memory.{base, places, tableWords}
-use Rattle.rounds.specs.Leaves.{Lent}
-use Rattle.rounds.specs.Sizes.{sizesOf, longEnough}
+use Rattle.map.specs.Room.{Lent, sizesOf, longEnough}
 use Rattle.notice.specs.Lines.{lineLimit}
 use Rattle.report.specs.Line.{bufferLimit}
 use Rattle.opening.proofs.Memories.{Says}

@@ -7,7 +7,7 @@ use lib.Dec.{eqb}
 use lib.ListN.{length, take}
 use borrow.Author.Tests.{eq-eqb, ne-eqb}
 use Rattle.lists.proofs.Tests.{or-right}
-use Rattle.rounds.specs.Leaves.{Lent}
+use Rattle.map.specs.Room.{Lent}
 use Rattle.notice.specs.Lines.{readLine}
 use Rattle.report.specs.Line.{reportLine}
 use Rattle.opening.specs.UpdateCall.{updateLeft}

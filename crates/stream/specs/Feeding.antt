@@ -10,8 +10,7 @@ use Rattle.lists.specs.Lists.{overwrite}
 use Rattle.map.specs.Memory.{base, tableWords}
 use Rattle.map.specs.Empty.{zeros, emptyRecord}
 use Rattle.map.specs.declared.Record.{Record}
-use Rattle.rounds.specs.Leaves.{Lent}
-use Rattle.rounds.specs.Sizes.{sizesOf}
+use Rattle.map.specs.Room.{Lent, sizesOf}
 use Rattle.outcome.specs.Numbers.{garbledLine}
 use Rattle.opening.specs.UpdateCall.{UpdateLeft, leftOf, updateCall}
 use Rattle.opening.specs.Steps.{mapRefusal, refusedWith}

@@ -6,8 +6,7 @@ use mathlib.Core.List.{List, [], _∷_, _++_}
 use Prim.Native.Nat.{ℕ, _≤_}
 use lib.ListN.{length, take}
 use Rattle.map.specs.Memory.{base}
-use Rattle.rounds.specs.Leaves.{Lent}
-use Rattle.rounds.specs.Sizes.{sizesOf, longEnough}
+use Rattle.map.specs.Room.{Lent, sizesOf, longEnough}
 use Rattle.notice.specs.Lines.{lineLimit}
 use Rattle.stream.specs.Feeding.{beginCall, Feeding, feedCall, finishCall}
 use Rattle.stream.specs.declared.Progress.{Progress}

@@ -3,7 +3,7 @@ ghost use mathlib.Core.Path.{_≡_};
 ghost use Prim.Native.Nat.{_+_, _≤_, _<_};
 ghost use lib.ListN.{length};
 ghost use Rattle.map.specs.Memory.{base, tableWords};
-ghost use Rattle.rounds.specs.Slices.{lentAt, lentBefore, lentAfter, sizesAt};
+ghost use Rattle.map.specs.Slices.{lentAt, lentBefore, lentAfter, sizesAt};
 ghost use Rattle.notice.specs.Lines.{readLine};
 ghost use Rattle.report.specs.Line.{bufferLimit};
 ghost use Rattle.opening.specs.UpdateCall.{updateLeft};

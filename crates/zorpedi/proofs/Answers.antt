@@ -11,7 +11,7 @@ use Rattle.lists.proofs.Members.{first-zero}
 use Rattle.graph.specs.Distance.{connected}
 use Rattle.graph.specs.Updates.{Update, updateFaults}
 use Rattle.rows.specs.Rows.{tableBit}
-use Rattle.layers.specs.Layers.{Tables}
+use Rattle.map.specs.Room.{Tables, Lent, sizesOf, longEnough}
 use Rattle.map.specs.Memory.{base, networkOf}
 use Rattle.checks.specs.Sound.{soundLinks, soundFigures}
 use Rattle.map.specs.Empty.{EmptyLeft, emptyLeft, emptyRefusal, emptyGiven, emptyCall}
@@ -21,8 +21,6 @@ use Rattle.map.specs.declared.Emptying.the-variants.{Done, Refused as NoEmptyin
 use Rattle.search.specs.SearchCall.{SearchLeft, searchLeft, searchRoom, searchRefusal, searchGiven, searchCall}
 use Rattle.search.specs.declared.Found.{Found}
 use Rattle.search.specs.declared.Found.the-variants.{Reached, Refused as NoSearch}
-use Rattle.rounds.specs.Leaves.{Lent}
-use Rattle.rounds.specs.Sizes.{sizesOf, longEnough}
 use Rattle.reckon.specs.ReckonCall.{ReckonLeft, reckonLeft, linkFaults, reckonRefusal, figuredBy, reckonGiven, reckonCall}
 use Rattle.reckon.specs.declared.Reckoned.{Reckoned}
 use Rattle.reckon.specs.declared.Reckoning.the-variants.{Searches, Refused as NoReckoning}

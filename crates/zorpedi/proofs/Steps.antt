@@ -6,11 +6,9 @@ use Prim.Native.Nat.{ℕ, zero, suc}
 use lib.Dec.{eqb}
 use lib.ListN.{length}
 use Rattle.lists.specs.Lists.{overwrite}
-use Rattle.layers.specs.Layers.{tables}
+use Rattle.map.specs.Room.{tables, Lent, lent, sizes, sizesOf}
 use Rattle.map.specs.Memory.{base}
 use Rattle.map.specs.declared.Record.{Record}
-use Rattle.rounds.specs.Leaves.{Lent, lent}
-use Rattle.rounds.specs.Sizes.{sizes, sizesOf}
 use Rattle.opening.specs.Steps.{mapRefusal}
 use Rattle.line_buffer.specs.Lines.{isStopped}
 use Rattle.stream.specs.Feeding.{Feeding, feeding, progressOf, fedOf, IsReady, tookLine, feedCall, finishCall}

@@ -11,8 +11,7 @@ use Rattle.graph.specs.Opening.{Change, grew, kept, shrank}
 use Rattle.rows.specs.Rows.{encodeRow}
 use Rattle.rows.proofs.Written.{encode-row-length}
 use Rattle.map.specs.Memory.{base}
-use Rattle.rounds.specs.Leaves.{Lent}
-use Rattle.rounds.specs.Sizes.{sizesOf}
+use Rattle.map.specs.Room.{Lent, sizesOf}
 use Rattle.opening.specs.UpdateCall.{changeOf, updateRefusal, networkAfter, updatedBy, UpdateLeft, updateGiven, updateCall}
 use Rattle.c_values.specs.Words.{recordWords, recordOf}
 use Rattle.c_values.proofs.Theorems.{words-read}

@@ -4,8 +4,7 @@ use mathlib.Core.List.{List}
 use Prim.Native.Nat.{ℕ, zero, suc}
 use lib.ListN.{length}
 use Rattle.lists.specs.Lists.{overwrite}
-use Rattle.rounds.specs.Leaves.{Lent}
-use Rattle.rounds.specs.Sizes.{sizesOf}
+use Rattle.map.specs.Room.{Lent, sizesOf}
 use Rattle.stream.specs.Feeding.{Feeding, progressOf, feedCall, finishCall}
 use Rattle.c_values.specs.Words.{recordOf, wordsOf}
 use Rattle.c_values.specs.Refusal.{stepRefusal}

@@ -7,7 +7,7 @@ use lib.Dec.{ltb}
 use lib.ListN.{length}
 use Rattle.lists.specs.Lists.{overwrite}
 use Rattle.graph.specs.Updates.{Update}
-use Rattle.layers.specs.Layers.{Tables}
+use Rattle.map.specs.Room.{Tables, Lent}
 use Rattle.map.specs.Memory.{base}
 use Rattle.map.specs.Empty.{EmptyLeft, emptyCall}
 use Rattle.map.specs.declared.Emptying.{Emptying}
@@ -15,7 +15,6 @@ use Rattle.map.specs.declared.Emptying.the-variants.{Done, Refused as NoEmptyin
 use Rattle.search.specs.SearchCall.{searchCall}
 use Rattle.search.specs.declared.Found.{Found}
 use Rattle.search.specs.declared.Found.the-variants.{Reached, Refused as NoSearch}
-use Rattle.rounds.specs.Leaves.{Lent}
 use Rattle.reckon.specs.ReckonCall.{ReckonLeft, reckonCall}
 use Rattle.reckon.specs.declared.Reckoning.{Reckoning}
 use Rattle.reckon.specs.declared.Reckoning.the-variants.{Searches, Refused as NoReckoning}

@@ -1,7 +1,6 @@
 // The calls on one map.
 ghost use mathlib.Core.Path.{_≡_};
-ghost use Rattle.layers.specs.Slices.{tablesBefore, tablesAfter};
-ghost use Rattle.rounds.specs.Slices.{lentBefore, lentAfter};
+ghost use Rattle.map.specs.Slices.{tablesBefore, tablesAfter, lentBefore, lentAfter};
 ghost use Rattle.graph.specs.Updates.{opens};
 ghost use Rattle.opening.specs.Steps.{noticeOf};
 ghost use Rattle.zorpedi.specs.Outs.{emptyOut, emptiedOut, searchOut, searchedOut, reckonOut, reckonedOut, openOut, openedOut};

@@ -1,6 +1,6 @@
 // The step of the stream.
 ghost use mathlib.Core.Path.{_≡_};
-ghost use Rattle.rounds.specs.Slices.{lentBefore, lentAfter};
+ghost use Rattle.map.specs.Slices.{lentBefore, lentAfter};
 ghost use Rattle.zorpedi.specs.Feeds.{fedOut, feedOut, finishOut};
 use stream::Progress;
 

@@ -4,8 +4,7 @@ use Prim.Native.Nat.{_-_, _≤_}
 use native.Mathlib.Omega.{arith}
 use lib.ListN.{length}
 use lib.Seq.{length-take-le}
-use Rattle.layers.specs.Layers.{tables}
-use Rattle.rounds.specs.Leaves.{lent}
+use Rattle.map.specs.Room.{tables, lent}
 use Rattle.stream.specs.Feeding.{IsReady}
 use borrow.Author.Needs.{needs}
 use Rattle.follow.proofs.answer.Statement.{statement}

@@ -2,8 +2,7 @@
 use mathlib.Core.Path.{_≡_}
 use native.Mathlib.Omega.{arith}
 use lib.ListN.{length}
-use Rattle.layers.specs.Layers.{tables}
-use Rattle.rounds.specs.Leaves.{lent}
+use Rattle.map.specs.Room.{tables, lent}
 use Rattle.stream.specs.Feeding.{IsReady}
 use borrow.Author.Needs.{needs}
 use Rattle.follow.proofs.answer_all.Statement.{statement}

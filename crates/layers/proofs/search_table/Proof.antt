@@ -6,7 +6,7 @@ use native.Mathlib.Omega.{arith}
 use lib.ListN.{length}
 use borrow.Author.Needs.{needs}
 use borrow.Author.Tests.{not-true, not-false}
-use Rattle.layers.specs.Layers.{tables}
+use Rattle.map.specs.Room.{tables}
 use Rattle.layers.proofs.Searching.{AtLayer}
 use Rattle.layers.proofs.Turning.{turn-even, turn-odd, end-even, end-odd, at-loop, from-loop}
 use Rattle.layers.proofs.search_table.Statement.{statement}

@@ -48,9 +48,8 @@ use denote.Signature.{plain, typesAt}
 use Rattle.map.specs.declared.Record.{Record}
 use Rattle.opening.specs.declared.Returned.{Returned}
 use Rattle.graph.specs.Updates.{opens as opensDepot}
-use Rattle.layers.specs.Layers.{tables}
+use Rattle.map.specs.Room.{tables, lent}
 use Rattle.map.specs.Memory.{base as baseShape}
-use Rattle.rounds.specs.Leaves.{lent}
 use Rattle.opening.specs.UpdateCall.{updateLeft, updateCall}
 use Rattle.opening.specs.Steps.{noticeOf}
 use Rattle.lent_opening.proofs.Records.{R, vals, report-val}

@@ -9,9 +9,9 @@ use lib.ListN.{length}
 use Rattle.rows.specs.Rows.{tableBit}
 use Rattle.map.specs.Memory.{base, networkOf}
 use Rattle.checks.specs.Sound.{soundLinks, soundFigures}
-use Rattle.rounds.specs.Sizes.{sizes, longEnough}
+use Rattle.map.specs.Room.{sizes, longEnough}
 use Rattle.checks.proofs.Theorems.{figures-any-links}
-use Rattle.reckon.proofs.Longs.{are-long}
+use Rattle.map.proofs.Longs.{are-long}
 use Rattle.reckon.proofs.Reckons.{sound-by}
 use Rattle.opening.proofs.Refuses.{refused-short, refused-links, refused-figures, refused-apart, refused-never}
 use borrow.Author.Needs.{needs}

@@ -3,7 +3,7 @@
 use native.Mathlib.Omega.{arith}
 use Rattle.lists.proofs.Tests.{test-failed, test-passed}
 use Rattle.map.specs.Memory.{base}
-use Rattle.reckon.proofs.Longs.{are-long}
+use Rattle.map.proofs.Longs.{are-long}
 use Rattle.reckon.proofs.Reckons.{refused-short, refused-spoilt, refused-apart, refused-never, sound-by}
 use borrow.Author.Needs.{needs}
 use Rattle.reckon.proofs.reckon_refusal.Statement.{statement}

@@ -7,7 +7,7 @@ use lib.ListN.{length}
 use native.Mathlib.Omega.{arith}
 use Rattle.lists.specs.Lists.{range, countb}
 use Rattle.rows.specs.Rows.{rowBit}
-use Rattle.layers.specs.Layers.{tables}
+use Rattle.map.specs.Room.{tables}
 use Rattle.pairs.specs.Pairs.{tally}
 use Rattle.bounds.specs.Bounds.{marks}
 use Rattle.ranks.specs.Ranks.{pickIn, waitingOf, AreRanks, PickIs}

@@ -5,12 +5,11 @@ use mathlib.Core.Path.{_≡_, sym, ap, _∙_, subst}
 use Prim.Native.Nat.{_-_, _≤_}
 use native.Mathlib.Omega.{arith}
 use lib.ListN.{length}
-use Rattle.layers.specs.Layers.{tables}
-use Rattle.rounds.specs.Leaves.{lent}
+use Rattle.map.specs.Room.{tables, lent}
 use Rattle.stream.specs.Feeding.{Feeding, feeding}
 use Rattle.line_buffer.proofs.Stops.{going}
-use Rattle.stream.proofs.Feeds.{AtTurn, call-ended, call-stopped, at-start, ready-turn, call-is, free-sizes, took-used, turn-held}
-use Rattle.stream.proofs.Feeds.{part-free, part-held, part-beyond, part-inside, turn-next}
+use Rattle.stream.proofs.Feeds.{AtTurn, call-ended, call-stopped, at-start, ready-turn, call-is, free-sizes, took-used, turn-held, part-free}
+use Rattle.stream.proofs.Feeds.{part-held, part-beyond, part-inside, turn-next}
 use borrow.Author.Needs.{needs}
 use Rattle.stream.proofs.feed.Statement.{statement}
 use Rattle.stream.proofs.feed.Tie as tie

@@ -1,9 +1,9 @@
 -- `reckon::are_long` meets its contract: one test for each buffer, in the definition's order.
 -- Assumes nothing.
 use Rattle.map.specs.Memory.{base}
-use Rattle.reckon.proofs.Longs.{short-links, short-pairs, short-hops, short-bounds, short-skips, short-even, long-odd}
-use Rattle.reckon.proofs.are_long.Statement.{statement}
-use Rattle.reckon.proofs.are_long.Tie as tie
+use Rattle.map.proofs.Longs.{short-links, short-pairs, short-hops, short-bounds, short-skips, short-even, long-odd}
+use Rattle.map.proofs.are_long.Statement.{statement}
+use Rattle.map.proofs.are_long.Tie as tie
 
 returns-7 : tie.Need-returns-7
 returns-7 c =

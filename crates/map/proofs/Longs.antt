@@ -1,12 +1,16 @@
 -- The seven sizes, by the code's seven tests. Assumes nothing.
 use mathlib.Core.Path.{_≡_}
-use mathlib.Core.Bool.{true, false, _&&_}
+use mathlib.Core.Bool.{true, false, _&&_, and-assoc, and-true as and-with-true}
 use Prim.Native.Nat.{ℕ, _≤_, _<_}
 use lib.Dec.{leb}
 use borrow.Author.Tests.{leb-true, le-leb, lt-leb}
 use Rattle.lists.proofs.Tests.{and-true}
 use Rattle.map.specs.Memory.{Shape, places, tableWords}
-use Rattle.rounds.specs.Sizes.{Sizes, sizes, longEnough}
+use Rattle.map.specs.Room.{Sizes, sizes, longEnough}
+use mathlib.Core.List.{List}
+use Rattle.lists.proofs.Conditions.{allFit}
+use Rattle.map.specs.Room.{Lent, sizesOf, roundsBuffers}
+use Rattle.lists.specs.Lists.{allb}
 
 -- every buffer has its named size
 pub record AreLong (K : Shape) (z : Sizes) : Type 0 where
@@ -80,3 +84,8 @@ module _ (K : Shape) (l p h b s e o : ℕ) where
             pub long-odd : K .words ≤ e → leb (K .words) o ≡ longEnough K (sizes l p h b s e o)
             unfolding longEnough
             long-odd x = rw (le-leb (tableWords K) l a, le-leb (tableWords K) p c, le-leb (places K) h d, le-leb (places K) b f, le-leb (places K) s g, le-leb (K .words) e x)
+
+-- the code's test of the sizes, and the condition's
+pub long-is : (K : Shape) (links : List ℕ) (B : Lent) → longEnough K (sizesOf links B) ≡ allFit (roundsBuffers K links B)
+unfolding longEnough sizesOf allb
+long-is K links B = simp (and-assoc, and-with-true)
