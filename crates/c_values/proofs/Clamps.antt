@@ -24,6 +24,7 @@ use Rattle.pairs.proofs.PairCounts.{pairs-few}
 use Rattle.map.specs.Room.{Sizes, longEnough}
 use Rattle.opening.specs.Steps.{mapRefusal}
 use Rattle.c_values.specs.Words.{recordOf, clampedOf}
+use Rattle.lent_map.specs.Faults.{lentFaults, lentRefusal}
 
 -- ---- tests against a number below the largest
 
@@ -87,7 +88,7 @@ module _ (codes links : List ℕ) where
 
 module _ (l links pairs : List ℕ) (z : Sizes) where
   pub map-clamp : mapRefusal base (clampedOf l) links pairs z ≡ mapRefusal base (recordOf l) links pairs z
-  unfolding mapRefusal clampedOf recordOf
+  unfolding mapRefusal lentRefusal lentFaults clampedOf recordOf
   map-clamp =
       ap₂
       (λ (t u : Bool). firstOf ((not (longEnough base z), 1) ∷ (not (t && u), 2) ∷ (not (connected (networkOf 4 (take 4 l) links)), 3) ∷ []))
@@ -96,7 +97,7 @@ module _ (l links pairs : List ℕ) (z : Sizes) where
 
   -- where nothing refuses the map, the record read is the record lent
   pub clamped-is : mapRefusal base (recordOf l) links pairs z ≡ 0 → clampedOf l ≡ recordOf l
-  unfolding mapRefusal clampedOf recordOf
+  unfolding mapRefusal lentRefusal lentFaults clampedOf recordOf
   clamped-is e =
       let N = networkOf 4 (take 4 l) links in
       let P = tableBit 4 pairs in

@@ -1,7 +1,7 @@
 -- A PATH RECKONED ON LENT MEMORY: the call is not refused, and its result is that of the network's own reckoning. Assumes nothing.
-use mathlib.Core.Path.{_≡_, sym, ap, _∙_}
-use mathlib.Core.Bool.{true, cond}
-use mathlib.Core.List.{List}
+use mathlib.Core.Path.{_≡_, refl, sym, ap, _∙_}
+use mathlib.Core.Bool.{true, cond, false}
+use mathlib.Core.List.{List, []}
 use Prim.Native.Nat.{ℕ, _≤_}
 use lib.Dec.{T}
 use lib.ListN.{length, take}
@@ -24,7 +24,7 @@ use Rattle.map.specs.Room.{Lent, sizesOf}
 use Rattle.rounds.specs.Leaves.{roundsLeave}
 use Rattle.reckon.specs.ReckonCall.{reckonRefusal, figuredBy, ReckonLeft, reckonGiven, reckonCall}
 use Rattle.reckon.specs.declared.Reckoning.the-variants.{Searches}
-use Rattle.reckon.proofs.Reckons.{refused-never}
+use Rattle.lent_map.proofs.Refuses.{refused-never}
 use Rattle.opening.proofs.Memories.{IsHeld, pairs-read}
 use Rattle.cases.specs.Results.{pairsIn, IsMapOf, Result, resultOf}
 use Rattle.cases.proofs.Listings.{pairs-open, count-open}
@@ -69,7 +69,8 @@ module _ (k number : ℕ) (low : k ≤ 256) (counts : number ≡ countb (path k 
   connected-pass = rw (lent .network) (connected-iff (path k) (held .net .sound) (held .net .small) .1 (held .net .connected))
 
   accepts : reckonRefusal base rec links (sizesOf links B) ≡ 0
-  accepts = sym (refused-never base rec links (sizesOf links B) (lent .long) links-pass connected-pass)
+  unfolding reckonRefusal
+  accepts = sym (refused-never base rec links [] false (lent .long) links-pass refl connected-pass)
 
   -- ---- what it leaves
 

@@ -34,6 +34,7 @@ use Rattle.opening.proofs.Memories.{IsHeld, Stores, number-is, depots-f
 use Rattle.graph.proofs.Delivers.{delivers-open}
 use Rattle.graph.specs.Updates.{Update, opens, updateFaults, applied, IsLawful}
 use Rattle.graph.proofs.Updates.{update-lawful}
+use Rattle.lent_map.specs.Faults.{lentFaults}
 
 -- the definition of specs/UpdateCall.antt, opened one step
 pub after-is : (K : Shape) (rec : Record) (links : List ℕ) (o : Update) → networkAfter K rec links o ≡ applied (mapNetwork K rec links) o
@@ -57,11 +58,11 @@ module _ (K : Shape) (shape : IsShape K) (rec : Record) (links pairs : List ℕ)
 
   -- the tests that were passed
   pub granted-long : longEnough K sizes ≡ true
-  unfolding updateRefusal
+  unfolding updateRefusal lentFaults
   granted-long = not-false (longEnough K sizes) (first-zero (not (longEnough K sizes)) 0 _ ok .0)
 
   granted-sound : (soundLinks (places K) N (rec .number) ≡ true) × (soundFigures (places K) N P (rec .chain) (rec .count) ≡ true) × (connected N ≡ true) × (firstOf (updateFaults N o) ≡ 0)
-  unfolding updateRefusal
+  unfolding updateRefusal lentFaults
   granted-sound =
       let a = first-zero (not (longEnough K sizes)) 0 _ ok in
       let b = first-zero (not (soundLinks (places K) N (rec .number) && soundFigures (places K) N P (rec .chain) (rec .count))) 1 _ (a .1) in
@@ -162,7 +163,7 @@ module _ (K : Shape) (shape : IsShape K) (G : Network) (held : IsHeld K G) where
       R = mapNetwork K rec links
 
       pub refused-alike : updateRefusal K rec links pairs sizes o ≡ firstOf ((not (longEnough K sizes), 1) ∷ updateFaults G o)
-      unfolding updateRefusal firstOf
+      unfolding updateRefusal lentFaults firstOf
       refused-alike = go (longEnough K sizes) refl
         where
           go : (b : Bool) → longEnough K sizes ≡ b

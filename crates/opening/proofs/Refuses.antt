@@ -19,6 +19,7 @@ use Rattle.map.specs.declared.Record.{Record}
 use Rattle.opening.specs.UpdateCall.{updateRefusal, UpdateLeft, updateLeft, updateGiven, updateCall}
 use Rattle.opening.specs.Steps.{mapRefusal, refusedWith}
 use Rattle.opening.specs.declared.Returned.{Returned}
+use Rattle.lent_map.specs.Faults.{lentFaults, lentRefusal}
 
 module _ (K : Shape) (rec : Record) (links pairs : List ℕ) (z : Sizes) where
   abbrev G : Network
@@ -27,27 +28,15 @@ module _ (K : Shape) (rec : Record) (links pairs : List ℕ) (z : Sizes) where
   abbrev P : Pairs
   P = tableBit (K .words) pairs
 
-  pub refused-short : longEnough K z ≡ false → 1 ≡ mapRefusal K rec links pairs z
-  unfolding mapRefusal firstOf
-  refused-short a = rw a
-
-  pub refused-links : longEnough K z ≡ true → soundLinks (places K) G (rec .number) ≡ false → 2 ≡ mapRefusal K rec links pairs z
-  unfolding mapRefusal firstOf
-  refused-links a b = rw (a, b)
-
-  pub refused-figures : longEnough K z ≡ true → soundLinks (places K) G (rec .number) ≡ true → soundFigures (places K) G P (rec .chain) (rec .count) ≡ false → 2 ≡ mapRefusal K rec links pairs z
-  unfolding mapRefusal firstOf
-  refused-figures a b c = rw (a, b, c)
-
-  pub refused-apart : longEnough K z ≡ true → soundLinks (places K) G (rec .number) ≡ true → soundFigures (places K) G P (rec .chain) (rec .count) ≡ true → connected G ≡ false
-      → 3 ≡ mapRefusal K rec links pairs z
-  unfolding mapRefusal firstOf
-  refused-apart a b c d = rw (a, b, c, d)
-
   pub refused-never : longEnough K z ≡ true → soundLinks (places K) G (rec .number) ≡ true → soundFigures (places K) G P (rec .chain) (rec .count) ≡ true → connected G ≡ true
       → 0 ≡ mapRefusal K rec links pairs z
-  unfolding mapRefusal firstOf
+  unfolding mapRefusal lentRefusal lentFaults firstOf
   refused-never a b c d = rw (a, b, c, d)
+
+  -- what the code answers for the lent map
+  pub refused-map : {k : ℕ} {b : Bool} → b ≡ longEnough K z → k ≡ lentRefusal K b true rec links pairs → k ≡ mapRefusal K rec links pairs z
+  unfolding mapRefusal
+  refused-map q e = e ∙ ap (λ (b : Bool). lentRefusal K b true rec links pairs) q
 
   -- ---- then the update
 
@@ -66,11 +55,11 @@ module _ (K : Shape) (rec : Record) (links pairs : List ℕ) (z : Sizes) where
   after false false false rest e = refl
 
   pub refused-by-map : (o : Update) (k : ℕ) → k ≡ mapRefusal K rec links pairs z → (k ≡ 0 → ⊥) → k ≡ updateRefusal K rec links pairs z o
-  unfolding mapRefusal updateRefusal
+  unfolding mapRefusal lentRefusal lentFaults updateRefusal
   refused-by-map o k e n = before (not (longEnough K z)) (not (soundLinks (places K) G (rec .number) && soundFigures (places K) G P (rec .chain) (rec .count))) (not (connected G)) (updateFaults G o) k e n
 
   refused-by-update : (o : Update) → 0 ≡ mapRefusal K rec links pairs z → firstOf (updateFaults G o) ≡ updateRefusal K rec links pairs z o
-  unfolding mapRefusal updateRefusal
+  unfolding mapRefusal lentRefusal lentFaults updateRefusal
   refused-by-update o e = after (not (longEnough K z)) (not (soundLinks (places K) G (rec .number) && soundFigures (places K) G P (rec .chain) (rec .count))) (not (connected G)) (updateFaults G o) e
 
   -- of an opening its notice's

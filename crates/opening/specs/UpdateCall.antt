@@ -1,19 +1,18 @@
 -- A CALL THAT CHANGES THE NETWORK, on lent memory, whole: its answer and every place that it leaves, for every kind of update. The opening call
 -- (section 4 of the rules) is that of `opens`: the code's contract is one equation with `updateCall`.
 -- Assumes nothing.
-use mathlib.Core.Bool.{not, _&&_}
-use mathlib.Core.List.{List, [], _∷_}
+use mathlib.Core.Bool.{true}
+use mathlib.Core.List.{List, [], _++_}
 use Prim.Native.Nat.{ℕ, zero, suc, _<_}
 use lib.ListN.{length}
 use Rattle.lists.specs.Lists.{range, overwrite, firstOf}
 use Rattle.graph.specs.Network.{Network}
-use Rattle.graph.specs.Distance.{connected, vertices}
+use Rattle.graph.specs.Distance.{vertices}
 use Rattle.graph.specs.Chart.{chart, countPairs}
 use Rattle.graph.specs.Opening.{Change, grew, kept, shrank, Opened}
 use Rattle.graph.specs.Updates.{Update, opens, updateFaults, applied, steps}
 use Rattle.rows.specs.Rows.{tableBit, encodeRow, encodeTable}
 use Rattle.map.specs.Memory.{Shape, places, mapNetwork}
-use Rattle.checks.specs.Sound.{soundLinks, soundFigures}
 use Rattle.map.specs.declared.Record.{Record}
 use Rattle.map.specs.Room.{Lent, Sizes, sizesOf, longEnough}
 use Rattle.rounds.specs.Leaves.{roundsLeave}
@@ -22,6 +21,7 @@ use Rattle.outcome.specs.declared.Outcome.{Outcome}
 use Rattle.outcome.specs.declared.Outcome.the-variants.{Accepted, Refused}
 use Rattle.opening.specs.declared.Report.{Report}
 use Rattle.opening.specs.declared.Returned.{Returned}
+use Rattle.lent_map.specs.Faults.{lentFaults}
 
 -- the answer's case for each way in which the chain moves
 unfoldable pub changeOf : Change → Outcome
@@ -31,13 +31,7 @@ changeOf shrank = Accepted Shrank
 
 -- the first refusal that holds: 1 short, 2 spoilt (links or figures), 3 apart, then the update's own; 0: none
 unfoldable pub updateRefusal : Shape → Record → List ℕ → List ℕ → Sizes → Update → ℕ
-updateRefusal K rec links pairs sizes o =
-    let G = mapNetwork K rec links in
-    firstOf
-    ((not (longEnough K sizes), 1)
-    ∷ (not (soundLinks (places K) G (rec .number) && soundFigures (places K) G (tableBit (K .words) pairs) (rec .chain) (rec .count)), 2)
-    ∷ (not (connected G), 3)
-    ∷ updateFaults G o)
+updateRefusal K rec links pairs sizes o = firstOf (lentFaults K (longEnough K sizes) true rec links pairs ++ updateFaults (mapNetwork K rec links) o)
 
 -- the network after the update, and what it does
 unfoldable pub networkAfter : Shape → Record → List ℕ → Update → Network

@@ -44,20 +44,8 @@ pub fn map_refusal(
         let long = sizes (length (now (links .entry))) (length (now (pairs .entry))) hops bounds skips even odd in
         ⌜ r ≡ mapRefusal base rec (now (links .entry)) (now (pairs .entry)) long ⌝ }
 {
-    if !map::are_long(links.len(), pairs.len(), hops, bounds, skips, even, odd) {
-        return 1;
-    }
-    let codes = rec.codes;
-    if !checks::links_are_sound(links, &codes, 4, rec.number) {
-        return 2;
-    }
-    if !checks::figures_are_sound(pairs, &codes, 4, rec.chain, rec.count) {
-        return 2;
-    }
-    if !search::map_is_connected(links, &codes) {
-        return 3;
-    }
-    0
+    let long = map::are_long(links.len(), pairs.len(), hops, bounds, skips, even, odd);
+    lent_map::map_refusal(long, true, rec, links, pairs)
 }
 
 // What a refused opening answers.

@@ -1,12 +1,11 @@
 -- The refusals of a reckoning, and what an accepted one leaves. Assumes nothing.
 use mathlib.Core.Path.{_≡_, refl, ap, _∙_}
-use mathlib.Core.Bool.{true, false, not}
+use mathlib.Core.Bool.{true, false, not, Bool}
 use mathlib.Core.List.{List, []}
 use Prim.Native.Nat.{ℕ, zero, suc, _*_, _<_}
 use native.Mathlib.Omega.{arith}
 use lib.ListN.{length}
 use borrow.Author.Tests.{not-false}
-use Rattle.lists.specs.Lists.{firstOf}
 use Rattle.lists.proofs.Members.{first-zero}
 use Rattle.graph.specs.Network.{Network, IsSound}
 use Rattle.graph.specs.Distance.{vertices, unreached, connected}
@@ -26,39 +25,29 @@ use Rattle.rounds.specs.Leaves.{Ran, ran, ranBy}
 use Rattle.rounds.specs.Workspace.{Workspace, workspace, runOf, RoundsBegun, roundsBegun, roundsBeginOf}
 use Rattle.rounds.proofs.Holding.{Origin}
 use Rattle.rounds.proofs.Finish.{start-holds, start-running, run-leaves, run-figures}
-use Rattle.reckon.specs.ReckonCall.{linkFaults, reckonRefusal, figuredBy, reckonLeft, reckonGiven, reckonCall}
+use Rattle.reckon.specs.ReckonCall.{reckonRefusal, figuredBy, reckonLeft, reckonGiven, reckonCall}
 use Rattle.reckon.specs.declared.Reckoning.the-variants.{Searches, Refused}
 use Rattle.map.proofs.Longs.{AreLong, are-long}
+use Rattle.lent_map.specs.Faults.{lentFaults, lentRefusal}
 
--- ---- the refusals, by the code's tests
+-- ---- the refusals
 
 module _ (K : Shape) (rec : Record) (links : List ℕ) (z : Sizes) where
   abbrev G : Network
   G = mapNetwork K rec links
 
-  pub refused-short : longEnough K z ≡ false → 1 ≡ reckonRefusal K rec links z
-  unfolding reckonRefusal linkFaults firstOf
-  refused-short a = rw a
-
-  pub refused-spoilt : longEnough K z ≡ true → soundLinks (places K) G (rec .number) ≡ false → 2 ≡ reckonRefusal K rec links z
-  unfolding reckonRefusal linkFaults firstOf
-  refused-spoilt a b = rw (a, b)
-
-  pub refused-apart : longEnough K z ≡ true → soundLinks (places K) G (rec .number) ≡ true → connected G ≡ false → 3 ≡ reckonRefusal K rec links z
-  unfolding reckonRefusal linkFaults firstOf
-  refused-apart a b c = rw (a, b, c)
-
-  pub refused-never : longEnough K z ≡ true → soundLinks (places K) G (rec .number) ≡ true → connected G ≡ true → 0 ≡ reckonRefusal K rec links z
-  unfolding reckonRefusal linkFaults firstOf
-  refused-never a b c = rw (a, b, c)
+  -- what refuses the lent map, whatever the code lends for pairs: they are not looked at
+  pub refused-map : {k : ℕ} {b : Bool} → b ≡ longEnough K z → k ≡ lentRefusal K b false rec links links → k ≡ reckonRefusal K rec links z
+  unfolding reckonRefusal lentRefusal lentFaults
+  refused-map q e = e ∙ ap (λ (b : Bool). lentRefusal K b false rec links links) q
 
   -- none holds: whole buffers, and a network that a map can hold
   pub granted-long : reckonRefusal K rec links z ≡ 0 → AreLong K z
-  unfolding reckonRefusal
-  granted-long e = are-long K z (not-false (longEnough K z) (first-zero (not (longEnough K z)) 0 (linkFaults K rec links) e .0))
+  unfolding reckonRefusal lentRefusal lentFaults
+  granted-long e = are-long K z (not-false (longEnough K z) (first-zero (not (longEnough K z)) 0 _ e .0))
 
   pub granted-tests : reckonRefusal K rec links z ≡ 0 → (soundLinks (places K) (mapNetwork K rec links) (rec .number) ≡ true) × (connected (mapNetwork K rec links) ≡ true)
-  unfolding reckonRefusal linkFaults
+  unfolding reckonRefusal lentRefusal lentFaults
   granted-tests e =
       let a = first-zero (not (longEnough K z)) 0 _ e in
       let b = first-zero (not (soundLinks (places K) G (rec .number))) 1 _ (a .1) in
@@ -71,9 +60,6 @@ module _ (K : Shape) (rec : Record) (links : List ℕ) (z : Sizes) where
       let s : IsSound G = sound-links-iff (K .words) (rec .codes) links (rec .number) .0 (t .0) .isSound in
       let m : length (vertices G) < unreached = omega (arith, network-most (K .words) (rec .codes) links, shape .most) in
       record { sound = s; connected = connected-iff G s m .0 (t .1); small = m }
-
-pub sound-by : (W : ℕ) (codes links : List ℕ) (number : ℕ) → soundLinks (64 * W) (networkOf W codes links) number ≡ true → IsSound (networkOf W codes links)
-sound-by W codes links number e = sound-links-iff W codes links number .0 e .isSound
 
 -- ---- the whole reckoning of a network, from the two calls
 

@@ -1,7 +1,7 @@
 -- THE THEOREMS of this crate: which refusal a whole reckoning gives, and demand 2 for it, for every shape of a map. Assumes nothing.
 use mathlib.Core.Path.{_≡_, refl, sym, ap, _∙_, subst}
 use mathlib.Core.Logic.{_↔_}
-use mathlib.Core.Bool.{Bool}
+use mathlib.Core.Bool.{Bool, false}
 use mathlib.Core.List.{List, [], _∷_}
 use Prim.Native.Nat.{ℕ, zero, suc, _<_}
 use native.Mathlib.Omega.{arith}
@@ -19,19 +19,18 @@ use Rattle.graph.specs.Correct.{IsNet, IsReckoned}
 use Rattle.graph.proofs.Theorems.{reckoning-correct}
 use Rattle.graph.proofs.Skipped.{reckoning-skipped}
 use Rattle.rows.proofs.Written.{table-at, encode-table-length}
-use Rattle.map.specs.Room.{Tables, Lent, sizesOf, roundsBuffers}
+use Rattle.map.specs.Room.{Tables, Lent, sizesOf, roundsBuffers, longEnough}
 use Rattle.layers.specs.Layers.{searchLeaves}
 use Rattle.map.specs.Memory.{Shape, IsShape, places, base, mapNetwork}
 use Rattle.map.specs.declared.Record.{Record}
 use Rattle.map.proofs.Theorems.{network-open-below, network-length, base-shape}
 use Rattle.checks.proofs.Theorems.{sound-links-iff}
-use Rattle.checks.proofs.Refusals.{links-tell}
 use Rattle.search.specs.SearchCall.{searchLeft}
 use Rattle.search.specs.Demand2.{IsSearch}
 use Rattle.search.specs.declared.Found.the-variants.{Reached}
 use Rattle.search.proofs.Theorems.{leaves-search, over-keeps}
 use Rattle.rounds.specs.Leaves.{roundsLeave, searchAfter}
-use Rattle.reckon.specs.ReckonCall.{linkFaults, reckonRefusal, figuredBy, reckonGiven, reckonCall, reckoningNumber}
+use Rattle.reckon.specs.ReckonCall.{reckonRefusal, figuredBy, reckonGiven, reckonCall, reckoningNumber}
 use Rattle.reckon.specs.Refusals.{reckonConditions, ReckonDemand1}
 use Rattle.reckon.specs.Demand2.{IsReckoning, ReckonDemand2}
 use Rattle.reckon.specs.declared.Reckoning.the-variants.{Refused}
@@ -40,6 +39,8 @@ use Rattle.reckon.proofs.Reckons.{granted-long, granted-tests, granted-
 use Rattle.reckon.proofs.Marks.{last-memb, pairs-read, skip-marks, skips-counted, few-searches, bound-ecc}
 use Rattle.reckon.proofs.Skips.{skip-bound, closed-at}
 use Rattle.map.proofs.Longs.{long-is}
+use Rattle.lent_map.proofs.Refuses.{lent-tells}
+use Rattle.lent_map.specs.Faults.{lentRefusal, lentFaults}
 
 module _ (K : Shape) (shape : IsShape K) (rec : Record) (links : List ℕ) (B : Lent) (ok : reckonRefusal K rec links (sizesOf links B) ≡ 0) where
   abbrev G : Network
@@ -133,13 +134,11 @@ call-numbered K rec links B = go (reckonRefusal K rec links (sizesOf links B))
 -- ---- WHICH REFUSAL
 
 pub reckon-refusals : (K : Shape) → IsShape K → ReckonDemand1 K (reckonCall K)
-unfolding reckonCall reckonRefusal linkFaults reckonGiven
+unfolding reckonCall reckonRefusal lentRefusal lentFaults reckonGiven
 reckon-refusals K shape rec links B =
-    refuses-by _ (reckonConditions K rec links B) (
-      refl,
-      rw (← long-is K links B) at (decides-short (roundsBuffers K links B)),
-      λ f. links-tell (K .words) (shape .most) (rec .codes) links (rec .number) [] [] tt,
-    )
+    refuses-by _ (reckonConditions K rec links B)
+    (lent-tells K shape (longEnough K (sizesOf links B)) false (roundsBuffers K links B) (rw (← long-is K links B) at (decides-short (roundsBuffers K links B)))
+    rec links [] [] [] tt)
     (λ k. reckonGiven k K rec links B) _ (λ l. reckoningNumber (l .reckoned .answer)) numbered (λ k. refl)
   where
     numbered : (k : ℕ) → reckoningNumber (reckonGiven k K rec links B .reckoned .answer) ≡ k

@@ -1,31 +1,24 @@
 -- THE WHOLE RECKONING (rule 5.5) on lent memory: its answer and every place that it leaves. The code's contract is one equation with `reckonCall`.
 -- Assumes nothing.
-use mathlib.Core.Bool.{Bool, not}
-use mathlib.Core.List.{List, [], _∷_}
+use mathlib.Core.Bool.{false}
+use mathlib.Core.List.{List, []}
 use Prim.Native.Nat.{ℕ, zero, suc}
 use lib.ListN.{length}
-use Rattle.lists.specs.Lists.{range, firstOf}
-use Rattle.graph.specs.Distance.{connected}
+use Rattle.lists.specs.Lists.{range}
 use Rattle.graph.specs.Chart.{chart, countPairs}
 use Rattle.graph.specs.Rounds.{State, reckon}
 use Rattle.map.specs.Memory.{Shape, places, mapNetwork}
-use Rattle.checks.specs.Sound.{soundLinks}
 use Rattle.map.specs.declared.Record.{Record}
 use Rattle.map.specs.Room.{Lent, Sizes, sizesOf, longEnough}
 use Rattle.rounds.specs.Leaves.{roundsLeave}
 use Rattle.reckon.specs.declared.Reckoning.{Reckoning}
 use Rattle.reckon.specs.declared.Reckoning.the-variants.{Searches, Refused}
 use Rattle.reckon.specs.declared.Reckoned.{Reckoned}
-
--- refusals 2 and 3 of a map's links, each with its number
-unfoldable pub linkFaults : Shape → Record → List ℕ → List (Bool × ℕ)
-linkFaults K rec links =
-    let G = mapNetwork K rec links in
-    (not (soundLinks (places K) G (rec .number)), 2) ∷ (not (connected G), 3) ∷ []
+use Rattle.lent_map.specs.Faults.{lentRefusal}
 
 -- the first refusal that holds: short, spoilt (links alone: a reckoning repairs figures), apart; 0: none
 unfoldable pub reckonRefusal : Shape → Record → List ℕ → Sizes → ℕ
-reckonRefusal K rec links sizes = firstOf ((not (longEnough K sizes), 1) ∷ linkFaults K rec links)
+reckonRefusal K rec links sizes = lentRefusal K (longEnough K sizes) false rec links []
 
 -- the record with the figures of a state
 unfoldable pub figuredBy : Shape → Record → State → Record

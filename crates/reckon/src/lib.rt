@@ -25,7 +25,7 @@ pub struct Reckoned {
     pub after: Record,
 }
 
-// The first refusal of a reckoning that holds, 0 for none, by the lengths of the lent tables. It only reads.
+// The first refusal of a reckoning that holds, 0 for none, by the lengths of the lent tables. It only reads, and looks at no figures.
 fn reckon_refusal(
     rec: Record,
     links: &[u64],
@@ -38,17 +38,8 @@ fn reckon_refusal(
 ) -> u8
     ensures { λ r. ⌜ r ≡ reckonRefusal base rec (now (links .entry)) (sizes (length (now (links .entry))) pairs hops bounds skips even odd) ⌝ }
 {
-    if !map::are_long(links.len(), pairs, hops, bounds, skips, even, odd) {
-        return 1;
-    }
-    let codes = rec.codes;
-    if !checks::links_are_sound(links, &codes, 4, rec.number) {
-        return 2;
-    }
-    if !search::map_is_connected(links, &codes) {
-        return 3;
-    }
-    0
+    let long = map::are_long(links.len(), pairs, hops, bounds, skips, even, odd);
+    lent_map::map_refusal(long, false, rec, links, links)
 }
 
 // The whole reckoning of a sound, connected map.

@@ -1,17 +1,17 @@
 -- The refusals of a search one by one, and what an accepted one leaves. Assumes nothing.
 use mathlib.Core.Path.{_≡_, refl, sym, ap, ap₂, _∙_}
-use mathlib.Core.Bool.{true, false, not, _&&_}
+use mathlib.Core.Bool.{true, false, not, Bool}
 use mathlib.Core.List.{List, [], _∷_}
-use Prim.Native.Nat.{ℕ, zero, suc, _*_, _%_, _≤_, _<_}
+use Prim.Native.Nat.{ℕ, zero, suc, _%_, _≤_, _<_}
 use native.Mathlib.Omega.{arith}
-use lib.Dec.{T, leb}
+use lib.Dec.{T}
 use lib.ListN.{length, take}
 use lib.Seq.{take-all}
-use borrow.Author.Tests.{eq-eqb, ne-eqb, leb-true, le-leb, lt-leb, not-false}
+use borrow.Author.Tests.{eq-eqb, ne-eqb, not-false}
 use Rattle.lists.specs.Lists.{firstOf}
-use Rattle.lists.proofs.Tests.{true→t, and-true}
+use Rattle.lists.proofs.Tests.{true→t}
 use Rattle.lists.proofs.Members.{first-zero}
-use Rattle.graph.specs.Network.{Network, IsSound}
+use Rattle.graph.specs.Network.{Network}
 use Rattle.graph.specs.Distance.{vertices, unreached, connected}
 use Rattle.graph.specs.Chart.{chart, ecc}
 use Rattle.graph.specs.Correct.{IsNet}
@@ -24,41 +24,14 @@ use Rattle.map.specs.Memory.{Shape, places, tableWords, IsShape, networkOf, map
 use Rattle.checks.specs.Sound.{soundLinks}
 use Rattle.map.specs.declared.Record.{Record}
 use Rattle.map.proofs.Theorems.{network-open-below, network-most}
-use Rattle.checks.proofs.Theorems.{sound-links-iff}
-use Rattle.search.specs.SearchCall.{searchRoom, searchRefusal, SearchLeft, searchLeft, searchGiven, searchCall, lastLayer, rowsLeft, rowsOf}
+use Rattle.search.specs.SearchCall.{searchRefusal, SearchLeft, searchLeft, searchGiven, searchCall, lastLayer, rowsLeft, rowsOf}
 use Rattle.search.specs.declared.Found.{Found}
 use Rattle.search.specs.declared.Found.the-variants.{Reached, Refused}
-
--- ---- the sizes, by the code's four tests, and back
-
-module _ (K : Shape) (l h e o : ℕ) where
-  pub room-all : tableWords K ≤ l → places K ≤ h → K .words ≤ e → K .words ≤ o → searchRoom K l h e o ≡ true
-  unfolding searchRoom
-  room-all a b c d = rw (le-leb (tableWords K) l a, le-leb (places K) h b, le-leb (K .words) e c, le-leb (K .words) o d)
-
-  pub room-table : l < tableWords K → searchRoom K l h e o ≡ false
-  unfolding searchRoom
-  room-table a = rw (lt-leb (tableWords K) l a)
-
-  pub room-hops : tableWords K ≤ l → h < places K → searchRoom K l h e o ≡ false
-  unfolding searchRoom
-  room-hops a b = rw (le-leb (tableWords K) l a, lt-leb (places K) h b)
-
-  pub room-even : tableWords K ≤ l → places K ≤ h → e < K .words → searchRoom K l h e o ≡ false
-  unfolding searchRoom
-  room-even a b c = rw (le-leb (tableWords K) l a, le-leb (places K) h b, lt-leb (K .words) e c)
-
-  pub room-odd : tableWords K ≤ l → places K ≤ h → K .words ≤ e → o < K .words → searchRoom K l h e o ≡ false
-  unfolding searchRoom
-  room-odd a b c d = rw (le-leb (tableWords K) l a, le-leb (places K) h b, le-leb (K .words) e c, lt-leb (K .words) o d)
-
-  pub room-fits : searchRoom K l h e o ≡ true → (tableWords K ≤ l) × (places K ≤ h) × (K .words ≤ e) × (K .words ≤ o)
-  unfolding searchRoom
-  room-fits r =
-      let r1 = and-true (leb (tableWords K) l && leb (places K) h && leb (K .words) e) (leb (K .words) o) r in
-      let r2 = and-true (leb (tableWords K) l && leb (places K) h) (leb (K .words) e) (r1 .0) in
-      let r3 = and-true (leb (tableWords K) l) (leb (places K) h) (r2 .0) in
-      (leb-true (tableWords K) l (r3 .0), leb-true (places K) h (r3 .1), leb-true (K .words) e (r2 .1), leb-true (K .words) o (r1 .1))
+use Rattle.map.specs.Room.{longEnough}
+use Rattle.map.proofs.Longs.{are-long}
+use Rattle.lent_map.specs.Faults.{lentFaults, lentRefusal}
+use Rattle.lent_map.proofs.Refuses.{sound-by}
+use Rattle.search.specs.SearchCall.{searchSizes}
 
 -- ---- what no refusal says
 
@@ -76,53 +49,65 @@ module _ (K : Shape) (rec : Record) (links : List ℕ) (hops even odd code : ℕ
   abbrev G : Network
   G = mapNetwork K rec links
 
+  abbrev long : Bool
+  long = longEnough K (searchSizes K (length links) hops even odd)
+
   pub granted : searchRefusal K rec links hops even odd code ≡ 0 → IsGranted K rec links hops even odd code
-  unfolding searchRefusal
+  unfolding searchRefusal lentFaults
   granted z =
-      let a = first-zero (not (searchRoom K (length links) hops even odd)) 0 _ z in
+      let a = first-zero (not long) 0 _ z in
       let b = first-zero (not (soundLinks (places K) G (rec .number))) 1 _ (a .1) in
       let c = first-zero (not (connected G)) 2 _ (b .1) in
       let d = first-zero (not (G .isOpen code)) 3 [] (c .1) in
-      let r = room-fits K (length links) hops even odd (not-false (searchRoom K (length links) hops even odd) (a .0)) in
+      let r = are-long K (searchSizes K (length links) hops even odd) (not-false long (a .0)) in
       record {
-        table = r .0;
-        hops-fit = r .1;
-        even-fit = r .2;
-        odd-fit = r .3;
+        table = r .links-fit;
+        hops-fit = r .hops-fit;
+        even-fit = r .even-fit;
+        odd-fit = r .odd-fit;
         links-sound = not-false (soundLinks (places K) G (rec .number)) (b .0);
         joined = not-false (connected G) (c .0);
         present = not-false (G .isOpen code) (d .0);
       }
 
-  -- ---- each refusal, by its test
+  -- ---- each refusal, by its test: those of the lent map, then the code's
 
-  pub refused-short : searchRoom K (length links) hops even odd ≡ false → 1 ≡ searchRefusal K rec links hops even odd code
-  unfolding searchRefusal firstOf
-  refused-short e = rw e
+  abbrev lent : ℕ
+  lent = lentRefusal K long false rec links links
 
-  pub refused-spoilt : searchRoom K (length links) hops even odd ≡ true
-      → soundLinks (places K) G (rec .number) ≡ false → 2 ≡ searchRefusal K rec links hops even odd code
-  unfolding searchRefusal firstOf
-  refused-spoilt a b = rw (a, b)
+  before : (x y w v : Bool) (k : ℕ) → k ≡ firstOf ((x, 1) ∷ (y, 2) ∷ (w, 3) ∷ []) → (k ≡ 0 → ⊥) → k ≡ firstOf ((x, 1) ∷ (y, 2) ∷ (w, 3) ∷ (v, 4) ∷ [])
+  unfolding firstOf
+  before true y w v k e n = e
+  before false true w v k e n = e
+  before false false true v k e n = e
+  before false false false v k e n = absurd (n e)
 
-  pub refused-apart : searchRoom K (length links) hops even odd ≡ true
-      → soundLinks (places K) G (rec .number) ≡ true → connected G ≡ false → 3 ≡ searchRefusal K rec links hops even odd code
-  unfolding searchRefusal firstOf
-  refused-apart a b c = rw (a, b, c)
+  after : (x y w v : Bool) → 0 ≡ firstOf ((x, 1) ∷ (y, 2) ∷ (w, 3) ∷ []) → firstOf ((v, 4) ∷ []) ≡ firstOf ((x, 1) ∷ (y, 2) ∷ (w, 3) ∷ (v, 4) ∷ [])
+  unfolding firstOf
+  after true y w v e = absurd (omega arith)
+  after false true w v e = absurd (omega arith)
+  after false false true v e = absurd (omega arith)
+  after false false false v e = refl
 
-  pub refused-absent : searchRoom K (length links) hops even odd ≡ true
-      → soundLinks (places K) G (rec .number) ≡ true → connected G ≡ true → G .isOpen code ≡ false → 4 ≡ searchRefusal K rec links hops even odd code
-  unfolding searchRefusal firstOf
-  refused-absent a b c d = rw (a, b, c, d)
+  pub refused-map : {k : ℕ} {b : Bool} → b ≡ long → k ≡ lentRefusal K b false rec links links → (k ≡ 0 → ⊥) → k ≡ searchRefusal K rec links hops even odd code
+  unfolding searchRefusal lentRefusal lentFaults
+  refused-map {k} q e n =
+      before (not long) (not (soundLinks (places K) G (rec .number))) (not (connected G)) (not (G .isOpen code)) k
+      (e ∙ ap (λ (b : Bool). lentRefusal K b false rec links links) q) n
 
-  pub refused-never : searchRoom K (length links) hops even odd ≡ true
-      → soundLinks (places K) G (rec .number) ≡ true → connected G ≡ true → G .isOpen code ≡ true → 0 ≡ searchRefusal K rec links hops even odd code
-  unfolding searchRefusal firstOf
-  refused-never a b c d = rw (a, b, c, d)
+  passed : {k : ℕ} {b : Bool} → b ≡ long → k ≡ lentRefusal K b false rec links links → k ≡ 0 → firstOf ((not (G .isOpen code), 4) ∷ []) ≡ searchRefusal K rec links hops even odd code
+  unfolding searchRefusal lentRefusal lentFaults
+  passed q e z =
+      after (not long) (not (soundLinks (places K) G (rec .number))) (not (connected G)) (not (G .isOpen code))
+      (sym z ∙ e ∙ ap (λ (b : Bool). lentRefusal K b false rec links links) q)
 
--- sound links, from the check's answer
-pub sound-by : (W : ℕ) (codes links : List ℕ) (number : ℕ) → soundLinks (64 * W) (networkOf W codes links) number ≡ true → IsSound (networkOf W codes links)
-sound-by W codes links number e = sound-links-iff W codes links number .0 e .isSound
+  pub refused-absent : {k : ℕ} {b : Bool} → b ≡ long → k ≡ lentRefusal K b false rec links links → k ≡ 0 → G .isOpen code ≡ false → 4 ≡ searchRefusal K rec links hops even odd code
+  unfolding firstOf
+  refused-absent q e z d = rw d at (passed q e z)
+
+  pub refused-never : {k : ℕ} {b : Bool} → b ≡ long → k ≡ lentRefusal K b false rec links links → k ≡ 0 → G .isOpen code ≡ true → 0 ≡ searchRefusal K rec links hops even odd code
+  unfolding firstOf
+  refused-never q e z d = rw d at (passed q e z)
 
 -- ---- the call
 

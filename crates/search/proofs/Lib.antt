@@ -1,5 +1,3 @@
--- a search tells connectedness
-pub mod Connects
 -- the refusals of a search, and what an accepted one leaves
 pub mod Accepts
 -- which refusal, and what an accepted search leaves: by the published words

@@ -27,22 +27,26 @@ use Rattle.rows.proofs.Written.{row-past, row-at, row-of-table, table-zero, enc
 use Rattle.layers.specs.Layers.{depthFrom, layerBit, searchLeaves}
 use Rattle.map.specs.Room.{Tables}
 use Rattle.layers.proofs.Theorems.{depth-is, layer-is}
-use Rattle.map.specs.Memory.{Shape, places, IsShape, mapNetwork}
+use Rattle.map.specs.Memory.{Shape, places, IsShape, mapNetwork, tableWords}
 use Rattle.map.proofs.Theorems.{network-open-below}
-use Rattle.checks.proofs.Refusals.{links-tell}
-use Rattle.search.specs.SearchCall.{searchRoom, searchRefusal, SearchLeft, searchLeft, searchGiven, searchCall, lastLayer, searchNumber}
+use Rattle.search.specs.SearchCall.{searchRefusal, SearchLeft, searchLeft, searchGiven, searchCall, lastLayer, searchNumber}
 use Rattle.search.specs.Refusals.{searchBuffers, searchConditions, SearchDemand1}
 use Rattle.search.specs.Demand2.{HoldsLayer, HoldsBefore, KeepsPast, IsSearch, SearchDemand2}
 use Rattle.search.specs.declared.Found.the-variants.{Reached}
 use Rattle.search.proofs.Accepts.{granted, accepted-net}
+use Rattle.map.specs.Room.{longEnough}
+use Rattle.lent_map.proofs.Refuses.{lent-tells}
+use Rattle.search.specs.SearchCall.{searchSizes}
+use native.Mathlib.Nat.{le-refl}
+use borrow.Author.Tests.{le-leb}
 
 -- ---- WHICH REFUSAL
 
--- the code's test of the sizes, and the condition's
+-- the test of the sizes, and the condition's
 room-is : (K : Shape) (links : List ℕ) (B : Tables)
-    → searchRoom K (length links) (length (B .hops)) (length (B .even)) (length (B .odd)) ≡ allFit (searchBuffers K links B)
-unfolding searchRoom allb
-room-is K links B = simp (and-assoc, and-with-true)
+    → longEnough K (searchSizes K (length links) (length (B .hops)) (length (B .even)) (length (B .odd))) ≡ allFit (searchBuffers K links B)
+unfolding longEnough allb
+room-is K links B = simp (le-leb (tableWords K) (tableWords K) (le-refl (tableWords K)), le-leb (places K) (places K) (le-refl (places K)), and-assoc, and-with-true)
 
 pub search-refusals : (K : Shape) → IsShape K → SearchDemand1 K (searchCall K)
 unfolding searchCall searchRefusal searchGiven
@@ -51,11 +55,9 @@ search-refusals K shape rec links B code =
     let b = G .isOpen code in
     let test : List (Bool × ℕ) = (not b, 4) ∷ [] in
     let absent : Tells test ((IsAbsent G code, 4) ∷ []) = (refl, decides-not b (decides-test b), λ g. tt) in
-    refuses-by _ (searchConditions K rec links B code) (
-      refl,
-      rw (← room-is K links B) at (decides-short (searchBuffers K links B)),
-      λ f. links-tell (K .words) (shape .most) (rec .codes) links (rec .number) test ((IsAbsent G code, 4) ∷ []) absent,
-    )
+    refuses-by _ (searchConditions K rec links B code)
+    (lent-tells K shape (longEnough K (searchSizes K (length links) (length (B .hops)) (length (B .even)) (length (B .odd)))) false (searchBuffers K links B)
+    (rw (← room-is K links B) at (decides-short (searchBuffers K links B))) rec links [] test ((IsAbsent G code, 4) ∷ []) absent)
     (λ k. searchGiven k K rec links B code) _ (λ l. searchNumber (l .answer)) numbered (λ k. refl)
   where
     numbered : (k : ℕ) → searchNumber (searchGiven k K rec links B code .answer) ≡ k

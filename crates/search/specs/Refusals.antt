@@ -4,14 +4,15 @@
 use mathlib.Core.List.{List, [], _∷_, _++_}
 use Prim.Native.Nat.{ℕ}
 use lib.ListN.{length}
-use Rattle.lists.specs.Conditions.{Refuses, IsShort}
+use Rattle.lists.specs.Conditions.{Refuses}
 use Rattle.graph.specs.Refusals.{IsAbsent}
 use Rattle.map.specs.Room.{Tables}
 use Rattle.map.specs.Memory.{Shape, places, tableWords, mapNetwork}
-use Rattle.checks.specs.Refusals.{linkConditions}
 use Rattle.map.specs.declared.Record.{Record}
 use Rattle.search.specs.SearchCall.{SearchLeft, searchLeft, searchNumber}
 use Rattle.search.specs.declared.Found.the-variants.{Refused}
+use Rattle.lent_map.specs.Faults.{lentConditions}
+use mathlib.Core.Bool.{false}
 
 -- the buffers that a search is lent, each its named size with its length: link table, hop table, two layer rows
 abbrev pub searchBuffers : Shape → List ℕ → Tables → List (ℕ × ℕ)
@@ -21,8 +22,7 @@ searchBuffers K links B =
 -- 1 short, 2 spoilt (links alone), 3 apart, 4 absent
 abbrev pub searchConditions : Shape → Record → List ℕ → Tables → ℕ → List (Type 0 × ℕ)
 searchConditions K rec links B code =
-    let G = mapNetwork K rec links in
-    (IsShort (searchBuffers K links B), 1) ∷ linkConditions (places K) G (rec .number) ++ (IsAbsent G code, 4) ∷ []
+    lentConditions K (searchBuffers K links B) false rec links [] ++ (IsAbsent (mapNetwork K rec links) code, 4) ∷ []
 
 -- DEMAND 1 of a program whose search call is `step`: refused with the first that holds, and then nothing changes
 abbrev pub SearchDemand1 : Shape → (Record → List ℕ → Tables → ℕ → SearchLeft) → Type 0

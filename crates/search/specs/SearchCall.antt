@@ -1,34 +1,31 @@
 -- THE SEARCH CALL (rules 3.1 to 3.3) on lent memory, whole: its answer and every place that it leaves. The code's contract is one equation with `searchCall`.
 -- Assumes nothing.
-use mathlib.Core.Bool.{Bool, not, cond, _&&_}
-use mathlib.Core.List.{List, [], _∷_}
+use mathlib.Core.Bool.{false, not, cond}
+use mathlib.Core.List.{List, [], _∷_, _++_}
 use Prim.Native.Nat.{ℕ, zero, suc, _%_}
-use lib.Dec.{eqb, leb}
+use lib.Dec.{eqb}
 use lib.ListN.{length, take}
 use Rattle.lists.specs.Lists.{firstOf}
-use Rattle.graph.specs.Distance.{connected}
 use Rattle.graph.specs.Chart.{chart, ecc}
 use Rattle.map.specs.Room.{Tables}
 use Rattle.layers.specs.Layers.{searchLeaves}
 use Rattle.map.specs.Memory.{Shape, places, tableWords, mapNetwork}
-use Rattle.checks.specs.Sound.{soundLinks}
 use Rattle.map.specs.declared.Record.{Record}
 use Rattle.search.specs.declared.Found.{Found}
 use Rattle.search.specs.declared.Found.the-variants.{Reached, Refused}
+use Rattle.map.specs.Room.{Sizes, sizes, longEnough}
+use Rattle.lent_map.specs.Faults.{lentFaults}
 
--- every buffer that a search is lent has its named size: link table, hop table, two layer rows
-unfoldable pub searchRoom : Shape → ℕ → ℕ → ℕ → ℕ → Bool
-searchRoom K links hops even odd = leb (tableWords K) links && leb (places K) hops && leb (K .words) even && leb (K .words) odd
+-- the sizes of what a search is lent; the tables that it is not lent count as whole
+abbrev pub searchSizes : Shape → ℕ → ℕ → ℕ → ℕ → Sizes
+searchSizes K links hops even odd = sizes links (tableWords K) hops (places K) (places K) even odd
 
 -- the first refusal that holds, by the lengths of the lent tables: short, spoilt (links alone), apart, absent; 0: none
 unfoldable pub searchRefusal : Shape → Record → List ℕ → ℕ → ℕ → ℕ → ℕ → ℕ
 searchRefusal K rec links hops even odd code =
-    let G = mapNetwork K rec links in
     firstOf
-    ((not (searchRoom K (length links) hops even odd), 1)
-    ∷ (not (soundLinks (places K) G (rec .number)), 2)
-    ∷ (not (connected G), 3)
-    ∷ (not (G .isOpen code), 4)
+    (lentFaults K (longEnough K (searchSizes K (length links) hops even odd)) false rec links []
+    ++ (not (mapNetwork K rec links .isOpen code), 4)
     ∷ [])
 
 -- what the call leaves: its answer (the eccentricity, or the refusal's number), and the hop table and the two layer rows

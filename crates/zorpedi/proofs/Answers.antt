@@ -18,10 +18,10 @@ use Rattle.map.specs.Empty.{EmptyLeft, emptyLeft, emptyRefusal, emptyGiven, emp
 use Rattle.map.specs.declared.Record.{Record}
 use Rattle.map.specs.declared.Emptied.{Emptied}
 use Rattle.map.specs.declared.Emptying.the-variants.{Done, Refused as NoEmptying}
-use Rattle.search.specs.SearchCall.{SearchLeft, searchLeft, searchRoom, searchRefusal, searchGiven, searchCall}
+use Rattle.search.specs.SearchCall.{SearchLeft, searchLeft, searchSizes, searchRefusal, searchGiven, searchCall}
 use Rattle.search.specs.declared.Found.{Found}
 use Rattle.search.specs.declared.Found.the-variants.{Reached, Refused as NoSearch}
-use Rattle.reckon.specs.ReckonCall.{ReckonLeft, reckonLeft, linkFaults, reckonRefusal, figuredBy, reckonGiven, reckonCall}
+use Rattle.reckon.specs.ReckonCall.{ReckonLeft, reckonLeft, reckonRefusal, figuredBy, reckonGiven, reckonCall}
 use Rattle.reckon.specs.declared.Reckoned.{Reckoned}
 use Rattle.reckon.specs.declared.Reckoning.the-variants.{Searches, Refused as NoReckoning}
 use Rattle.reckon.proofs.Reckons.{granted-tests}
@@ -33,6 +33,7 @@ use Rattle.opening.specs.declared.Returned.{Returned}
 use Rattle.c_values.specs.Words.{recordWords, recordOf, wordsOf, clampedOf}
 use Rattle.zorpedi.specs.Outs.{EmptyOut, emptiedOut, emptyFrom, emptyOut, SearchOut, searchedOut, searchFrom, searchOut, ReckonOut, reckonedOut, reckonFrom, reckonOut, OpenOut, openedOut, openFrom, openOut}
 use Rattle.c_values.proofs.Clamps.{links-clamp, figures-clamp, number-fits, figures-fit}
+use Rattle.lent_map.specs.Faults.{lentFaults, lentRefusal}
 
 -- ---- emptying
 
@@ -81,11 +82,11 @@ module _ (l links : List ℕ) (B : Tables) (old code : ℕ) where
 
   -- a number that is too large is spoilt, as the largest one is; the figures do not matter
   search-clamp : searchCall base (clampedOf l) links B code ≡ searchCall base (recordOf l) links B code
-  unfolding searchCall searchGiven searchRefusal clampedOf recordOf
+  unfolding searchCall searchGiven searchRefusal lentFaults clampedOf recordOf
   search-clamp = go _ _ (
       ap
       (λ (t : Bool). firstOf
-      ((not (searchRoom base (length links) (length (B .hops)) (length (B .even)) (length (B .odd))), 1)
+      ((not (longEnough base (searchSizes base (length links) (length (B .hops)) (length (B .even)) (length (B .odd)))), 1)
       ∷ (not t, 2)
       ∷ (not (connected (networkOf 4 (take 4 l) links)), 3)
       ∷ (not (networkOf 4 (take 4 l) links .isOpen code), 4)
@@ -123,7 +124,7 @@ module _ (l links : List ℕ) (B : Lent) (old : ℕ) where
   reckon-short e = rw (lt-ltb (length l) recordWords e)
 
   refusal-clamp : reckonRefusal base (clampedOf l) links (sizesOf links B) ≡ reckonRefusal base (recordOf l) links (sizesOf links B)
-  unfolding reckonRefusal linkFaults clampedOf recordOf
+  unfolding reckonRefusal lentRefusal lentFaults clampedOf recordOf
   refusal-clamp =
       ap (λ (t : Bool). firstOf ((not (longEnough base (sizesOf links B)), 1) ∷ (not t, 2) ∷ (not (connected (networkOf 4 (take 4 l) links)), 3) ∷ []))
       (links-clamp (take 4 l) links (getD l 4 0))
@@ -163,7 +164,7 @@ module _ (l links : List ℕ) (B : Lent) (o : Update) (old : ℕ) where
   open-short e = rw (lt-ltb (length l) recordWords e)
 
   open-refusal-clamp : updateRefusal base (clampedOf l) links (B .pairs) (sizesOf links B) o ≡ updateRefusal base (recordOf l) links (B .pairs) (sizesOf links B) o
-  unfolding updateRefusal clampedOf recordOf
+  unfolding updateRefusal lentFaults clampedOf recordOf
   open-refusal-clamp =
       ap₂
       (λ (t u : Bool). firstOf
@@ -176,7 +177,7 @@ module _ (l links : List ℕ) (B : Lent) (o : Update) (old : ℕ) where
 
   -- an accepted opening read the record that was lent
   open-read : updateRefusal base (recordOf l) links (B .pairs) (sizesOf links B) o ≡ 0 → clampedOf l ≡ recordOf l
-  unfolding updateRefusal clampedOf recordOf
+  unfolding updateRefusal lentFaults clampedOf recordOf
   open-read e =
       let N = networkOf 4 (take 4 l) links in
       let P = tableBit 4 (B .pairs) in

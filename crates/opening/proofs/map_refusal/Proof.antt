@@ -1,137 +1,28 @@
--- `opening::map_refusal` meets its contract: the tests stand in the order of the refusals, and each answer is that of the first that holds.
+-- `opening::map_refusal` meets its contract: it is what refuses the lent map.
 -- Assumes nothing.
-use mathlib.Core.List.{[]}
-use mathlib.Core.Path.{_≡_, sym, _∙_}
-use mathlib.Core.Bool.{true}
-use native.Mathlib.Omega.{arith}
-use borrow.Author.Tests.{not-true, not-false}
-use lib.ListN.{length}
-use Rattle.rows.specs.Rows.{tableBit}
-use Rattle.map.specs.Memory.{base, networkOf}
-use Rattle.checks.specs.Sound.{soundLinks, soundFigures}
-use Rattle.map.specs.Room.{sizes, longEnough}
-use Rattle.checks.proofs.Theorems.{figures-any-links}
+use mathlib.Core.Path.{sym, _∙_}
+use Rattle.map.specs.Memory.{base}
 use Rattle.map.proofs.Longs.{are-long}
-use Rattle.reckon.proofs.Reckons.{sound-by}
-use Rattle.opening.proofs.Refuses.{refused-short, refused-links, refused-figures, refused-apart, refused-never}
+use Rattle.opening.proofs.Refuses.{refused-map}
 use borrow.Author.Needs.{needs}
 use Rattle.opening.proofs.map_refusal.Statement.{statement}
 use Rattle.opening.proofs.map_refusal.Tie as tie
 
-slice-aggregate-links-are-sound : tie.Need-slice-aggregate-links-are-sound
-slice-aggregate-links-are-sound c = search needs
-
-slice-aggregate-figures-are-sound : tie.Need-slice-aggregate-figures-are-sound
-slice-aggregate-figures-are-sound c = search needs
-
-slice-aggregate-map-is-connected : tie.Need-slice-aggregate-map-is-connected
-slice-aggregate-map-is-connected c = search needs
-
--- ---- what each test that let the function go on has shown
-
-long : (c : tie.Else1) →
-    let s : tie.Start = search in
-    longEnough base
-    (sizes (length (s .args .links .now)) (length (s .args .pairs .now)) (s .args .hops) (s .args .bounds) (s .args .skips) (s .args .even) (s .args .odd))
-    ≡ true
-long c =
+map-refusal-requires : tie.Need-map-refusal-requires
+map-refusal-requires c κs =
     let after-are-long : tie.After-are-long = search in
-    sym (after-are-long .are-long .ensures) ∙ not-false _ (c .if1 .left)
-
-sound : (c : tie.Else2) →
-    let s : tie.Start = search in
-    soundLinks 256 (networkOf 4 (s .args .rec .codes) (s .args .links .now)) (s .args .rec .number) ≡ true
-sound c =
-    let after-links-are-sound : tie.After-links-are-sound = search in
-    sym (after-links-are-sound .links-are-sound .ensures) ∙ not-false _ (c .if2 .left)
-
-figured : (c : tie.Else3) →
-    let s : tie.Start = search in
-    let G = networkOf 4 (s .args .rec .codes) (s .args .links .now) in
-    soundFigures 256 G (tableBit 4 (s .args .pairs .now)) (s .args .rec .chain) (s .args .rec .count) ≡ true
-figured c =
-    let after-figures-are-sound : tie.After-figures-are-sound = search in
-    figures-any-links 4 _ _ [] _ _ _ ∙ sym (after-figures-are-sound .figures-are-sound .ensures) ∙ not-false _ (c .if3 .left)
-
--- ---- the answers
+    let is = after-are-long .are-long .ensures in
+    (λ h. are-long base _ (sym is ∙ h) .links-fit, λ h f. are-long base _ (sym is ∙ h) .pairs-fit)
 
 returns : tie.Need-returns
 returns c =
     let after-are-long : tie.After-are-long = search in
-    refused-short base _ _ _ _ (sym (after-are-long .are-long .ensures) ∙ not-true _ (c .if1 .taken))
-
-links-are-sound-requires : tie.Need-links-are-sound-requires
-links-are-sound-requires c κs =
-    let else1 : tie.Else1 = search in
-    record {
-      positive = omega arith;
-      most = omega arith;
-      rows = are-long base _ (long else1) .links-fit;
-      row = omega (arith, slice-aggregate-links-are-sound c);
-    }
-
-returns-2 : tie.Need-returns-2
-returns-2 c =
-    let after-links-are-sound : tie.After-links-are-sound = search in
-    let else1 : tie.Else1 = search in
-    refused-links base _ _ _ _ (long else1) (sym (after-links-are-sound .links-are-sound .ensures) ∙ not-true _ (c .if2 .taken))
-
-figures-are-sound-requires : tie.Need-figures-are-sound-requires
-figures-are-sound-requires c κs =
-    let else1 : tie.Else1 = search in
-    record {
-      positive = omega arith;
-      most = omega arith;
-      rows = are-long base _ (long else1) .pairs-fit;
-      row = omega (arith, slice-aggregate-figures-are-sound c);
-    }
-
-returns-3 : tie.Need-returns-3
-returns-3 c =
-    let after-figures-are-sound : tie.After-figures-are-sound = search in
-    let else2 : tie.Else2 = search in
-    let else1 : tie.Else1 = search in
-    refused-figures base _ _ _ _ (long else1) (sound else2)
-    (figures-any-links 4 _ _ [] _ _ _ ∙ sym (after-figures-are-sound .figures-are-sound .ensures) ∙ not-true _ (c .if3 .taken))
-
-map-is-connected-requires : tie.Need-map-is-connected-requires
-map-is-connected-requires c κs =
-    let else2 : tie.Else2 = search in
-    let else1 : tie.Else1 = search in (
-      record {
-        positive = omega arith;
-        most = omega arith;
-        rows = are-long base _ (long else1) .links-fit;
-        row = omega (arith, slice-aggregate-map-is-connected c);
-      },
-      sound-by _ _ _ _ (sound else2),
-    )
-
-returns-4 : tie.Need-returns-4
-returns-4 c =
-    let after-map-is-connected : tie.After-map-is-connected = search in
-    let connected = sym (after-map-is-connected .map-is-connected .ensures) ∙ not-true _ (c .if4 .taken) in
-    search (refused-apart, long, sound, figured, connected)
-
-returns-5 : tie.Need-returns-5
-returns-5 c =
-    let after-map-is-connected : tie.After-map-is-connected = search in
-    let connected = sym (after-map-is-connected .map-is-connected .ensures) ∙ not-false _ (c .if4 .left) in
-    search (refused-never, long, sound, figured, connected)
+    refused-map base _ _ _ _ (after-are-long .are-long .ensures) (c .map-refusal .ensures)
 
 pub map-refusal-spec : {M : Type 1} → statement M
 map-refusal-spec =
     tie.close
     (tie.spec
     (λ c. search needs)  -- are-long-requires
-    returns
-    slice-aggregate-links-are-sound
-    links-are-sound-requires
-    returns-2
-    slice-aggregate-figures-are-sound
-    figures-are-sound-requires
-    returns-3
-    slice-aggregate-map-is-connected
-    map-is-connected-requires
-    returns-4
-    returns-5)
+    map-refusal-requires
+    returns)

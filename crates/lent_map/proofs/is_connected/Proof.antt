@@ -2,10 +2,10 @@
 -- Assumes nothing.
 use mathlib.Core.Path.{subst, _∙_}
 use Rattle.rows.specs.Next.{IsNext, NextIs}
-use Rattle.search.proofs.Connects.{none-open, all-reached-is, hops-of}
+use Rattle.lent_map.proofs.Connects.{none-open, all-reached-is, hops-of}
 use borrow.Author.Needs.{needs}
-use Rattle.search.proofs.is_connected.Statement.{statement}
-use Rattle.search.proofs.is_connected.Tie as tie
+use Rattle.lent_map.proofs.is_connected.Statement.{statement}
+use Rattle.lent_map.proofs.is_connected.Tie as tie
 
 -- the way back, from each call to the one before it
 abbrev before-search-table : tie.After-search-table → tie.After-next-member

@@ -8,10 +8,10 @@ use lib.ListN.{getD}
 use borrow.Author.Tests.{not-true, not-false}
 use Rattle.graph.specs.Distance.{unreached}
 use Rattle.rows.specs.Rows.{rowBit}
-use Rattle.search.proofs.Connects.{all-none, all-more, all-end, all-fault}
+use Rattle.lent_map.proofs.Connects.{all-none, all-more, all-end, all-fault}
 use borrow.Author.Needs.{needs}
-use Rattle.search.proofs.all_reached.Statement.{statement}
-use Rattle.search.proofs.all_reached.Tie as tie
+use Rattle.lent_map.proofs.all_reached.Statement.{statement}
+use Rattle.lent_map.proofs.all_reached.Tie as tie
 
 abbrev Inv-loop : tie.InvT-loop
 Inv-loop hops codes words v₀ v = (v ≤ 64 * words) × ((x : ℕ) → x < v → (not (rowBit words codes x) || ltb (getD hops x 0) unreached) ≡ true)

@@ -1,9 +1,9 @@
 -- `search::is_reached` meets its contract: by the two cases of the test.
 -- Assumes nothing.
-use Rattle.search.proofs.Connects.{reached-closed, reached-open}
+use Rattle.lent_map.proofs.Connects.{reached-closed, reached-open}
 use borrow.Author.Needs.{needs}
-use Rattle.search.proofs.is_reached.Statement.{statement}
-use Rattle.search.proofs.is_reached.Tie as tie
+use Rattle.lent_map.proofs.is_reached.Statement.{statement}
+use Rattle.lent_map.proofs.is_reached.Tie as tie
 
 pub is-reached-spec : {M : Type 1} → statement M
 is-reached-spec =

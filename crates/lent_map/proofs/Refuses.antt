@@ -1,0 +1,75 @@
+-- THE REFUSALS 1 TO 3, by the code's tests, and by the published words. Assumes nothing.
+use mathlib.Core.Path.{_≡_, refl}
+use mathlib.Core.Bool.{Bool, true, false, not, _||_}
+use mathlib.Core.List.{List, [], _++_}
+use Prim.Native.Nat.{ℕ, _*_}
+use Rattle.lists.specs.Lists.{firstOf}
+use Rattle.lists.specs.Conditions.{IsShort}
+use Rattle.lists.proofs.Conditions.{Decides, Tells}
+use Rattle.graph.specs.Network.{Network, IsSound}
+use Rattle.graph.specs.Distance.{connected}
+use Rattle.rows.specs.Rows.{tableBit}
+use Rattle.map.specs.Memory.{Shape, IsShape, places, networkOf, mapNetwork}
+use Rattle.map.specs.declared.Record.{Record}
+use Rattle.checks.specs.Sound.{soundLinks, soundFigures}
+use Rattle.checks.proofs.Theorems.{sound-links-iff, figures-any-links}
+use Rattle.checks.proofs.Refusals.{links-tell, map-tells}
+use Rattle.lent_map.specs.Faults.{lentFaults, lentRefusal, lentConditions}
+use Rattle.lists.proofs.Tests.{clash}
+
+-- sound links, from the check's answer
+pub sound-by : (W : ℕ) (codes links : List ℕ) (number : ℕ) → soundLinks (64 * W) (networkOf W codes links) number ≡ true → IsSound (networkOf W codes links)
+sound-by W codes links number e = sound-links-iff W codes links number .0 e .isSound
+
+-- the stored figures, where the call goes by them
+pub not-figured : (figured b : Bool) → figured ≡ false → true ≡ (not figured || b)
+not-figured figured b q = rw q
+
+pub is-figured : (figured : Bool) {r b : Bool} → figured ≡ true → r ≡ b → r ≡ (not figured || b)
+is-figured figured q e = rw q e
+
+-- ---- by the code's tests, the figures by a check that knows no links
+
+module _ (K : Shape) (rec : Record) (links pairs : List ℕ) where
+  abbrev G : Network
+  G = mapNetwork K rec links
+
+  abbrev stored : Bool
+  stored = soundFigures (places K) (networkOf (K .words) (rec .codes) []) (tableBit (K .words) pairs) (rec .chain) (rec .count)
+
+  pub refused-short : {long : Bool} (figured : Bool) → long ≡ false → 1 ≡ lentRefusal K long figured rec links pairs
+  unfolding lentRefusal lentFaults firstOf
+  refused-short figured a = rw a
+
+  pub refused-links : {long : Bool} (figured : Bool) → long ≡ true → soundLinks (places K) G (rec .number) ≡ false → 2 ≡ lentRefusal K long figured rec links pairs
+  unfolding lentRefusal lentFaults firstOf
+  refused-links true a b = rw (a, b)
+  refused-links false a b = rw (a, b)
+
+  pub refused-figures : {long : Bool} (figured : Bool) → long ≡ true → soundLinks (places K) G (rec .number) ≡ true → (not figured || stored) ≡ false → 2 ≡ lentRefusal K long figured rec links pairs
+  unfolding lentRefusal lentFaults firstOf
+  refused-figures true a b c = rw (a, b, figures-any-links (K .words) (rec .codes) links [] (tableBit (K .words) pairs) (rec .chain) (rec .count), c)
+  refused-figures false a b c = absurd (clash refl c)
+
+  pub refused-apart : {long : Bool} (figured : Bool) → long ≡ true → soundLinks (places K) G (rec .number) ≡ true → (not figured || stored) ≡ true → connected G ≡ false
+      → 3 ≡ lentRefusal K long figured rec links pairs
+  unfolding lentRefusal lentFaults firstOf
+  refused-apart true a b c d = rw (a, b, figures-any-links (K .words) (rec .codes) links [] (tableBit (K .words) pairs) (rec .chain) (rec .count), c, d)
+  refused-apart false a b c d = rw (a, b, d)
+
+  pub refused-never : {long : Bool} (figured : Bool) → long ≡ true → soundLinks (places K) G (rec .number) ≡ true → (not figured || stored) ≡ true → connected G ≡ true
+      → 0 ≡ lentRefusal K long figured rec links pairs
+  unfolding lentRefusal lentFaults firstOf
+  refused-never true a b c d = rw (a, b, figures-any-links (K .words) (rec .codes) links [] (tableBit (K .words) pairs) (rec .chain) (rec .count), c, d)
+  refused-never false a b c d = rw (a, b, d)
+
+-- ---- by the published words, before whatever a call looks at besides
+
+pub lent-tells : (K : Shape) → IsShape K → (long figured : Bool) (buffers : List (ℕ × ℕ)) → Decides (not long) (IsShort buffers) → (rec : Record) (links pairs : List ℕ)
+    (tests : List (Bool × ℕ)) (conditions : List (Type 0 × ℕ)) → Tells tests conditions
+    → Tells (lentFaults K long figured rec links pairs ++ tests) (lentConditions K buffers figured rec links pairs ++ conditions)
+unfolding lentFaults
+lent-tells K shape long true buffers d rec links pairs tests conditions rest =
+    (refl, d, λ f. map-tells (K .words) (shape .most) (rec .codes) links (rec .number) tests conditions rest (tableBit (K .words) pairs) (rec .chain) (rec .count))
+lent-tells K shape long false buffers d rec links pairs tests conditions rest =
+    (refl, d, λ f. links-tell (K .words) (shape .most) (rec .codes) links (rec .number) tests conditions rest)

@@ -1,0 +1,134 @@
+// What refuses lent memory before a call looks at what it is asked (rule 8.1, numbers 1 to 3): buffers too short, words that are no map, a map
+// in parts.
+ghost use mathlib.Core.List.{[]};
+ghost use mathlib.Core.Path.{_≡_};
+ghost use mathlib.Core.Bool.{true, not, _||_};
+ghost use Prim.Native.Nat.{_*_, _<_, _≤_};
+ghost use lib.Dec.{ltb};
+ghost use lib.ListN.{length, getD};
+ghost use Rattle.lists.specs.Lists.{range, allb};
+ghost use Rattle.graph.specs.Network.{IsSound};
+ghost use Rattle.graph.specs.Distance.{unreached, connected};
+ghost use Rattle.rows.specs.Rows.{rowBit, tableBit};
+ghost use Rattle.map.specs.Memory.{base, networkOf};
+ghost use Rattle.map.specs.Bits.{IsLent};
+ghost use Rattle.checks.specs.Sound.{soundFigures};
+ghost use Rattle.lent_map.specs.Faults.{lentRefusal};
+use map::Record;
+use rows::Next;
+
+// ---- connectedness
+
+// Whether the code v is closed or has a hop.
+fn is_reached(hops: &[u16], codes: &[u64], words: usize, v: usize) -> bool
+    requires { ⌜ (64 * words ≤ length (now hops)) × (words ≤ length (now codes)) × (v < 64 * words) ⌝ }
+    ensures { λ r. ⌜ r ≡ (not (rowBit words (now (codes .entry)) v) || ltb (getD (now (hops .entry)) v 0) unreached) ⌝ }
+{
+    if !map::is_open(codes, words, v) {
+        return true;
+    }
+    hops[v] < 65535
+}
+
+// Whether every open code has a hop.
+fn all_reached(hops: &[u16], codes: &[u64], words: usize) -> bool
+    requires { ⌜ (words < 513) × (64 * words ≤ length (now hops)) × (words ≤ length (now codes)) ⌝ }
+    ensures { λ r. ⌜ r ≡ allb (λ v. not (rowBit words (now (codes .entry)) v) || ltb (getD (now (hops .entry)) v 0) unreached) (range (64 * words)) ⌝ }
+{
+    let mut v: usize = 0;
+    while v < 64 * words {
+        if !is_reached(hops, codes, words, v) {
+            return false;
+        }
+        v += 1;
+    }
+    true
+}
+
+// Whether the depots are connected: a search from the lowest open code, in the memory lent for it, reaches every one.
+// What stands in that memory afterwards is free.
+pub fn is_connected(
+    hops: &mut [u16],
+    even: &mut [u64],
+    odd: &mut [u64],
+    seen: &mut [u64],
+    next: &mut [u64],
+    links: &[u64],
+    codes: &[u64],
+    words: usize,
+) -> bool
+    requires { ⌜ IsLent words (now links) (now codes)
+        × (64 * words ≤ length (now hops))
+        × (words ≤ length (now even))
+        × (words ≤ length (now odd))
+        × (words ≤ length (now seen))
+        × (words ≤ length (now next))
+        × IsSound (networkOf words (now codes) (now links)) ⌝ }
+    ensures { λ r. ⌜ r ≡ connected (networkOf words (now (codes .entry)) (now (links .entry))) ⌝ }
+{
+    let lowest = rows::next_member(codes, words, 0);
+    let Next::At(start) = lowest else {
+        return true;
+    };
+    layers::search_table(hops, even, odd, seen, next, links, words, start);
+    all_reached(&*hops, codes, words)
+}
+
+// The same for rows of four words, on local memory, so that a refused call changes nothing.
+pub fn map_is_connected(links: &[u64], codes: &[u64]) -> bool
+    requires { ⌜ IsLent 4 (now links) (now codes) × IsSound (networkOf 4 (now codes) (now links)) ⌝ }
+    ensures { λ r. ⌜ r ≡ connected (networkOf 4 (now (codes .entry)) (now (links .entry))) ⌝ }
+{
+    let mut hops = [0u16; 256];
+    let mut even = [0u64; 4];
+    let mut odd = [0u64; 4];
+    let mut seen = [0u64; 4];
+    let mut next = [0u64; 4];
+    is_connected(
+        &mut hops,
+        &mut even,
+        &mut odd,
+        &mut seen,
+        &mut next,
+        links,
+        codes,
+        4,
+    )
+}
+
+// ---- the refusal
+
+// Whether the stored figures are sound, where the call goes by them.
+fn stored_are_sound(figured: bool, pairs: &[u64], codes: &[u64], chain: u16, count: u32) -> bool
+    requires { ⌜ (figured ≡ true → IsLent 4 (now pairs) (now codes)) ⌝ }
+    ensures { λ r.
+        let G = networkOf 4 (now (codes .entry)) [] in
+        ⌜ r ≡ (not figured || soundFigures 256 G (tableBit 4 (now (pairs .entry))) chain count) ⌝ }
+{
+    if !figured {
+        return true;
+    }
+    checks::figures_are_sound(pairs, codes, 4, chain, count)
+}
+
+// The first refusal of lent memory that holds, whatever the call is asked; 0 for none. It only reads: `long` tells whether every buffer has its named
+// size, `figured` whether the call goes by the stored figures, and where it does not, the pairs are not looked at.
+pub fn map_refusal(long: bool, figured: bool, rec: Record, links: &[u64], pairs: &[u64]) -> u8
+    requires { ⌜ (long ≡ true → 1024 ≤ length (now links)) × (long ≡ true → figured ≡ true → 1024 ≤ length (now pairs)) ⌝ }
+    ensures { λ r. ⌜ r ≡ lentRefusal base long figured rec (now (links .entry)) (now (pairs .entry)) ⌝ }
+{
+    if !long {
+        return 1;
+    }
+    let codes = rec.codes;
+    if !checks::links_are_sound(links, &codes, 4, rec.number) {
+        return 2;
+    }
+    if !stored_are_sound(figured, pairs, &codes, rec.chain, rec.count) {
+        return 2;
+    }
+    if !map_is_connected(links, &codes) {
+        return 3;
+    }
+    0
+}
