@@ -26,20 +26,20 @@ filter-some p (x ∷ xs) = go (p x) (filter-some p xs)
     go true ih = lt-ltb 0 (suc (length (filterb p xs))) (omega arith)
     go false ih = ih
 
-pub lonely-named : (W : ℕ) (codes ns : List ℕ) → (length ns ≡ 0 → ⊥) → false ≡ (isEmpty ns && ltb 0 (length (vertices (networkOf W codes []))))
+pub lonely-named : (W : ℕ) (members ns : List ℕ) → (length ns ≡ 0 → ⊥) → false ≡ (isEmpty ns && ltb 0 (length (vertices (networkOf W members []))))
 unfolding isEmpty
-lonely-named W codes [] n = absurd (n refl)
-lonely-named W codes (x ∷ xs) n = refl
+lonely-named W members [] n = absurd (n refl)
+lonely-named W members (x ∷ xs) n = refl
 
-pub lonely-first : (W : ℕ) (codes ns : List ℕ) {r : Bool} → length ns ≡ 0 → r ≡ not (anyb (rowBit W codes) (range (64 * W)))
-    → not r ≡ (isEmpty ns && ltb 0 (length (vertices (networkOf W codes []))))
+pub lonely-first : (W : ℕ) (members ns : List ℕ) {r : Bool} → length ns ≡ 0 → r ≡ not (anyb (rowBit W members) (range (64 * W)))
+    → not r ≡ (isEmpty ns && ltb 0 (length (vertices (networkOf W members []))))
 unfolding isEmpty networkOf
-lonely-first W codes [] n e = ap not e ∙ not-not (anyb (rowBit W codes) (range (64 * W))) ∙ sym (filter-some (rowBit W codes) (range (64 * W)))
+lonely-first W members [] n e = ap not e ∙ not-not (anyb (rowBit W members) (range (64 * W))) ∙ sym (filter-some (rowBit W members) (range (64 * W)))
   where
     not-not : (b : Bool) → not (not b) ≡ b
     not-not true = refl
     not-not false = refl
-lonely-first W codes (x ∷ xs) n e = absurd (omega arith)
+lonely-first W members (x ∷ xs) n e = absurd (omega arith)
 
 -- ---- each refusal, by its test and those before it
 
@@ -47,34 +47,34 @@ lonely-first W codes (x ∷ xs) n e = absurd (omega arith)
 pub shown : {r b v : Bool} → r ≡ b → r ≡ v → b ≡ v
 shown e h = sym e ∙ h
 
-module _ (W : ℕ) (codes : List ℕ) (code : ℕ) (ns : List ℕ) where
+module _ (W : ℕ) (members : List ℕ) (code : ℕ) (ns : List ℕ) where
   abbrev G : Network
-  G = networkOf W codes []
+  G = networkOf W members []
 
   abbrev O : Notice
   O = record { code = code; neighbours = ns }
 
-  pub refused-taken : rowBit W codes code ≡ true → 5 ≡ firstOf (openFaults G O)
+  pub refused-taken : rowBit W members code ≡ true → 5 ≡ firstOf (openFaults G O)
   unfolding openFaults noticeFaults firstOf networkOf
   refused-taken a = rw a
 
-  pub refused-lonely : rowBit W codes code ≡ false → (isEmpty ns && ltb 0 (length (vertices G))) ≡ true → 6 ≡ firstOf (openFaults G O)
+  pub refused-lonely : rowBit W members code ≡ false → (isEmpty ns && ltb 0 (length (vertices G))) ≡ true → 6 ≡ firstOf (openFaults G O)
   unfolding openFaults noticeFaults firstOf networkOf
   refused-lonely a b = rw (a, b)
 
-  pub refused-unsorted : rowBit W codes code ≡ false → (isEmpty ns && ltb 0 (length (vertices G))) ≡ false → strictlyRising ns ≡ false
+  pub refused-unsorted : rowBit W members code ≡ false → (isEmpty ns && ltb 0 (length (vertices G))) ≡ false → strictlyRising ns ≡ false
       → 7 ≡ firstOf (openFaults G O)
   unfolding openFaults noticeFaults firstOf networkOf
   refused-unsorted a b c = rw (a, b, c)
 
-  pub refused-unknown : rowBit W codes code ≡ false → (isEmpty ns && ltb 0 (length (vertices G))) ≡ false → strictlyRising ns ≡ true
-      → allb (rowBit W codes) ns ≡ false
+  pub refused-unknown : rowBit W members code ≡ false → (isEmpty ns && ltb 0 (length (vertices G))) ≡ false → strictlyRising ns ≡ true
+      → allb (rowBit W members) ns ≡ false
       → 8 ≡ firstOf (openFaults G O)
   unfolding openFaults noticeFaults firstOf networkOf
   refused-unknown a b c d = rw (a, b, c, d)
 
-  pub refused-never : rowBit W codes code ≡ false → (isEmpty ns && ltb 0 (length (vertices G))) ≡ false → strictlyRising ns ≡ true
-      → allb (rowBit W codes) ns ≡ true
+  pub refused-never : rowBit W members code ≡ false → (isEmpty ns && ltb 0 (length (vertices G))) ≡ false → strictlyRising ns ≡ true
+      → allb (rowBit W members) ns ≡ true
       → 0 ≡ firstOf (openFaults G O)
   unfolding openFaults noticeFaults firstOf networkOf
   refused-never a b c d = rw (a, b, c, d)

@@ -17,16 +17,16 @@ use Rattle.rows.proofs.Written.{table-agree, table-at}
 use Rattle.map.specs.Memory.{networkOf}
 
 -- `notice_refusal` is lent no links, and its answer is that of the map with any
-pub faults-any-links : (W : ℕ) (codes l k : List ℕ) (o : Notice) → openFaults (networkOf W codes l) o ≡ openFaults (networkOf W codes k) o
+pub faults-any-links : (W : ℕ) (members l k : List ℕ) (o : Notice) → openFaults (networkOf W members l) o ≡ openFaults (networkOf W members k) o
 unfolding openFaults networkOf
-faults-any-links W codes l k o = refl
+faults-any-links W members l k o = refl
 
 -- what `link_depot` encodes is the links of the network with the new depot
-pub linked-is : (W : ℕ) (codes links : List ℕ) (code : ℕ) (ns : List ℕ)
-    → withDepot (networkOf W codes links) (record { code = code; neighbours = ns }) .linked
+pub linked-is : (W : ℕ) (members links : List ℕ) (code : ℕ) (ns : List ℕ)
+    → withDepot (networkOf W members links) (record { code = code; neighbours = ns }) .linked
     ≡ (λ u v. (eqb u code && memb v ns) || (eqb v code && memb u ns) || tableBit W links u v)
 unfolding withDepot networkOf
-linked-is W codes links code ns = refl
+linked-is W members links code ns = refl
 
 -- ---- the network after an opening
 
@@ -72,14 +72,14 @@ module _ (W code : ℕ) (ns : List ℕ) (wide : 4 ≤ W) (byte : code < 256) (by
       go (inr l) m = table-agree W left links u v (λ a b. absurd (omega arith)) ∙ row-past u v (tableBit W links u v) l
 
   -- THE NEW NETWORK: an open set with the code put, and the table that `link_depot` leaves
-  pub linked-after : (codes after links left : List ℕ) → rowBit W codes code ≡ false → ((v : ℕ) → rowBit W after v ≡ (eqb v code || rowBit W codes v))
+  pub linked-after : (members after links left : List ℕ) → rowBit W members code ≡ false → ((v : ℕ) → rowBit W after v ≡ (eqb v code || rowBit W members v))
       → left ≡ overwrite (encodeTable W (λ u v. (eqb u code && memb v ns) || (eqb v code && memb u ns) || tableBit W links u v)) links
-      → networkOf W after left ≡ withDepot (networkOf W codes links) (record { code = code; neighbours = ns })
+      → networkOf W after left ≡ withDepot (networkOf W members links) (record { code = code; neighbours = ns })
   unfolding withDepot networkOf
-  linked-after codes after links left new h e = λ i. record { depots = listed i; isOpen = λ c. h c i; linked = joined i }
+  linked-after members after links left new h e = λ i. record { depots = listed i; isOpen = λ c. h c i; linked = joined i }
     where
-      listed : filterb (rowBit W after) (range (64 * W)) ≡ insertBy byCode code (filterb (rowBit W codes) (range (64 * W)))
-      listed = ap (λ (p : ℕ → Bool). filterb p (range (64 * W))) (fun-ext h) ∙ sym (insert-filter (rowBit W codes) code new (64 * W) (omega arith))
+      listed : filterb (rowBit W after) (range (64 * W)) ≡ insertBy byCode code (filterb (rowBit W members) (range (64 * W)))
+      listed = ap (λ (p : ℕ → Bool). filterb p (range (64 * W))) (fun-ext h) ∙ sym (insert-filter (rowBit W members) code new (64 * W) (omega arith))
 
       joined : tableBit W left ≡ (λ u v. (eqb u code && memb v ns) || (eqb v code && memb u ns) || tableBit W links u v)
       joined = ap (tableBit W) e ∙ fun-ext (λ u. fun-ext (λ v. table-linked links u v))

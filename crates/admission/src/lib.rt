@@ -15,14 +15,14 @@ ghost use Rattle.map.specs.Memory.{networkOf};
 // ---- refusals 5 to 8
 
 // Whether no depot is named and some are open: the depot would be alone.
-fn is_lonely(codes: &[u64], words: usize, neighbours: &[u8]) -> bool
-    requires { ⌜ words ≤ length (now codes) ⌝ }
-    ensures { λ r. ⌜ r ≡ (isEmpty (now (neighbours .entry)) && ltb 0 (length (vertices (networkOf words (now (codes .entry)) [])))) ⌝ }
+fn is_lonely(members: &[u64], words: usize, neighbours: &[u8]) -> bool
+    requires { ⌜ words ≤ length (now members) ⌝ }
+    ensures { λ r. ⌜ r ≡ (isEmpty (now (neighbours .entry)) && ltb 0 (length (vertices (networkOf words (now (members .entry)) [])))) ⌝ }
 {
     if neighbours.len() != 0 {
         return false;
     }
-    !rows::is_empty(codes, words)
+    !rows::is_empty(members, words)
 }
 
 // Whether each code is above the one before it.
@@ -40,14 +40,14 @@ fn is_rising(neighbours: &[u8]) -> bool
 }
 
 // Whether each code is open.
-fn all_open(codes: &[u64], words: usize, neighbours: &[u8]) -> bool
-    requires { ⌜ (4 ≤ words) × (words < 513) × (words ≤ length (now codes)) ⌝ }
-    ensures { λ r. ⌜ r ≡ allb (rowBit words (now (codes .entry))) (now (neighbours .entry)) ⌝ }
+fn all_open(members: &[u64], words: usize, neighbours: &[u8]) -> bool
+    requires { ⌜ (4 ≤ words) × (words < 513) × (words ≤ length (now members)) ⌝ }
+    ensures { λ r. ⌜ r ≡ allb (rowBit words (now (members .entry))) (now (neighbours .entry)) ⌝ }
 {
     let mut i: usize = 0;
     while i < neighbours.len() {
         let v = neighbours[i] as usize;
-        if !map::is_open(codes, words, v) {
+        if !map::is_open(members, words, v) {
             return false;
         }
         i += 1;
@@ -56,20 +56,20 @@ fn all_open(codes: &[u64], words: usize, neighbours: &[u8]) -> bool
 }
 
 // The first of the refusals 5 to 8 that holds, 0 for none. They ask only which codes are open, so no link is lent.
-pub fn notice_refusal(codes: &[u64], words: usize, code: u8, neighbours: &[u8]) -> u8
-    requires { ⌜ (4 ≤ words) × (words < 513) × (words ≤ length (now codes)) ⌝ }
-    ensures { λ r. ⌜ r ≡ firstOf (openFaults (networkOf words (now (codes .entry)) []) (record { code = code; neighbours = now (neighbours .entry) })) ⌝ }
+pub fn notice_refusal(members: &[u64], words: usize, code: u8, neighbours: &[u8]) -> u8
+    requires { ⌜ (4 ≤ words) × (words < 513) × (words ≤ length (now members)) ⌝ }
+    ensures { λ r. ⌜ r ≡ firstOf (openFaults (networkOf words (now (members .entry)) []) (record { code = code; neighbours = now (neighbours .entry) })) ⌝ }
 {
-    if map::is_open(codes, words, code as usize) {
+    if map::is_open(members, words, code as usize) {
         return 5;
     }
-    if is_lonely(codes, words, neighbours) {
+    if is_lonely(members, words, neighbours) {
         return 6;
     }
     if !is_rising(neighbours) {
         return 7;
     }
-    if !all_open(codes, words, neighbours) {
+    if !all_open(members, words, neighbours) {
         return 8;
     }
     0

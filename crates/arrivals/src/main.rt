@@ -36,14 +36,14 @@ fn same(a: Map, b: Map) -> bool {
     let links = a.links;
     let pairs = a.pairs;
     let rec = a.rec;
-    let codes = rec.codes;
+    let members = rec.members;
     let other_links = b.links;
     let other_pairs = b.pairs;
     let other = b.rec;
-    let other_codes = other.codes;
+    let other_members = other.members;
     let linked = same_words(&links, &other_links, 1024);
     let paired = same_words(&pairs, &other_pairs, 1024);
-    let open = same_words(&codes, &other_codes, 4);
+    let open = same_words(&members, &other_members, 4);
     let figures = both(rec.chain == other.chain, rec.count == other.count);
     both(
         both(linked, paired),

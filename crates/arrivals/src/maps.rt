@@ -61,7 +61,7 @@ fn open_beside(m: Map, code: u8, near: u8) -> Taken {
 // The map after the depots 0, 1 and 2 have opened in a path.
 fn begin() -> Map {
     let rec = Record {
-        codes: [0u64; 4],
+        members: [0u64; 4],
         number: 0,
         chain: 0,
         count: 0,

@@ -47,9 +47,9 @@ module _ (n m k : ℕ) where
 
 -- ---- links and figures
 
-module _ (codes links : List ℕ) where
+module _ (members links : List ℕ) where
   abbrev G : Network
-  G = networkOf 4 codes links
+  G = networkOf 4 members links
 
   few-open : countb (G .isOpen) (range 256) ≤ 256
   few-open = omega (arith, count-le-length (G .isOpen) (range 256), length-range 256)

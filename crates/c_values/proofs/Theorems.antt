@@ -30,17 +30,17 @@ outcome-of-refusal k l = rw (ne-eqb k 71 (λ e. lt-irrefl 0 (omega (arith, l, e)
 -- ---- the record's words
 
 -- WRITTEN IS READ
-pub words-read : (rec : Record) (l : List ℕ) → length (rec .codes) ≡ 4 → recordOf (overwrite (wordsOf rec) l) ≡ rec
+pub words-read : (rec : Record) (l : List ℕ) → length (rec .members) ≡ 4 → recordOf (overwrite (wordsOf rec) l) ≡ rec
 unfolding recordOf wordsOf overwrite
-words-read rec l e = go (rec .codes) e
+words-read rec l e = go (rec .members) e
   where
-    go : (codes : List ℕ) → length codes ≡ 4
-        → let w = codes ++ (rec .number ∷ rec .chain ∷ rec .count ∷ []) in
+    go : (members : List ℕ) → length members ≡ 4
+        → let w = members ++ (rec .number ∷ rec .chain ∷ rec .count ∷ []) in
         let t = w ++ drop (length w) l in
-        _≡_ {A = Record} (record { codes = take 4 t; number = getD t 4 0; chain = getD t 5 0; count = getD t 6 0 }) (record { codes = codes; number = rec .number; chain = rec .chain; count = rec .count })
+        _≡_ {A = Record} (record { members = take 4 t; number = getD t 4 0; chain = getD t 5 0; count = getD t 6 0 }) (record { members = members; number = rec .number; chain = rec .chain; count = rec .count })
     go (a ∷ b ∷ c ∷ d ∷ []) e = refl
     go [] e = absurd (lt-irrefl 0 (omega (arith, e)))
     go (a ∷ []) e = absurd (lt-irrefl 0 (omega (arith, e)))
     go (a ∷ b ∷ []) e = absurd (lt-irrefl 0 (omega (arith, e)))
     go (a ∷ b ∷ c ∷ []) e = absurd (lt-irrefl 0 (omega (arith, e)))
-    go (a ∷ b ∷ c ∷ d ∷ f ∷ codes) e = absurd (lt-irrefl 0 (omega (arith, e)))
+    go (a ∷ b ∷ c ∷ d ∷ f ∷ members) e = absurd (lt-irrefl 0 (omega (arith, e)))

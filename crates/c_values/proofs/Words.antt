@@ -19,42 +19,42 @@ first-four (a ∷ b ∷ c ∷ []) h = absurd (lt-irrefl 0 (omega (arith, h)))
 
 -- read: each figure at its width
 pub read-record : (l : List ℕ) {n c k : ℕ} → recordWords ≤ length l → n ≡ min (getD l 4 0) 65535 → c ≡ min (getD l 5 0) 65535 → k ≡ min (getD l 6 0) 4294967295
-    → _≡_ {A = Record} (record { codes = getD l 0 0 ∷ getD l 1 0 ∷ getD l 2 0 ∷ getD l 3 0 ∷ []; number = n; chain = c; count = k }) (clampedOf l)
+    → _≡_ {A = Record} (record { members = getD l 0 0 ∷ getD l 1 0 ∷ getD l 2 0 ∷ getD l 3 0 ∷ []; number = n; chain = c; count = k }) (clampedOf l)
 unfolding clampedOf
 read-record l h p q r = rw (p, q, r, first-four l h)
 
 -- written: the stores are one overwriting
-four : (l codes : List ℕ) → recordWords ≤ length l → length codes ≡ 4
-    → set (set (set (set l 0 (getD codes 0 0)) 1 (getD codes 1 0)) 2 (getD codes 2 0)) 3 (getD codes 3 0) ≡ overwrite codes l
+four : (l members : List ℕ) → recordWords ≤ length l → length members ≡ 4
+    → set (set (set (set l 0 (getD members 0 0)) 1 (getD members 1 0)) 2 (getD members 2 0)) 3 (getD members 3 0) ≡ overwrite members l
 unfolding overwrite
 four (a ∷ b ∷ d ∷ e ∷ l) (x ∷ y ∷ z ∷ w ∷ []) h len = refl
 four (a ∷ b ∷ d ∷ e ∷ l) [] h len = absurd (lt-irrefl 0 (omega (arith, len)))
 four (a ∷ b ∷ d ∷ e ∷ l) (x ∷ []) h len = absurd (lt-irrefl 0 (omega (arith, len)))
 four (a ∷ b ∷ d ∷ e ∷ l) (x ∷ y ∷ []) h len = absurd (lt-irrefl 0 (omega (arith, len)))
 four (a ∷ b ∷ d ∷ e ∷ l) (x ∷ y ∷ z ∷ []) h len = absurd (lt-irrefl 0 (omega (arith, len)))
-four (a ∷ b ∷ d ∷ e ∷ l) (x ∷ y ∷ z ∷ w ∷ v ∷ codes) h len = absurd (lt-irrefl 0 (omega (arith, len)))
-four [] codes h len = absurd (lt-irrefl 0 (omega (arith, h)))
-four (a ∷ []) codes h len = absurd (lt-irrefl 0 (omega (arith, h)))
-four (a ∷ b ∷ []) codes h len = absurd (lt-irrefl 0 (omega (arith, h)))
-four (a ∷ b ∷ d ∷ []) codes h len = absurd (lt-irrefl 0 (omega (arith, h)))
+four (a ∷ b ∷ d ∷ e ∷ l) (x ∷ y ∷ z ∷ w ∷ v ∷ members) h len = absurd (lt-irrefl 0 (omega (arith, len)))
+four [] members h len = absurd (lt-irrefl 0 (omega (arith, h)))
+four (a ∷ []) members h len = absurd (lt-irrefl 0 (omega (arith, h)))
+four (a ∷ b ∷ []) members h len = absurd (lt-irrefl 0 (omega (arith, h)))
+four (a ∷ b ∷ d ∷ []) members h len = absurd (lt-irrefl 0 (omega (arith, h)))
 
-pub write-codes : (l codes : List ℕ) {l₁ l₂ l₃ l₄ : List ℕ} → recordWords ≤ length l → length codes ≡ 4
-    → l₁ ≡ set l 0 (getD codes 0 0)
-    → l₂ ≡ set l₁ 1 (getD codes 1 0)
-    → l₃ ≡ set l₂ 2 (getD codes 2 0)
-    → l₄ ≡ set l₃ 3 (getD codes 3 0)
-    → l₄ ≡ overwrite codes l
-write-codes l codes h len a b d e = rw (e, d, b, a, four l codes h len)
+pub write-members : (l members : List ℕ) {l₁ l₂ l₃ l₄ : List ℕ} → recordWords ≤ length l → length members ≡ 4
+    → l₁ ≡ set l 0 (getD members 0 0)
+    → l₂ ≡ set l₁ 1 (getD members 1 0)
+    → l₃ ≡ set l₂ 2 (getD members 2 0)
+    → l₄ ≡ set l₃ 3 (getD members 3 0)
+    → l₄ ≡ overwrite members l
+write-members l members h len a b d e = rw (e, d, b, a, four l members h len)
 
-three : (l codes : List ℕ) (n c k : ℕ) → recordWords ≤ length l → length codes ≡ 4
-    → set (set (set (overwrite codes l) 4 n) 5 c) 6 k ≡ overwrite (codes ++ (n ∷ c ∷ k ∷ [])) l
+three : (l members : List ℕ) (n c k : ℕ) → recordWords ≤ length l → length members ≡ 4
+    → set (set (set (overwrite members l) 4 n) 5 c) 6 k ≡ overwrite (members ++ (n ∷ c ∷ k ∷ [])) l
 unfolding overwrite
 three (a ∷ b ∷ d ∷ e ∷ f ∷ g ∷ i ∷ l) (x ∷ y ∷ z ∷ w ∷ []) n c k h len = refl
 three l [] n c k h len = absurd (lt-irrefl 0 (omega (arith, len)))
 three l (x ∷ []) n c k h len = absurd (lt-irrefl 0 (omega (arith, len)))
 three l (x ∷ y ∷ []) n c k h len = absurd (lt-irrefl 0 (omega (arith, len)))
 three l (x ∷ y ∷ z ∷ []) n c k h len = absurd (lt-irrefl 0 (omega (arith, len)))
-three l (x ∷ y ∷ z ∷ w ∷ v ∷ codes) n c k h len = absurd (lt-irrefl 0 (omega (arith, len)))
+three l (x ∷ y ∷ z ∷ w ∷ v ∷ members) n c k h len = absurd (lt-irrefl 0 (omega (arith, len)))
 three [] (x ∷ y ∷ z ∷ w ∷ []) n c k h len = absurd (lt-irrefl 0 (omega (arith, h)))
 three (a ∷ []) (x ∷ y ∷ z ∷ w ∷ []) n c k h len = absurd (lt-irrefl 0 (omega (arith, h)))
 three (a ∷ b ∷ []) (x ∷ y ∷ z ∷ w ∷ []) n c k h len = absurd (lt-irrefl 0 (omega (arith, h)))
@@ -63,11 +63,11 @@ three (a ∷ b ∷ d ∷ e ∷ []) (x ∷ y ∷ z ∷ w ∷ []) n c k h len = ab
 three (a ∷ b ∷ d ∷ e ∷ f ∷ []) (x ∷ y ∷ z ∷ w ∷ []) n c k h len = absurd (lt-irrefl 0 (omega (arith, h)))
 three (a ∷ b ∷ d ∷ e ∷ f ∷ g ∷ []) (x ∷ y ∷ z ∷ w ∷ []) n c k h len = absurd (lt-irrefl 0 (omega (arith, h)))
 
-pub write-record : (l : List ℕ) (rec : Record) {l₄ l₅ l₆ l₇ : List ℕ} → recordWords ≤ length l → length (rec .codes) ≡ 4
-    → l₄ ≡ overwrite (rec .codes) l
+pub write-record : (l : List ℕ) (rec : Record) {l₄ l₅ l₆ l₇ : List ℕ} → recordWords ≤ length l → length (rec .members) ≡ 4
+    → l₄ ≡ overwrite (rec .members) l
     → l₅ ≡ set l₄ 4 (rec .number)
     → l₆ ≡ set l₅ 5 (rec .chain)
     → l₇ ≡ set l₆ 6 (rec .count)
     → l₇ ≡ overwrite (wordsOf rec) l
 unfolding wordsOf
-write-record l rec h len a b d e = rw (e, d, b, a, three l (rec .codes) (rec .number) (rec .chain) (rec .count) h len)
+write-record l rec h len a b d e = rw (e, d, b, a, three l (rec .members) (rec .number) (rec .chain) (rec .count) h len)

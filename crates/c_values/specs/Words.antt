@@ -8,13 +8,13 @@ abbrev pub recordWords : ℕ
 recordWords = 7
 
 unfoldable pub recordOf : List ℕ → Record
-recordOf words = record { codes = take 4 words; number = getD words 4 0; chain = getD words 5 0; count = getD words 6 0 }
+recordOf words = record { members = take 4 words; number = getD words 4 0; chain = getD words 5 0; count = getD words 6 0 }
 
 unfoldable pub wordsOf : Record → List ℕ
-wordsOf rec = rec .codes ++ (rec .number ∷ rec .chain ∷ rec .count ∷ [])
+wordsOf rec = rec .members ++ (rec .number ∷ rec .chain ∷ rec .count ∷ [])
 
 -- ---- a step of the code: nobody has to believe it
 
 -- The record at the widths of its fields. `map-clamp` and `clamped-is` (proofs/Clamps) say that no call can tell the difference.
 unfoldable pub clampedOf : List ℕ → Record
-clampedOf words = record { codes = take 4 words; number = min (getD words 4 0) 65535; chain = min (getD words 5 0) 65535; count = min (getD words 6 0) 4294967295 }
+clampedOf words = record { members = take 4 words; number = min (getD words 4 0) 65535; chain = min (getD words 5 0) 65535; count = min (getD words 6 0) 4294967295 }

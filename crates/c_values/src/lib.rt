@@ -39,7 +39,7 @@ pub fn record_of(words: &[u64]) -> Record
     ensures { λ r. ⌜ r ≡ clampedOf (now (words .entry)) ⌝ }
 {
     Record {
-        codes: [words[0], words[1], words[2], words[3]],
+        members: [words[0], words[1], words[2], words[3]],
         number: at_16_bits(words[4]),
         chain: at_16_bits(words[5]),
         count: at_32_bits(words[6]),
@@ -55,14 +55,14 @@ fn put_word(words: &mut [u64], i: usize, x: u64)
 }
 
 // Puts the open set into the first four words.
-fn put_codes(words: &mut [u64], codes: &[u64])
-    requires { ⌜ (recordWords ≤ length (now words)) × (length (now codes) ≡ 4) ⌝ }
-    ensures { λ r. ⌜ now (words .exit) ≡ overwrite (now (codes .entry)) (now (words .entry)) ⌝ }
+fn put_members(words: &mut [u64], members: &[u64])
+    requires { ⌜ (recordWords ≤ length (now words)) × (length (now members) ≡ 4) ⌝ }
+    ensures { λ r. ⌜ now (words .exit) ≡ overwrite (now (members .entry)) (now (words .entry)) ⌝ }
 {
-    put_word(words, 0, codes[0]);
-    put_word(words, 1, codes[1]);
-    put_word(words, 2, codes[2]);
-    put_word(words, 3, codes[3]);
+    put_word(words, 0, members[0]);
+    put_word(words, 1, members[1]);
+    put_word(words, 2, members[2]);
+    put_word(words, 3, members[3]);
 }
 
 // Puts a record into seven lent words; words past them stay.
@@ -70,8 +70,8 @@ pub fn put_record(words: &mut [u64], rec: Record)
     requires { ⌜ recordWords ≤ length (now words) ⌝ }
     ensures { λ r. ⌜ now (words .exit) ≡ overwrite (wordsOf rec) (now (words .entry)) ⌝ }
 {
-    let codes = rec.codes;
-    put_codes(words, &codes);
+    let members = rec.members;
+    put_members(words, &members);
     put_word(words, 4, rec.number as u64);
     put_word(words, 5, rec.chain as u64);
     put_word(words, 6, rec.count as u64);

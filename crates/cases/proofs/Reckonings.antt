@@ -62,7 +62,7 @@ module _ (k number : ℕ) (low : k ≤ 256) (counts : number ≡ countb (path k 
 
   links-pass : soundLinks 256 (mapNetwork base rec links) (rec .number) ≡ true
   links-pass =
-      sound-links-iff 4 (rec .codes) links (rec .number) .1
+      sound-links-iff 4 (rec .members) links (rec .number) .1
       (rw (lent .network, lent .counted) (record { isSound = held .net .sound; counted = counts }))
 
   connected-pass : connected (mapNetwork base rec links) ≡ true
@@ -80,7 +80,7 @@ module _ (k number : ℕ) (low : k ≤ 256) (counts : number ≡ countb (path k 
       record {
         reckoned = record {
           answer = Searches (length (R .references));
-          after = record { codes = rec .codes; number = rec .number; chain = R .candidate; count = countPairs (range 256) (R .pairs) };
+          after = record { members = rec .members; number = rec .number; chain = R .candidate; count = countPairs (range 256) (R .pairs) };
         };
         lent = roundsLeave base G R B;
       }

@@ -65,7 +65,7 @@ counted = (refl, refl, refl)
 
 -- ---- memory that means them
 
-path-written : (k : ℕ) → k ≤ 256 → (codes links : List ℕ) → networkOf 4 (overwrite (encodeRow 4 (Graph.path k .isOpen)) codes) (overwrite (encodeTable 4 (Graph.path k .linked)) links) ≡ Graph.path k
+path-written : (k : ℕ) → k ≤ 256 → (members links : List ℕ) → networkOf 4 (overwrite (encodeRow 4 (Graph.path k .isOpen)) members) (overwrite (encodeTable 4 (Graph.path k .linked)) links) ≡ Graph.path k
 path-written k low = network-read base (Graph.path k) (path-held k low)
 
 module _ (rec : Record) (links pairs : List ℕ) (l : 1024 ≤ length links) (p : 1024 ≤ length pairs) where
@@ -73,7 +73,7 @@ module _ (rec : Record) (links pairs : List ℕ) (l : 1024 ≤ length links) (p 
   unfolding emptyCall emptyGiven emptyRefusal firstOf
   emptied-done = rw (le-leb 1024 (length links) l, le-leb 1024 (length pairs) p)
 
-  emptied-path : (networkOf 4 (emptyCall base rec links pairs .after .codes) (emptyCall base rec links pairs .links) ≡ Graph.path 0) × (emptyCall base rec links pairs .after .number ≡ 0)
+  emptied-path : (networkOf 4 (emptyCall base rec links pairs .after .members) (emptyCall base rec links pairs .links) ≡ Graph.path 0) × (emptyCall base rec links pairs .after .number ≡ 0)
   unfolding networkOf Graph.path
   emptied-path =
       let e = emptied-is-empty base rec links pairs emptied-done in (

@@ -94,10 +94,10 @@ pub record Cases (emptying : Record → List ℕ → List ℕ → EmptyLeft) (re
   pub single : (rec : Record) (links : List ℕ) (B : Lent) → IsMapOf (path 1) 1 rec links B → resultOf reckoning rec links B ≡ singleResult
   pub seven : (rec : Record) (links : List ℕ) (B : Lent) → IsMapOf (path 7) 7 rec links B → resultOf reckoning rec links B ≡ sevenResult
   -- there is such memory: a path's words over whatever stood there; for the empty map, what an emptying leaves
-  pub written : (k : ℕ) → k ≤ 256 → (codes links : List ℕ) → networkOf 4 (overwrite (encodeRow 4 (path k .isOpen)) codes) (overwrite (encodeTable 4 (path k .linked)) links) ≡ path k
+  pub written : (k : ℕ) → k ≤ 256 → (members links : List ℕ) → networkOf 4 (overwrite (encodeRow 4 (path k .isOpen)) members) (overwrite (encodeTable 4 (path k .linked)) links) ≡ path k
   pub emptied : (rec : Record) (links pairs : List ℕ) → 1024 ≤ length links → 1024 ≤ length pairs
       → (emptying rec links pairs .answer ≡ Done)
-      × (networkOf 4 (emptying rec links pairs .after .codes) (emptying rec links pairs .links) ≡ path 0)
+      × (networkOf 4 (emptying rec links pairs .after .members) (emptying rec links pairs .links) ≡ path 0)
       × (emptying rec links pairs .after .number ≡ 0)
   -- opened from the empty map, each call lent the map as it stands after the one before, and any other memory that is long enough
   pub stream : (cs : List Call) → asksOf cs ≡ sevenLines → AllLong cs → answersOf opening (emptyMemory base) cs ≡ sevenAnswers

@@ -17,41 +17,41 @@ use Rattle.map.specs.Bits.{soundLink, soundPair}
 -- ---- links
 
 -- the open set is lent as row 0 of a table
-codes-count : (W : ℕ) (codes : List ℕ) {r : ℕ} → r ≡ countb (tableBit W codes 0) (range (64 * W)) → r ≡ countb (rowBit W codes) (range (64 * W))
-codes-count W codes e = e ∙ count-same (64 * W) (tableBit W codes 0) (rowBit W codes) (λ v l. table-zero W codes v)
+members-count : (W : ℕ) (members : List ℕ) {r : ℕ} → r ≡ countb (tableBit W members 0) (range (64 * W)) → r ≡ countb (rowBit W members) (range (64 * W))
+members-count W members e = e ∙ count-same (64 * W) (tableBit W members 0) (rowBit W members) (λ v l. table-zero W members v)
 
-module _ (W : ℕ) (codes links : List ℕ) {r number : ℕ} (e : r ≡ countb (tableBit W codes 0) (range (64 * W))) where
-  pub links-miscounted : (r ≡ number → ⊥) → false ≡ soundLinks (64 * W) (networkOf W codes links) number
+module _ (W : ℕ) (members links : List ℕ) {r number : ℕ} (e : r ≡ countb (tableBit W members 0) (range (64 * W))) where
+  pub links-miscounted : (r ≡ number → ⊥) → false ≡ soundLinks (64 * W) (networkOf W members links) number
   unfolding soundLinks networkOf
   links-miscounted ne =
-      let q : eqb number (countb (rowBit W codes) (range (64 * W))) ≡ false = ne-eqb number _ (λ p. ne (codes-count W codes e ∙ sym p)) in
+      let q : eqb number (countb (rowBit W members) (range (64 * W))) ≡ false = ne-eqb number _ (λ p. ne (members-count W members e ∙ sym p)) in
       rw q
 
-  pub links-scanned : r ≡ number → {f : Bool} → f ≡ allSet (64 * W) (tableBit W links) (soundLink (networkOf W codes links)) → f ≡ soundLinks (64 * W) (networkOf W codes links) number
+  pub links-scanned : r ≡ number → {f : Bool} → f ≡ allSet (64 * W) (tableBit W links) (soundLink (networkOf W members links)) → f ≡ soundLinks (64 * W) (networkOf W members links) number
   unfolding soundLinks networkOf
   links-scanned p h =
-      let q : eqb number (countb (rowBit W codes) (range (64 * W))) ≡ true = eq-eqb number _ (sym p ∙ codes-count W codes e) in
+      let q : eqb number (countb (rowBit W members) (range (64 * W))) ≡ true = eq-eqb number _ (sym p ∙ members-count W members e) in
       rw q h
 
 -- ---- figures, whatever the links are
 
-module _ (W : ℕ) (codes links pairs : List ℕ) (chain count : ℕ) where
+module _ (W : ℕ) (members links pairs : List ℕ) (chain count : ℕ) where
   pub figures-miscounted : {r : ℕ} → r ≡ countPairs (range (64 * W)) (tableBit W pairs) → (r ≡ count → ⊥)
-      → false ≡ soundFigures (64 * W) (networkOf W codes links) (tableBit W pairs) chain count
+      → false ≡ soundFigures (64 * W) (networkOf W members links) (tableBit W pairs) chain count
   unfolding soundFigures networkOf
   figures-miscounted e ne =
       let q : eqb count (countPairs (range (64 * W)) (tableBit W pairs)) ≡ false = ne-eqb count _ (λ p. ne (e ∙ sym p)) in
-      rw (q, and-false (allSet (64 * W) (tableBit W pairs) (soundPair (networkOf W codes links))))
+      rw (q, and-false (allSet (64 * W) (tableBit W pairs) (soundPair (networkOf W members links))))
 
-  pub figures-too-long : 64 * W ≤ chain → false ≡ soundFigures (64 * W) (networkOf W codes links) (tableBit W pairs) chain count
+  pub figures-too-long : 64 * W ≤ chain → false ≡ soundFigures (64 * W) (networkOf W members links) (tableBit W pairs) chain count
   unfolding soundFigures networkOf
   figures-too-long l =
       let q : ltb chain (64 * W) ≡ false = le-ltb chain (64 * W) l in
       rw (q, and-false _)
 
   pub figures-scanned : {r : ℕ} → r ≡ countPairs (range (64 * W)) (tableBit W pairs) → r ≡ count → chain < 64 * W
-      → {f : Bool} → f ≡ allSet (64 * W) (tableBit W pairs) (soundPair (networkOf W codes links))
-      → f ≡ soundFigures (64 * W) (networkOf W codes links) (tableBit W pairs) chain count
+      → {f : Bool} → f ≡ allSet (64 * W) (tableBit W pairs) (soundPair (networkOf W members links))
+      → f ≡ soundFigures (64 * W) (networkOf W members links) (tableBit W pairs) chain count
   unfolding soundFigures networkOf
   figures-scanned e p l h =
       let q : eqb count (countPairs (range (64 * W)) (tableBit W pairs)) ≡ true = eq-eqb count _ (sym p ∙ e) in

@@ -22,16 +22,16 @@ use Rattle.map.proofs.Theorems.{network-listed, network-once, network-linked-be
 
 -- ---- SOUND LINKS: the test says what the words say, on any words whatever
 
-module _ (W : ℕ) (codes links : List ℕ) (number : ℕ) where
+module _ (W : ℕ) (members links : List ℕ) (number : ℕ) where
   abbrev G : Network
-  G = networkOf W codes links
+  G = networkOf W members links
 
   links-sound-of : soundLinks (64 * W) G number ≡ true → AreLinksSound (64 * W) G number
   unfolding soundLinks soundLink networkOf
   links-sound-of h = record {
     isSound = record {
-      listed = network-listed W codes links;
-      once = network-once W codes links;
+      listed = network-listed W members links;
+      once = network-once W members links;
       ends = λ u v l. true→t (parts u v l .0);
       loopless = λ u v l. eqb-false u v (not-true (eqb u v) (parts u v l .1));
       symmetric = λ u v l. true→t (parts u v l .2);
@@ -44,7 +44,7 @@ module _ (W : ℕ) (codes links : List ℕ) (number : ℕ) where
 
       parts : (u v : ℕ) → T (G .linked u v) → (G .isOpen v ≡ true) × (not (eqb u v) ≡ true) × (G .linked v u ≡ true)
       parts u v l =
-          let r = network-linked-below W codes links u v l in
+          let r = network-linked-below W members links u v l in
           let y : soundLink G u v ≡ true = all-set-elim (64 * W) (G .linked) (soundLink G) (both .1) u v (r .0) (r .1) (t→true (G .linked u v) l) in
           let a = and-true (G .isOpen u && G .isOpen v && not (eqb u v)) (G .linked v u) y in
           let b = and-true (G .isOpen u && G .isOpen v) (not (eqb u v)) (a .0) in
@@ -70,10 +70,10 @@ module _ (W : ℕ) (codes links : List ℕ) (number : ℕ) where
 
 -- ---- SOUND FIGURES: the same, and they ask nothing of the links
 
-pub figures-any-links : (W : ℕ) (codes l k : List ℕ) (P : Pairs) (chain count : ℕ)
-    → soundFigures (64 * W) (networkOf W codes l) P chain count ≡ soundFigures (64 * W) (networkOf W codes k) P chain count
+pub figures-any-links : (W : ℕ) (members l k : List ℕ) (P : Pairs) (chain count : ℕ)
+    → soundFigures (64 * W) (networkOf W members l) P chain count ≡ soundFigures (64 * W) (networkOf W members k) P chain count
 unfolding soundFigures soundPair delivers networkOf
-figures-any-links W codes l k P chain count = refl
+figures-any-links W members l k P chain count = refl
 
 module _ (n : ℕ) (G : Network) (P : Pairs) (chain count : ℕ) where
   abbrev counted : Bool
@@ -123,14 +123,14 @@ module _ (n : ℕ) (G : Network) (P : Pairs) (chain count : ℕ) where
 -- ---- AN EMPTY MAP IS SOUND
 
 pub empty-links-sound : (W : ℕ) (left : EmptyLeft) → IsEmpty W left
-    → soundLinks (64 * W) (networkOf W (left .after .codes) (left .links)) (left .after .number) ≡ true
+    → soundLinks (64 * W) (networkOf W (left .after .members) (left .links)) (left .after .number) ≡ true
 unfolding networkOf
 empty-links-sound W left e =
-    sound-links-iff W (left .after .codes) (left .links) (left .after .number) .1
+    sound-links-iff W (left .after .members) (left .links) (left .after .number) .1
     (record {
       isSound = record {
-        listed = network-listed W (left .after .codes) (left .links);
-        once = network-once W (left .after .codes) (left .links);
+        listed = network-listed W (left .after .members) (left .links);
+        once = network-once W (left .after .members) (left .links);
         ends = λ u v l. absurd (false→not (e .unlinked u v) l);
         loopless = λ u v l. absurd (false→not (e .unlinked u v) l);
         symmetric = λ u v l. absurd (false→not (e .unlinked u v) l);
@@ -139,10 +139,10 @@ empty-links-sound W left e =
     })
 
 pub empty-figures-sound : (W : ℕ) (left : EmptyLeft) → 0 < W → IsEmpty W left
-    → soundFigures (64 * W) (networkOf W (left .after .codes) (left .links)) (tableBit W (left .pairs)) (left .after .chain) (left .after .count) ≡ true
+    → soundFigures (64 * W) (networkOf W (left .after .members) (left .links)) (tableBit W (left .pairs)) (left .after .chain) (left .after .count) ≡ true
 unfolding networkOf countPairs
 empty-figures-sound W left some e =
-    sound-figures-iff (64 * W) (networkOf W (left .after .codes) (left .links)) (tableBit W (left .pairs)) (left .after .chain) (left .after .count) .1
+    sound-figures-iff (64 * W) (networkOf W (left .after .members) (left .links)) (tableBit W (left .pairs)) (left .after .chain) (left .after .count) .1
     (record {
       rising = λ u v l m p. absurd (false→not (e .unpaired u v) p);
       ends = λ u v l m p. absurd (false→not (e .unpaired u v) p);

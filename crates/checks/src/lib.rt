@@ -13,11 +13,11 @@ ghost use Rattle.checks.specs.Sound.{soundLinks, soundFigures};
 // ---- sound links
 
 // Whether links and number open are sound. Only set bits are walked, and the walk ends at the first faulty one.
-pub fn links_are_sound(links: &[u64], codes: &[u64], words: usize, number: u16) -> bool
-    requires { ⌜ IsLent words (now links) (now codes) ⌝ }
-    ensures { λ r. ⌜ r ≡ soundLinks (64 * words) (networkOf words (now (codes .entry)) (now (links .entry))) number ⌝ }
+pub fn links_are_sound(links: &[u64], members: &[u64], words: usize, number: u16) -> bool
+    requires { ⌜ IsLent words (now links) (now members) ⌝ }
+    ensures { λ r. ⌜ r ≡ soundLinks (64 * words) (networkOf words (now (members .entry)) (now (links .entry))) number ⌝ }
 {
-    if rows::degree(codes, words, 0) != number as usize {
+    if rows::degree(members, words, 0) != number as usize {
         return false;
     }
     let mut fine = true;
@@ -28,7 +28,7 @@ pub fn links_are_sound(links: &[u64], codes: &[u64], words: usize, number: u16) 
             let mut x = links[words * u + w];
             while x != 0 {
                 let v = 64 * w + words::least(x);
-                if !map::link_is_sound(links, codes, words, u, v) {
+                if !map::link_is_sound(links, members, words, u, v) {
                     fine = false;
                     break 'rows;
                 }
@@ -58,9 +58,15 @@ fn count_pairs(pairs: &[u64], words: usize) -> usize
 }
 
 // Whether the figures are sound. They ask only which codes are open, so no link is lent.
-pub fn figures_are_sound(pairs: &[u64], codes: &[u64], words: usize, chain: u16, count: u32) -> bool
-    requires { ⌜ IsLent words (now pairs) (now codes) ⌝ }
-    ensures { λ r. ⌜ r ≡ soundFigures (64 * words) (networkOf words (now (codes .entry)) []) (tableBit words (now (pairs .entry))) chain count ⌝ }
+pub fn figures_are_sound(
+    pairs: &[u64],
+    members: &[u64],
+    words: usize,
+    chain: u16,
+    count: u32,
+) -> bool
+    requires { ⌜ IsLent words (now pairs) (now members) ⌝ }
+    ensures { λ r. ⌜ r ≡ soundFigures (64 * words) (networkOf words (now (members .entry)) []) (tableBit words (now (pairs .entry))) chain count ⌝ }
 {
     if count_pairs(pairs, words) != count as usize {
         return false;
@@ -76,7 +82,7 @@ pub fn figures_are_sound(pairs: &[u64], codes: &[u64], words: usize, chain: u16,
             let mut x = pairs[words * low + w];
             while x != 0 {
                 let high = 64 * w + words::least(x);
-                if !map::pair_is_sound(codes, words, low, high) {
+                if !map::pair_is_sound(members, words, low, high) {
                     paired = false;
                     break 'rows;
                 }

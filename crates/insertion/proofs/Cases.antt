@@ -42,23 +42,23 @@ use Rattle.insertion.proofs.Shrinking.{figured-over}
 -- ---- the search
 
 -- over the tables T₀ it leaves T₁
-module _ (codes links : List ℕ) (p b s : List ℕ) (a e : ℕ) (T₀ T₁ : Tables) where
+module _ (members links : List ℕ) (p b s : List ℕ) (a e : ℕ) (T₀ T₁ : Tables) where
   abbrev H : Network
-  H = networkOf 4 codes links
+  H = networkOf 4 members links
 
   left-search : IsNet H → T (H .isOpen a) → searched e T₁ ≡ searchTable 4 links a T₀ → T₁ ≡ searchLeaves 4 H a T₀
   unfolding searchTable networkOf
-  left-search net o q = ap (λ (X : Searched). X .left) q ∙ table-leaves H (net .sound) 256 (network-open-below 4 codes links) (lit< tt) a o 4 links T₀ refl refl
+  left-search net o q = ap (λ (X : Searched). X .left) q ∙ table-leaves H (net .sound) 256 (network-open-below 4 members links) (lit< tt) a o 4 links T₀ refl refl
 
   -- the search over the table is the network's, and stands in the tables
-  pub search-stands : IsNet H → T (H .isOpen a) → searched e T₁ ≡ searchTable 4 links a T₀ → HoldsSearch base codes links (lent p T₁ b s) a e
+  pub search-stands : IsNet H → T (H .isOpen a) → searched e T₁ ≡ searchTable 4 links a T₀ → HoldsSearch base members links (lent p T₁ b s) a e
   unfolding searchTable networkOf
   search-stands net o q = record {
     net = net;
     present = o;
     depth =
         ap (λ (X : Searched). X .depth) q
-        ∙ table-depth H (net .sound) 256 (network-open-below 4 codes links) (lit< tt) a o 4 links refl refl
+        ∙ table-depth H (net .sound) 256 (network-open-below 4 members links) (lit< tt) a o 4 links refl refl
         ∙ depth-is H net a o;
     stands = left-search net o q ∙ sym (ap (searchLeaves 4 H a) (left-search net o q) ∙ leaves-over 4 H a a T₀);
   }
@@ -68,9 +68,9 @@ module _ (codes links : List ℕ) (p b s : List ℕ) (a e : ℕ) (T₀ T₁ : Ta
   figured-first D X net o q h = h ∙ ap (λ (Y : Tables). figuredBy base H a D (lent p Y b s)) (left-search net o q) ∙ figured-over base H a T₀ p b s D
 
 -- tables of the same lengths are whole
-pub whole-first : (codes links p b s : List ℕ) (a : ℕ) (T₀ T₁ : Tables) (D count : ℕ) → IsFigurable base codes links (lent p T₀ b s) a D count
-    → length (T₁ .hops) ≡ length (T₀ .hops) → length (T₁ .even) ≡ length (T₀ .even) → length (T₁ .odd) ≡ length (T₀ .odd) → IsWhole base codes links (lent p T₁ b s)
-whole-first codes links p b s a T₀ T₁ D count F h x y = record {
+pub whole-first : (members links p b s : List ℕ) (a : ℕ) (T₀ T₁ : Tables) (D count : ℕ) → IsFigurable base members links (lent p T₀ b s) a D count
+    → length (T₁ .hops) ≡ length (T₀ .hops) → length (T₁ .even) ≡ length (T₀ .even) → length (T₁ .odd) ≡ length (T₀ .odd) → IsWhole base members links (lent p T₁ b s)
+whole-first members links p b s a T₀ T₁ D count F h x y = record {
   table = F .table;
   pairTable = F .pairTable;
   hopPlaces = omega (arith, F .hopPlaces);
@@ -128,18 +128,18 @@ join-same G net a o D P u v = rw (le-ltb D D (le-refl D), eq-eqb D D refl) (firs
 
 -- ---- the cases
 
-module _ (codes links : List ℕ) (B : Lent) (a e D : ℕ) (I : HoldsSearch base codes links B a e) where
+module _ (members links : List ℕ) (B : Lent) (a e D : ℕ) (I : HoldsSearch base members links B a e) where
   abbrev G : Network
-  G = networkOf 4 codes links
+  G = networkOf 4 members links
 
   abbrev P : Pairs
   P = tableBit 4 (B .pairs)
 
   abbrev Left : Pairs
-  Left = stayingPairs (via (chart (networkOf 4 codes links)) a) D (tableBit 4 (B .pairs))
+  Left = stayingPairs (via (chart (networkOf 4 members links)) a) D (tableBit 4 (B .pairs))
 
   below : (v : ℕ) → T (G .isOpen v) → v < 256
-  below = network-open-below 4 codes links
+  below = network-open-below 4 members links
 
   by-tests : (x y z : Bool) → ltb D (ecc (chart G) a) ≡ x → eqb (ecc (chart G) a) D ≡ y → anyPair (chart G .depots) Left ≡ z
       → figured (changeAs (openCase x y z (chart G) a D P .change)) (ranBy base G (openCase x y z (chart G) a D P .final) B) ≡ figuredBy base G a D B
@@ -174,7 +174,7 @@ module _ (codes links : List ℕ) (B : Lent) (a e D : ℕ) (I : HoldsSearch base
 
   -- ---- the stale pairs are gone
 
-  module _ (ends : (u v : ℕ) → T (tableBit 4 (B .pairs) u v) → T (delivers (networkOf 4 codes links) u) × T (delivers (networkOf 4 codes links) v)) (low : e ≤ D) (t : List ℕ) (k w : ℕ) (drops : dropped (tally t k) w ≡ dropOf 4 (wayBy (B .searched .hops)) D (B .pairs)) where
+  module _ (ends : (u v : ℕ) → T (tableBit 4 (B .pairs) u v) → T (delivers (networkOf 4 members links) u) × T (delivers (networkOf 4 members links) v)) (low : e ≤ D) (t : List ℕ) (k w : ℕ) (drops : dropped (tally t k) w ≡ dropOf 4 (wayBy (B .searched .hops)) D (B .pairs)) where
     drops-by : dropped (tally t k) w ≡ dropOf 4 (wayBy (searchLeaves 4 G a (B .searched) .hops)) D (B .pairs)
     drops-by = drops ∙ ap (λ (T : Tables). dropOf 4 (wayBy (T .hops)) D (B .pairs)) (I .stands)
 

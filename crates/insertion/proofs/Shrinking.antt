@@ -39,12 +39,12 @@ absorbed-counted W mark r e T A p n m c k h =
 
 -- ---- the rounds
 
-module _ (codes links : List ℕ) (B : Lent) (a e way : ℕ) (row : List ℕ) (I : HoldsSearch base codes links B a e) (low : way ≤ unreached) where
+module _ (members links : List ℕ) (B : Lent) (a e way : ℕ) (row : List ℕ) (I : HoldsSearch base members links B a e) (low : way ≤ unreached) where
   abbrev G : Network
-  G = networkOf 4 codes links
+  G = networkOf 4 members links
 
   abbrev S₁ : State
-  S₁ = round (chart (networkOf 4 codes links)) a (start way)
+  S₁ = round (chart (networkOf 4 members links)) a (start way)
 
   abbrev O : Origin
   O = record { searched = B .searched; pairs = B .pairs; bounds = B .bounds; skips = B .skips; waiting = row }
@@ -53,19 +53,19 @@ module _ (codes links : List ℕ) (B : Lent) (a e way : ℕ) (row : List ℕ) (I
   unfolding start memb anyb
   fresh = refl
 
-  running : Running 4 256 257 (base-shape .most) codes links (I .net) S₁
+  running : Running 4 256 257 (base-shape .most) members links (I .net) S₁
   running =
-      running-round 4 256 257 (base-shape .most) codes links (I .net) (start way) a (start-running base base-shape codes links (I .net) way low)
+      running-round 4 256 257 (base-shape .most) members links (I .net) (start way) a (start-running base base-shape members links (I .net) way low)
       (depot-in G (I .net) a (I .present)) fresh
 
-  module _ (p b s w : List ℕ) (begins : roundsBegun p (marks b s w) ≡ roundsBeginOf 4 257 codes (roundsBegun (B .pairs) (marks (B .bounds) (B .skips) row))) where
+  module _ (p b s w : List ℕ) (begins : roundsBegun p (marks b s w) ≡ roundsBeginOf 4 257 members (roundsBegun (B .pairs) (marks (B .bounds) (B .skips) row))) where
     abbrev M : Workspace
     M = workspace (B .searched) (tally p 0) (marks b s w) way 0
 
     begun-holds : Holds 4 256 257 G O (start way) M
     unfolding roundsBeginOf
     begun-holds =
-        start-holds base base-shape codes links (I .net) way O p b s w
+        start-holds base base-shape members links (I .net) way O p b s w
         (ap (λ (X : RoundsBegun). X .pairs) begins) (ap (λ (X : RoundsBegun). X .marked .bounds) begins) (ap (λ (X : RoundsBegun). X .marked .skips) begins) (ap (λ (X : RoundsBegun). X .marked .waiting) begins)
 
     module _ (t : Tally) (m : Marks) (c : ℕ) (takes : absorbed t m c ≡ absorbing 4 256 a e (B .searched) (absorbed (tally p 0) (marks b s w) way)) where
@@ -78,15 +78,15 @@ module _ (codes links : List ℕ) (B : Lent) (a e way : ℕ) (row : List ℕ) (I
       first-holds : Holds 4 256 257 G O S₁ (workspace (B .searched) t m c 1)
       first-holds =
           subst (Holds 4 256 257 G O S₁) taken-in
-          (absorb 4 256 257 (base-shape .most) codes links (I .net) O (start way) M begun-holds (start-running base base-shape codes links (I .net) way low) a (depot-in G (I .net) a (I .present)) fresh)
+          (absorb 4 256 257 (base-shape .most) members links (I .net) O (start way) M begun-holds (start-running base base-shape members links (I .net) way low) a (depot-in G (I .net) a (I .present)) fresh)
 
       -- WHAT THE THREE CALLS LEAVE: the network's rounds after the one from a
       pub shrink-is : (T : Tables) (t′ : Tally) (m′ : Marks) (c′ n : ℕ) → workspace T t′ m′ c′ n ≡ runOf 4 links 256 256 (workspace (B .searched) t m c 1)
           → ran (lent (t′ .pairs) T (m′ .bounds) (m′ .skips)) c′ (t′ .count) n ≡ ranBy base G (rounds (chart G) (length (chart G .depots)) S₁) B
       unfolding ranBy
       shrink-is T t′ m′ c′ n q =
-          let f = run-figures base base-shape codes links (I .net) S₁ running O (workspace (B .searched) t m c 1) (workspace T t′ m′ c′ n) first-holds q in
-          let g = run-leaves base base-shape codes links (I .net) S₁ running O (workspace (B .searched) t m c 1) (workspace T t′ m′ c′ n) first-holds q in
+          let f = run-figures base base-shape members links (I .net) S₁ running O (workspace (B .searched) t m c 1) (workspace T t′ m′ c′ n) first-holds q in
+          let g = run-leaves base base-shape members links (I .net) S₁ running O (workspace (B .searched) t m c 1) (workspace T t′ m′ c′ n) first-holds q in
           ap₂ (λ (X : Lent) (x : ℕ). ran X x (t′ .count) n) g (f .0)
           ∙ ap₂ (λ (x y : ℕ). ran (roundsLeave base G (rounds (chart G) (length (chart G .depots)) S₁) B) (rounds (chart G) (length (chart G .depots)) S₁ .candidate) x y) (f .1) (f .2)
 

@@ -38,7 +38,7 @@ figuredBy K H a D B =
     figured (changeAs (x .change)) (ranBy K H (x .final) B)
 
 -- what the step asks: whole tables; a sound, connected network with the open depot a; stored pairs that join open codes, as many as the count
-pub record IsFigurable (K : Shape) (codes links : List ℕ) (B : Lent) (a D count : ℕ) : Type 0 where
+pub record IsFigurable (K : Shape) (members links : List ℕ) (B : Lent) (a D count : ℕ) : Type 0 where
   pub table : tableWords K ≤ length links
   pub pairTable : tableWords K ≤ length (B .pairs)
   pub hopPlaces : places K ≤ length (B .searched .hops)
@@ -46,10 +46,10 @@ pub record IsFigurable (K : Shape) (codes links : List ℕ) (B : Lent) (a D coun
   pub oddRow : K .words ≤ length (B .searched .odd)
   pub boundPlaces : places K ≤ length (B .bounds)
   pub skipPlaces : places K ≤ length (B .skips)
-  pub codeRow : K .words ≤ length codes
-  pub net : IsNet (networkOf (K .words) codes links)
-  pub present : T (networkOf (K .words) codes links .isOpen a)
+  pub codeRow : K .words ≤ length members
+  pub net : IsNet (networkOf (K .words) members links)
+  pub present : T (networkOf (K .words) members links .isOpen a)
   pub rising : (u v : ℕ) → T (tableBit (K .words) (B .pairs) u v) → u < v
-  pub ends : (u v : ℕ) → T (tableBit (K .words) (B .pairs) u v) → T (delivers (networkOf (K .words) codes links) u) × T (delivers (networkOf (K .words) codes links) v)
+  pub ends : (u v : ℕ) → T (tableBit (K .words) (B .pairs) u v) → T (delivers (networkOf (K .words) members links) u) × T (delivers (networkOf (K .words) members links) v)
   pub counted : count ≡ countPairs (range (places K)) (tableBit (K .words) (B .pairs))
   pub low : D < places K

@@ -37,14 +37,14 @@ joinOf K a e D T J = joined (settleOf (K .words) (lastRow e T) a e D (J .paired)
 -- ---- what the functions ask
 
 -- the tables hold the search from the open depot a, with eccentricity e, of a sound, connected network
-pub record HoldsSearch (K : Shape) (codes links : List ℕ) (B : Lent) (a e : ℕ) : Type 0 where
-  pub net : IsNet (networkOf (K .words) codes links)
-  pub present : T (networkOf (K .words) codes links .isOpen a)
-  pub depth : e ≡ ecc (chart (networkOf (K .words) codes links)) a
-  pub stands : B .searched ≡ searchLeaves (K .words) (networkOf (K .words) codes links) a (B .searched)
+pub record HoldsSearch (K : Shape) (members links : List ℕ) (B : Lent) (a e : ℕ) : Type 0 where
+  pub net : IsNet (networkOf (K .words) members links)
+  pub present : T (networkOf (K .words) members links .isOpen a)
+  pub depth : e ≡ ecc (chart (networkOf (K .words) members links)) a
+  pub stands : B .searched ≡ searchLeaves (K .words) (networkOf (K .words) members links) a (B .searched)
 
 -- every table is whole
-pub record IsWhole (K : Shape) (codes links : List ℕ) (B : Lent) : Type 0 where
+pub record IsWhole (K : Shape) (members links : List ℕ) (B : Lent) : Type 0 where
   pub table : tableWords K ≤ length links
   pub pairTable : tableWords K ≤ length (B .pairs)
   pub hopPlaces : places K ≤ length (B .searched .hops)
@@ -52,8 +52,8 @@ pub record IsWhole (K : Shape) (codes links : List ℕ) (B : Lent) : Type 0 wher
   pub oddRow : K .words ≤ length (B .searched .odd)
   pub boundPlaces : places K ≤ length (B .bounds)
   pub skipPlaces : places K ≤ length (B .skips)
-  pub codeRow : K .words ≤ length codes
+  pub codeRow : K .words ≤ length members
 
 -- the stored pairs join open codes
-pub record AreOpen (K : Shape) (codes links pairs : List ℕ) : Type 0 where
-  pub ends : (u v : ℕ) → T (tableBit (K .words) pairs u v) → T (delivers (networkOf (K .words) codes links) u) × T (delivers (networkOf (K .words) codes links) v)
+pub record AreOpen (K : Shape) (members links pairs : List ℕ) : Type 0 where
+  pub ends : (u v : ℕ) → T (tableBit (K .words) pairs u v) → T (delivers (networkOf (K .words) members links) u) × T (delivers (networkOf (K .words) members links) v)

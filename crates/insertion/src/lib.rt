@@ -66,20 +66,20 @@ fn shrink(
     skips: &mut [u16],
     even: &mut [u64],
     odd: &mut [u64],
-    codes: &[u64],
+    members: &[u64],
     links: &[u64],
     a: usize,
     e: u16,
     way: u16,
 ) -> RoundFigures
     requires { let given = lentAt pairs hops bounds skips even odd in
-        ⌜ IsWhole base (now codes) (now links) given
-        × HoldsSearch base (now codes) (now links) given a e
+        ⌜ IsWhole base (now members) (now links) given
+        × HoldsSearch base (now members) (now links) given a e
         × (a < 256) ⌝ }
     ensures { λ t.
         let before = lentBefore pairs hops bounds skips even odd in
         let after = lentAfter pairs hops bounds skips even odd in
-        let G = networkOf 4 (now (codes .entry)) (now (links .entry)) in
+        let G = networkOf 4 (now (members .entry)) (now (links .entry)) in
         let M = chart G in
         ⌜ ran after (t .candidate) (t .count) (t .searches)
         ≡ ranBy base G (rounds M (length (M .depots)) (round M a (start way))) before ⌝ }
@@ -87,7 +87,7 @@ fn shrink(
     let mut ranks = [0u16; 256];
     let mut seen = [0u64; 4];
     let mut next = [0u64; 4];
-    rounds::begin(pairs, bounds, skips, &mut ranks, codes, links, 4, 257);
+    rounds::begin(pairs, bounds, skips, &mut ranks, members, links, 4, 257);
     let first = rounds::absorb(
         pairs,
         bounds,
@@ -152,22 +152,22 @@ fn settle_low(
     skips: &mut [u16],
     even: &mut [u64],
     odd: &mut [u64],
-    codes: &[u64],
+    members: &[u64],
     links: &[u64],
     a: usize,
     e: u16,
     chain: u16,
 ) -> Figures
     requires { let given = lentAt pairs hops bounds skips even odd in
-        ⌜ IsWhole base (now codes) (now links) given
-        × AreOpen base (now codes) (now links) (now pairs)
-        × HoldsSearch base (now codes) (now links) given a e
+        ⌜ IsWhole base (now members) (now links) given
+        × AreOpen base (now members) (now links) (now pairs)
+        × HoldsSearch base (now members) (now links) given a e
         × (a < 256)
         × (e ≤ chain) ⌝ }
     ensures { λ r.
         let before = lentBefore pairs hops bounds skips even odd in
         let after = lentAfter pairs hops bounds skips even odd in
-        let G = networkOf 4 (now (codes .entry)) (now (links .entry)) in
+        let G = networkOf 4 (now (members .entry)) (now (links .entry)) in
         ⌜ figured (r .change) (ran after (r .chain) (r .count) (r .searches)) ≡ figuredBy base G a chain before ⌝ }
 {
     let left = stale_pairs::drop_stale(pairs, &*hops, 4, chain);
@@ -196,7 +196,7 @@ fn settle_low(
         skips,
         even,
         odd,
-        codes,
+        members,
         links,
         a,
         e,
@@ -219,18 +219,18 @@ pub fn refigure(
     skips: &mut [u16],
     even: &mut [u64],
     odd: &mut [u64],
-    codes: &[u64],
+    members: &[u64],
     links: &[u64],
     a: usize,
     chain: u16,
     count: u32,
 ) -> Figures
     requires { let given = lentAt pairs hops bounds skips even odd in
-        ⌜ IsFigurable base (now codes) (now links) given a chain count × (a < 256) ⌝ }
+        ⌜ IsFigurable base (now members) (now links) given a chain count × (a < 256) ⌝ }
     ensures { λ r.
         let before = lentBefore pairs hops bounds skips even odd in
         let after = lentAfter pairs hops bounds skips even odd in
-        let G = networkOf 4 (now (codes .entry)) (now (links .entry)) in
+        let G = networkOf 4 (now (members .entry)) (now (links .entry)) in
         ⌜ figured (r .change) (ran after (r .chain) (r .count) (r .searches)) ≡ figuredBy base G a chain before ⌝ }
 {
     let e = search_once(hops, even, odd, links, a);
@@ -250,7 +250,7 @@ pub fn refigure(
         skips,
         even,
         odd,
-        codes,
+        members,
         links,
         a,
         e,

@@ -18,8 +18,8 @@ use Rattle.lent_map.specs.Faults.{lentFaults, lentRefusal, lentCondition
 use Rattle.lists.proofs.Tests.{clash}
 
 -- sound links, from the check's answer
-pub sound-by : (W : ℕ) (codes links : List ℕ) (number : ℕ) → soundLinks (64 * W) (networkOf W codes links) number ≡ true → IsSound (networkOf W codes links)
-sound-by W codes links number e = sound-links-iff W codes links number .0 e .isSound
+pub sound-by : (W : ℕ) (members links : List ℕ) (number : ℕ) → soundLinks (64 * W) (networkOf W members links) number ≡ true → IsSound (networkOf W members links)
+sound-by W members links number e = sound-links-iff W members links number .0 e .isSound
 
 -- the stored figures, where the call goes by them
 pub not-figured : (figured b : Bool) → figured ≡ false → true ≡ (not figured || b)
@@ -35,7 +35,7 @@ module _ (K : Shape) (rec : Record) (links pairs : List ℕ) where
   G = mapNetwork K rec links
 
   abbrev stored : Bool
-  stored = soundFigures (places K) (networkOf (K .words) (rec .codes) []) (tableBit (K .words) pairs) (rec .chain) (rec .count)
+  stored = soundFigures (places K) (networkOf (K .words) (rec .members) []) (tableBit (K .words) pairs) (rec .chain) (rec .count)
 
   pub refused-short : {long : Bool} (figured : Bool) → long ≡ false → 1 ≡ lentRefusal K long figured rec links pairs
   unfolding lentRefusal lentFaults firstOf
@@ -48,19 +48,19 @@ module _ (K : Shape) (rec : Record) (links pairs : List ℕ) where
 
   pub refused-figures : {long : Bool} (figured : Bool) → long ≡ true → soundLinks (places K) G (rec .number) ≡ true → (not figured || stored) ≡ false → 2 ≡ lentRefusal K long figured rec links pairs
   unfolding lentRefusal lentFaults firstOf
-  refused-figures true a b c = rw (a, b, figures-any-links (K .words) (rec .codes) links [] (tableBit (K .words) pairs) (rec .chain) (rec .count), c)
+  refused-figures true a b c = rw (a, b, figures-any-links (K .words) (rec .members) links [] (tableBit (K .words) pairs) (rec .chain) (rec .count), c)
   refused-figures false a b c = absurd (clash refl c)
 
   pub refused-apart : {long : Bool} (figured : Bool) → long ≡ true → soundLinks (places K) G (rec .number) ≡ true → (not figured || stored) ≡ true → connected G ≡ false
       → 3 ≡ lentRefusal K long figured rec links pairs
   unfolding lentRefusal lentFaults firstOf
-  refused-apart true a b c d = rw (a, b, figures-any-links (K .words) (rec .codes) links [] (tableBit (K .words) pairs) (rec .chain) (rec .count), c, d)
+  refused-apart true a b c d = rw (a, b, figures-any-links (K .words) (rec .members) links [] (tableBit (K .words) pairs) (rec .chain) (rec .count), c, d)
   refused-apart false a b c d = rw (a, b, d)
 
   pub refused-never : {long : Bool} (figured : Bool) → long ≡ true → soundLinks (places K) G (rec .number) ≡ true → (not figured || stored) ≡ true → connected G ≡ true
       → 0 ≡ lentRefusal K long figured rec links pairs
   unfolding lentRefusal lentFaults firstOf
-  refused-never true a b c d = rw (a, b, figures-any-links (K .words) (rec .codes) links [] (tableBit (K .words) pairs) (rec .chain) (rec .count), c, d)
+  refused-never true a b c d = rw (a, b, figures-any-links (K .words) (rec .members) links [] (tableBit (K .words) pairs) (rec .chain) (rec .count), c, d)
   refused-never false a b c d = rw (a, b, d)
 
 -- ---- by the published words, before whatever a call looks at besides
@@ -70,6 +70,6 @@ pub lent-tells : (K : Shape) → IsShape K → (long figured : Bool) (buffers : 
     → Tells (lentFaults K long figured rec links pairs ++ tests) (lentConditions K buffers figured rec links pairs ++ conditions)
 unfolding lentFaults
 lent-tells K shape long true buffers d rec links pairs tests conditions rest =
-    (refl, d, λ f. map-tells (K .words) (shape .most) (rec .codes) links (rec .number) tests conditions rest (tableBit (K .words) pairs) (rec .chain) (rec .count))
+    (refl, d, λ f. map-tells (K .words) (shape .most) (rec .members) links (rec .number) tests conditions rest (tableBit (K .words) pairs) (rec .chain) (rec .count))
 lent-tells K shape long false buffers d rec links pairs tests conditions rest =
-    (refl, d, λ f. links-tell (K .words) (shape .most) (rec .codes) links (rec .number) tests conditions rest)
+    (refl, d, λ f. links-tell (K .words) (shape .most) (rec .members) links (rec .number) tests conditions rest)

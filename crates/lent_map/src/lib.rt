@@ -20,24 +20,24 @@ use rows::Next;
 // ---- connectedness
 
 // Whether the code v is closed or has a hop.
-fn is_reached(hops: &[u16], codes: &[u64], words: usize, v: usize) -> bool
-    requires { ⌜ (64 * words ≤ length (now hops)) × (words ≤ length (now codes)) × (v < 64 * words) ⌝ }
-    ensures { λ r. ⌜ r ≡ (not (rowBit words (now (codes .entry)) v) || ltb (getD (now (hops .entry)) v 0) unreached) ⌝ }
+fn is_reached(hops: &[u16], members: &[u64], words: usize, v: usize) -> bool
+    requires { ⌜ (64 * words ≤ length (now hops)) × (words ≤ length (now members)) × (v < 64 * words) ⌝ }
+    ensures { λ r. ⌜ r ≡ (not (rowBit words (now (members .entry)) v) || ltb (getD (now (hops .entry)) v 0) unreached) ⌝ }
 {
-    if !map::is_open(codes, words, v) {
+    if !map::is_open(members, words, v) {
         return true;
     }
     hops[v] < 65535
 }
 
 // Whether every open code has a hop.
-fn all_reached(hops: &[u16], codes: &[u64], words: usize) -> bool
-    requires { ⌜ (words < 513) × (64 * words ≤ length (now hops)) × (words ≤ length (now codes)) ⌝ }
-    ensures { λ r. ⌜ r ≡ allb (λ v. not (rowBit words (now (codes .entry)) v) || ltb (getD (now (hops .entry)) v 0) unreached) (range (64 * words)) ⌝ }
+fn all_reached(hops: &[u16], members: &[u64], words: usize) -> bool
+    requires { ⌜ (words < 513) × (64 * words ≤ length (now hops)) × (words ≤ length (now members)) ⌝ }
+    ensures { λ r. ⌜ r ≡ allb (λ v. not (rowBit words (now (members .entry)) v) || ltb (getD (now (hops .entry)) v 0) unreached) (range (64 * words)) ⌝ }
 {
     let mut v: usize = 0;
     while v < 64 * words {
-        if !is_reached(hops, codes, words, v) {
+        if !is_reached(hops, members, words, v) {
             return false;
         }
         v += 1;
@@ -54,30 +54,30 @@ pub fn is_connected(
     seen: &mut [u64],
     next: &mut [u64],
     links: &[u64],
-    codes: &[u64],
+    members: &[u64],
     words: usize,
 ) -> bool
-    requires { ⌜ IsLent words (now links) (now codes)
+    requires { ⌜ IsLent words (now links) (now members)
         × (64 * words ≤ length (now hops))
         × (words ≤ length (now even))
         × (words ≤ length (now odd))
         × (words ≤ length (now seen))
         × (words ≤ length (now next))
-        × IsSound (networkOf words (now codes) (now links)) ⌝ }
-    ensures { λ r. ⌜ r ≡ connected (networkOf words (now (codes .entry)) (now (links .entry))) ⌝ }
+        × IsSound (networkOf words (now members) (now links)) ⌝ }
+    ensures { λ r. ⌜ r ≡ connected (networkOf words (now (members .entry)) (now (links .entry))) ⌝ }
 {
-    let lowest = rows::next_member(codes, words, 0);
+    let lowest = rows::next_member(members, words, 0);
     let Next::At(start) = lowest else {
         return true;
     };
     layers::search_table(hops, even, odd, seen, next, links, words, start);
-    all_reached(&*hops, codes, words)
+    all_reached(&*hops, members, words)
 }
 
 // The same for rows of four words, on local memory, so that a refused call changes nothing.
-pub fn map_is_connected(links: &[u64], codes: &[u64]) -> bool
-    requires { ⌜ IsLent 4 (now links) (now codes) × IsSound (networkOf 4 (now codes) (now links)) ⌝ }
-    ensures { λ r. ⌜ r ≡ connected (networkOf 4 (now (codes .entry)) (now (links .entry))) ⌝ }
+pub fn map_is_connected(links: &[u64], members: &[u64]) -> bool
+    requires { ⌜ IsLent 4 (now links) (now members) × IsSound (networkOf 4 (now members) (now links)) ⌝ }
+    ensures { λ r. ⌜ r ≡ connected (networkOf 4 (now (members .entry)) (now (links .entry))) ⌝ }
 {
     let mut hops = [0u16; 256];
     let mut even = [0u64; 4];
@@ -91,7 +91,7 @@ pub fn map_is_connected(links: &[u64], codes: &[u64]) -> bool
         &mut seen,
         &mut next,
         links,
-        codes,
+        members,
         4,
     )
 }
@@ -99,16 +99,16 @@ pub fn map_is_connected(links: &[u64], codes: &[u64]) -> bool
 // ---- the refusal
 
 // Whether the stored figures are sound, where the call goes by them.
-fn stored_are_sound(figured: bool, pairs: &[u64], codes: &[u64], chain: u16, count: u32) -> bool
-    requires { ⌜ (figured ≡ true → IsLent 4 (now pairs) (now codes)) ⌝ }
+fn stored_are_sound(figured: bool, pairs: &[u64], members: &[u64], chain: u16, count: u32) -> bool
+    requires { ⌜ (figured ≡ true → IsLent 4 (now pairs) (now members)) ⌝ }
     ensures { λ r.
-        let G = networkOf 4 (now (codes .entry)) [] in
+        let G = networkOf 4 (now (members .entry)) [] in
         ⌜ r ≡ (not figured || soundFigures 256 G (tableBit 4 (now (pairs .entry))) chain count) ⌝ }
 {
     if !figured {
         return true;
     }
-    checks::figures_are_sound(pairs, codes, 4, chain, count)
+    checks::figures_are_sound(pairs, members, 4, chain, count)
 }
 
 // The first refusal of lent memory that holds, whatever the call is asked; 0 for none. It only reads: `long` tells whether every buffer has its named
@@ -120,14 +120,14 @@ pub fn map_refusal(long: bool, figured: bool, rec: Record, links: &[u64], pairs:
     if !long {
         return 1;
     }
-    let codes = rec.codes;
-    if !checks::links_are_sound(links, &codes, 4, rec.number) {
+    let members = rec.members;
+    if !checks::links_are_sound(links, &members, 4, rec.number) {
         return 2;
     }
-    if !stored_are_sound(figured, pairs, &codes, rec.chain, rec.count) {
+    if !stored_are_sound(figured, pairs, &members, rec.chain, rec.count) {
         return 2;
     }
-    if !map_is_connected(links, &codes) {
+    if !map_is_connected(links, &members) {
         return 3;
     }
     0

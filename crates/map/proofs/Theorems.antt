@@ -25,36 +25,36 @@ use Rattle.map.proofs.Empties.{row-zeros, table-zeros}
 
 -- ---- codes and links read from words lie below the number of places
 
-pub network-open-below : (W : ℕ) (codes links : List ℕ) (u : ℕ) → T (networkOf W codes links .isOpen u) → u < 64 * W
+pub network-open-below : (W : ℕ) (members links : List ℕ) (u : ℕ) → T (networkOf W members links .isOpen u) → u < 64 * W
 unfolding networkOf rowBit
-network-open-below W codes links u o = ltb-true u (64 * W) (and-true (ltb u (64 * W)) _ (t→true _ o) .0)
+network-open-below W members links u o = ltb-true u (64 * W) (and-true (ltb u (64 * W)) _ (t→true _ o) .0)
 
 -- the depots are the open codes, each once
-pub network-listed : (W : ℕ) (codes links : List ℕ) (u : ℕ) → networkOf W codes links .isOpen u ≡ memb u (vertices (networkOf W codes links))
+pub network-listed : (W : ℕ) (members links : List ℕ) (u : ℕ) → networkOf W members links .isOpen u ≡ memb u (vertices (networkOf W members links))
 unfolding networkOf
-network-listed W codes links u =
-    same-test (rowBit W codes u) (memb u (filterb (rowBit W codes) (range (64 * W))))
+network-listed W members links u =
+    same-test (rowBit W members u) (memb u (filterb (rowBit W members) (range (64 * W))))
     (λ h.
-    memb-filter (rowBit W codes) (range (64 * W)) u
-    ∙ and-intro (memb-range (64 * W) u ∙ lt-ltb u (64 * W) (network-open-below W codes links u (true→t h))) h)
-    (λ h. and-true (memb u (range (64 * W))) (rowBit W codes u) (sym (memb-filter (rowBit W codes) (range (64 * W)) u) ∙ h) .1)
+    memb-filter (rowBit W members) (range (64 * W)) u
+    ∙ and-intro (memb-range (64 * W) u ∙ lt-ltb u (64 * W) (network-open-below W members links u (true→t h))) h)
+    (λ h. and-true (memb u (range (64 * W))) (rowBit W members u) (sym (memb-filter (rowBit W members) (range (64 * W)) u) ∙ h) .1)
 
-pub network-once : (W : ℕ) (codes links : List ℕ) → distinct (vertices (networkOf W codes links)) ≡ true
+pub network-once : (W : ℕ) (members links : List ℕ) → distinct (vertices (networkOf W members links)) ≡ true
 unfolding networkOf
-network-once W codes links = distinct-filter (rowBit W codes) (range (64 * W)) (distinct-range (64 * W))
+network-once W members links = distinct-filter (rowBit W members) (range (64 * W)) (distinct-range (64 * W))
 
 -- so many are open, and no more than there are places
-pub network-length : (W : ℕ) (codes links : List ℕ) → length (vertices (networkOf W codes links)) ≡ countb (networkOf W codes links .isOpen) (range (64 * W))
+pub network-length : (W : ℕ) (members links : List ℕ) → length (vertices (networkOf W members links)) ≡ countb (networkOf W members links .isOpen) (range (64 * W))
 unfolding networkOf
-network-length W codes links = length-count (rowBit W codes) (range (64 * W))
+network-length W members links = length-count (rowBit W members) (range (64 * W))
 
-pub network-most : (W : ℕ) (codes links : List ℕ) → length (vertices (networkOf W codes links)) ≤ 64 * W
+pub network-most : (W : ℕ) (members links : List ℕ) → length (vertices (networkOf W members links)) ≤ 64 * W
 unfolding networkOf
-network-most W codes links = le-trans (length-filter (rowBit W codes) (range (64 * W))) (le-of-eq (length-range (64 * W)))
+network-most W members links = le-trans (length-filter (rowBit W members) (range (64 * W))) (le-of-eq (length-range (64 * W)))
 
-pub network-linked-below : (W : ℕ) (codes links : List ℕ) (u v : ℕ) → T (networkOf W codes links .linked u v) → (u < 64 * W) × (v < 64 * W)
+pub network-linked-below : (W : ℕ) (members links : List ℕ) (u v : ℕ) → T (networkOf W members links .linked u v) → (u < 64 * W) × (v < 64 * W)
 unfolding networkOf tableBit
-network-linked-below W codes links u v l =
+network-linked-below W members links u v l =
     let p = and-true (ltb u (64 * W) && ltb v (64 * W)) _ (t→true _ l) in
     let q = and-true (ltb u (64 * W)) (ltb v (64 * W)) (p .0) in
     (ltb-true u (64 * W) (q .0), ltb-true v (64 * W) (q .1))

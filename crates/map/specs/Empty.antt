@@ -19,7 +19,7 @@ unfoldable pub zeros : ℕ → List ℕ
 zeros n = mapl (λ i. 0) (range n)
 
 unfoldable pub emptyRecord : ℕ → Record
-emptyRecord W = record { codes = zeros W; number = 0; chain = 0; count = 0 }
+emptyRecord W = record { members = zeros W; number = 0; chain = 0; count = 0 }
 
 -- the number for each case of the answer: the refusal, 0 for none
 abbrev pub emptyingNumber : Emptying → ℕ
@@ -68,8 +68,8 @@ EmptyDemand1 K step =
 
 -- The map is empty: no code is open, no link and no pair stands, and the figures are 0.
 pub record IsEmpty (W : ℕ) (left : EmptyLeft) : Type 0 where
-  pub closed : (u : ℕ) → networkOf W (left .after .codes) (left .links) .isOpen u ≡ false
-  pub unlinked : (u v : ℕ) → networkOf W (left .after .codes) (left .links) .linked u v ≡ false
+  pub closed : (u : ℕ) → networkOf W (left .after .members) (left .links) .isOpen u ≡ false
+  pub unlinked : (u v : ℕ) → networkOf W (left .after .members) (left .links) .linked u v ≡ false
   pub unpaired : (u v : ℕ) → tableBit W (left .pairs) u v ≡ false
   pub number : left .after .number ≡ 0
   pub chain : left .after .chain ≡ 0

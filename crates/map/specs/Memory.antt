@@ -37,8 +37,8 @@ base = record { words = 4; searchedMark = 256; otherMark = 257 }
 
 -- the network that an open set (one row) and a link table mean, its depots in rising order
 unfoldable pub networkOf : ℕ → List ℕ → List ℕ → Network
-networkOf W codes links = record { depots = filterb (rowBit W codes) (range (64 * W)); isOpen = rowBit W codes; linked = tableBit W links }
+networkOf W members links = record { depots = filterb (rowBit W members) (range (64 * W)); isOpen = rowBit W members; linked = tableBit W links }
 
 -- what a record and a link table mean as a network
 abbrev pub mapNetwork : Shape → Record → List ℕ → Network
-mapNetwork K rec links = networkOf (K .words) (rec .codes) links
+mapNetwork K rec links = networkOf (K .words) (rec .members) links

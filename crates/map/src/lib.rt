@@ -10,24 +10,24 @@ ghost use Rattle.map.specs.Bits.{IsLent, soundLink, soundPair};
 ghost use Rattle.map.specs.Empty.{emptyLeft, emptyCall};
 
 // Whether v is open. The open set is lent as row 0 of a table.
-pub fn is_open(codes: &[u64], words: usize, v: usize) -> bool
-    requires { ⌜ (words ≤ length (now codes)) × (v < 64 * words) ⌝ }
-    ensures { λ r. ⌜ r ≡ rowBit words (now (codes .entry)) v ⌝ }
+pub fn is_open(members: &[u64], words: usize, v: usize) -> bool
+    requires { ⌜ (words ≤ length (now members)) × (v < 64 * words) ⌝ }
+    ensures { λ r. ⌜ r ≡ rowBit words (now (members .entry)) v ⌝ }
 {
-    rows::row_test(codes, words, 0, v)
+    rows::row_test(members, words, 0, v)
 }
 
 // ---- whether a bit may stand
 
 // Whether a bit v of row u may stand: u and v are open and differ, and row v has bit u.
-pub fn link_is_sound(links: &[u64], codes: &[u64], words: usize, u: usize, v: usize) -> bool
-    requires { ⌜ IsLent words (now links) (now codes) × (u < 64 * words) × (v < 64 * words) ⌝ }
-    ensures { λ r. ⌜ r ≡ soundLink (networkOf words (now (codes .entry)) (now (links .entry))) u v ⌝ }
+pub fn link_is_sound(links: &[u64], members: &[u64], words: usize, u: usize, v: usize) -> bool
+    requires { ⌜ IsLent words (now links) (now members) × (u < 64 * words) × (v < 64 * words) ⌝ }
+    ensures { λ r. ⌜ r ≡ soundLink (networkOf words (now (members .entry)) (now (links .entry))) u v ⌝ }
 {
-    if !is_open(codes, words, u) {
+    if !is_open(members, words, u) {
         return false;
     }
-    if !is_open(codes, words, v) {
+    if !is_open(members, words, v) {
         return false;
     }
     if u == v {
@@ -37,17 +37,17 @@ pub fn link_is_sound(links: &[u64], codes: &[u64], words: usize, u: usize, v: us
 }
 
 // Whether bit `high` of row `low` of the pair table may stand: low < high, and both are open.
-pub fn pair_is_sound(codes: &[u64], words: usize, low: usize, high: usize) -> bool
-    requires { ⌜ (words ≤ length (now codes)) × (low < 64 * words) × (high < 64 * words) ⌝ }
-    ensures { λ r. ⌜ r ≡ soundPair (networkOf words (now (codes .entry)) []) low high ⌝ }
+pub fn pair_is_sound(members: &[u64], words: usize, low: usize, high: usize) -> bool
+    requires { ⌜ (words ≤ length (now members)) × (low < 64 * words) × (high < 64 * words) ⌝ }
+    ensures { λ r. ⌜ r ≡ soundPair (networkOf words (now (members .entry)) []) low high ⌝ }
 {
     if high <= low {
         return false;
     }
-    if !is_open(codes, words, low) {
+    if !is_open(members, words, low) {
         return false;
     }
-    is_open(codes, words, high)
+    is_open(members, words, high)
 }
 
 // ---- the room
@@ -89,7 +89,7 @@ pub fn are_long(
 
 // The record of one map: open set (one row), number open, longest chain, pair count.
 pub struct Record {
-    pub codes: [u64; 4],
+    pub members: [u64; 4],
     pub number: u16,
     pub chain: u16,
     pub count: u32,
@@ -127,7 +127,7 @@ pub fn empty_map(links: &mut [u64], pairs: &mut [u64], rec: Record) -> Emptied
     rows::clear(links, 1024);
     rows::clear(pairs, 1024);
     let none = Record {
-        codes: [0u64; 4],
+        members: [0u64; 4],
         number: 0,
         chain: 0,
         count: 0,

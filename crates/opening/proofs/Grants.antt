@@ -71,13 +71,13 @@ module _ (K : Shape) (shape : IsShape K) (rec : Record) (links pairs : List ℕ)
       (d .0, d .1, not-false (connected N) (c .0), c .1)
 
   granted-links : AreLinksSound (places K) N (rec .number)
-  granted-links = sound-links-iff (K .words) (rec .codes) links (rec .number) .0 (granted-sound .0)
+  granted-links = sound-links-iff (K .words) (rec .members) links (rec .number) .0 (granted-sound .0)
 
   pub granted-figures : AreFiguresSound (places K) N P (rec .chain) (rec .count)
   granted-figures = sound-figures-iff (places K) N P (rec .chain) (rec .count) .0 (granted-sound .1)
 
   pub granted-room : suc (length (vertices N)) < unreached
-  granted-room = omega (arith, network-most (K .words) (rec .codes) links, shape .most)
+  granted-room = omega (arith, network-most (K .words) (rec .members) links, shape .most)
 
   pub granted-net : IsNet N
   granted-net =
@@ -149,7 +149,7 @@ module _ (K : Shape) (shape : IsShape K) (G : Network) (held : IsHeld K G) where
   module _ (D : ℕ) (P : Pairs) (sound : AreFiguresSound (places K) G P D (countPairs (range (places K)) P)) where
     module _ (rec : Record) (links pairs : List ℕ) (s : Stores K G D P rec links pairs) where
       pub links-pass : soundLinks (places K) (mapNetwork K rec links) (rec .number) ≡ true
-      links-pass = sound-links-iff (K .words) (rec .codes) links (rec .number) .1 (rw (s .network, s .number) links-are-sound)
+      links-pass = sound-links-iff (K .words) (rec .members) links (rec .number) .1 (rw (s .network, s .number) links-are-sound)
 
       pub figures-pass : soundFigures (places K) (mapNetwork K rec links) (tableBit (K .words) pairs) (rec .chain) (rec .count) ≡ true
       figures-pass = rw (s .network, s .pairs, s .chain, s .count) (sound-figures-iff (places K) G P D (countPairs (range (places K)) P) .1 sound)

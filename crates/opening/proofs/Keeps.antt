@@ -30,7 +30,7 @@ use Rattle.opening.specs.UpdateCall.{updateRefusal, networkAfter, update
 use Rattle.opening.specs.Steps.{mapRefusal}
 use Rattle.opening.proofs.Memories.{IsHeld, Stores, depots-few, network-read, pairs-read}
 use Rattle.opening.proofs.Grants.{granted-long, granted-figures, granted-lawful, held-after, links-pass, figures-pass, connected-pass}
-use Rattle.opening.proofs.Openings.{given-number, given-chain, given-codes, given-count, given-links, given-pairs}
+use Rattle.opening.proofs.Openings.{given-number, given-chain, given-members, given-count, given-links, given-pairs}
 use Rattle.opening.proofs.Refuses.{refused-never}
 use Rattle.graph.specs.Updates.{Update}
 
@@ -89,7 +89,7 @@ module _ (K : Shape) (rec : Record) (links : List ℕ) (B : Lent) (o : Update) w
         record {
           below = f .below;
           pairs = λ u v h.
-              let l = network-linked-below (K .words) (rec .codes) (B .pairs) u v h in
+              let l = network-linked-below (K .words) (rec .members) (B .pairs) u v h in
               let e = f .ends u v (l .0) (l .1) h in
               (f .rising u v (l .0) (l .1) h, e .0, e .1);
         }
@@ -115,7 +115,7 @@ module _ (K : Shape) (rec : Record) (links : List ℕ) (B : Lent) (o : Update) w
     pub left-stores : Stores K (networkAfter K rec links o) (updatedBy K rec links (B .pairs) o .final .candidate) (updatedBy K rec links (B .pairs) o .final .pairs)
         (updateGiven zero K rec links B o .after) (updateGiven zero K rec links B o .links) (updateGiven zero K rec links B o .lent .pairs)
     left-stores = record {
-      network = ap₂ (networkOf (K .words)) (given-codes K rec links B o) (given-links K rec links B o) ∙ network-read K H held (rec .codes) links;
+      network = ap₂ (networkOf (K .words)) (given-members K rec links B o) (given-links K rec links B o) ∙ network-read K H held (rec .members) links;
       pairs = ap (tableBit (K .words)) (given-pairs K rec links B o) ∙ pairs-read K H held (x .final .pairs) left-ends (B .pairs);
       number = given-number K rec links B o;
       chain = given-chain K rec links B o;

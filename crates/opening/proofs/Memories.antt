@@ -33,8 +33,8 @@ use Rattle.graph.proofs.Delivers.{delivers-open}
 pub network-path : {A B : Network} → A .depots ≡ B .depots → ((c : ℕ) → A .isOpen c ≡ B .isOpen c) → ((u v : ℕ) → A .linked u v ≡ B .linked u v) → A ≡ B
 network-path p q r = λ i. record { depots = p i; isOpen = λ c. q c i; linked = λ u v. r u v i }
 
-pub record-path : {A B : Record} → A .codes ≡ B .codes → A .number ≡ B .number → A .chain ≡ B .chain → A .count ≡ B .count → A ≡ B
-record-path p q r s = λ i. record { codes = p i; number = q i; chain = r i; count = s i }
+pub record-path : {A B : Record} → A .members ≡ B .members → A .number ≡ B .number → A .chain ≡ B .chain → A .count ≡ B .count → A ≡ B
+record-path p q r s = λ i. record { members = p i; number = q i; chain = r i; count = s i }
 
 pub memory-path : {A B : Memory} → A .links ≡ B .links → A .pairs ≡ B .pairs → A .rec ≡ B .rec → A ≡ B
 memory-path p q r = λ i. record { links = p i; pairs = q i; rec = r i }
@@ -51,7 +51,7 @@ writeMap K G M = record {
   links = overwrite (encodeTable (K .words) (G .linked)) (M .links);
   pairs = overwrite (encodeTable (K .words) (farthest G)) (M .pairs);
   rec = record {
-    codes = overwrite (encodeRow (K .words) (G .isOpen)) (M .rec .codes);
+    members = overwrite (encodeRow (K .words) (G .isOpen)) (M .rec .members);
     number = length (vertices G);
     chain = diameter G;
     count = countPairs (range (places K)) (farthest G);
@@ -64,7 +64,7 @@ memoryFor K G = record {
   links = encodeTable (K .words) (G .linked);
   pairs = encodeTable (K .words) (farthest G);
   rec = record {
-    codes = encodeRow (K .words) (G .isOpen);
+    members = encodeRow (K .words) (G .isOpen);
     number = length (vertices G);
     chain = diameter G;
     count = countPairs (range (places K)) (farthest G);
@@ -116,15 +116,15 @@ module _ (K : Shape) (G : Network) (held : IsHeld K G) where
 
   -- ---- WHAT IS WRITTEN IS READ
 
-  pub network-read : (codes links : List ℕ) → networkOf (K .words) (overwrite (encodeRow (K .words) (G .isOpen)) codes) (overwrite (encodeTable (K .words) (G .linked)) links) ≡ G
+  pub network-read : (members links : List ℕ) → networkOf (K .words) (overwrite (encodeRow (K .words) (G .isOpen)) members) (overwrite (encodeTable (K .words) (G .linked)) links) ≡ G
   unfolding networkOf
-  network-read codes links =
+  network-read members links =
       network-path (filter-ext _ (G .isOpen) (range (places K)) (λ c m. opens c) ∙ sym (held .depots))
       opens
       (λ u v. table-read (K .words) (G .linked) links u v ∙ unguarded (ltb u (places K) && ltb v (places K)) (G .linked u v) (both-below (G .linked) linked-open u v))
     where
-      opens : (c : ℕ) → rowBit (K .words) (overwrite (encodeRow (K .words) (G .isOpen)) codes) c ≡ G .isOpen c
-      opens c = row-read (K .words) (G .isOpen) codes c ∙ unguarded (ltb c (places K)) (G .isOpen c) (λ o. lt-ltb c (places K) (open-below c (true→t o)))
+      opens : (c : ℕ) → rowBit (K .words) (overwrite (encodeRow (K .words) (G .isOpen)) members) c ≡ G .isOpen c
+      opens c = row-read (K .words) (G .isOpen) members c ∙ unguarded (ltb c (places K)) (G .isOpen c) (λ o. lt-ltb c (places K) (open-below c (true→t o)))
 
   pub pairs-read : (P : Pairs) → ((u v : ℕ) → T (P u v) → T (G .isOpen u) × T (G .isOpen v)) → (pairs : List ℕ) → tableBit (K .words) (overwrite (encodeTable (K .words) P) pairs) ≡ P
   pairs-read P ends pairs =
@@ -133,7 +133,7 @@ module _ (K : Shape) (G : Network) (held : IsHeld K G) where
   pub written-says : (M : Memory) → Says K G (writeMap K G M .rec) (writeMap K G M .links) (writeMap K G M .pairs)
   unfolding writeMap
   written-says M = record {
-    network = network-read (M .rec .codes) (M .links);
+    network = network-read (M .rec .members) (M .links);
     pairs = pairs-read (farthest G) farthest-open (M .pairs);
     number = refl;
     chain = refl;
@@ -144,7 +144,7 @@ module _ (K : Shape) (G : Network) (held : IsHeld K G) where
   pub written-represents : (M : Memory) → Represents K (writeMap K G M) G
   unfolding writeMap
   written-represents M = record {
-    codes = λ c l. row-at (K .words) (G .isOpen) (M .rec .codes) c l;
+    members = λ c l. row-at (K .words) (G .isOpen) (M .rec .members) c l;
     number = refl;
     links = λ u v p q. table-at (K .words) (G .linked) (M .links) u v p q;
     chain = diameter-is G (held .net);

@@ -53,9 +53,9 @@ module _ (K : Shape) (rec : Record) (links : List ℕ) (B : Lent) (o : Update) w
   unfolding updateGiven
   given-chain = refl
 
-  pub given-codes : updateGiven zero K rec links B o .after .codes ≡ overwrite (encodeRow (K .words) (H .isOpen)) (rec .codes)
+  pub given-members : updateGiven zero K rec links B o .after .members ≡ overwrite (encodeRow (K .words) (H .isOpen)) (rec .members)
   unfolding updateGiven
-  given-codes = refl
+  given-members = refl
 
   pub given-count : updateGiven zero K rec links B o .after .count ≡ countPairs (range (places K)) (x .final .pairs)
   unfolding updateGiven
@@ -116,7 +116,7 @@ module _ (K : Shape) (shape : IsShape K) (rec : Record) (links : List ℕ) (B : 
       memory-path
       (given-links K rec links B o)
       (given-pairs K rec links B o ∙ ap (λ (P : Pairs). overwrite (encodeTable (K .words) P) (B .pairs)) pairs-are)
-      (record-path (given-codes K rec links B o)
+      (record-path (given-members K rec links B o)
       (given-number K rec links B o)
       (given-chain K rec links B o ∙ chain-is)
       (given-count K rec links B o ∙ ap (countPairs (range (places K))) pairs-are))

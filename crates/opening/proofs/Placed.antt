@@ -46,12 +46,12 @@ or-cond : (x y : Bool) → cond x true y ≡ (x || y)
 or-cond true y = refl
 or-cond false y = refl
 
-pub code-put : (W code : ℕ) (codes : List ℕ) → code < 64 * W → W ≤ length codes → ((i : ℕ) → i < W → getD codes i 0 < 2 ^ 64)
-    → putBit W 0 code true codes ≡ overwrite (encodeRow W (λ v. eqb v code || rowBit W codes v)) codes
-code-put W code codes l n fits =
-    ap (putBit W 0 code true) (row-whole W codes n fits)
-    ∙ put-row W code true (rowBit W codes) codes l
-    ∙ ap (λ (r : List ℕ). overwrite r codes) (encode-row-ext W (λ v. cond (eqb v code) true (rowBit W codes v)) (λ v. eqb v code || rowBit W codes v) (λ v h. or-cond (eqb v code) (rowBit W codes v)))
+pub code-put : (W code : ℕ) (members : List ℕ) → code < 64 * W → W ≤ length members → ((i : ℕ) → i < W → getD members i 0 < 2 ^ 64)
+    → putBit W 0 code true members ≡ overwrite (encodeRow W (λ v. eqb v code || rowBit W members v)) members
+code-put W code members l n fits =
+    ap (putBit W 0 code true) (row-whole W members n fits)
+    ∙ put-row W code true (rowBit W members) members l
+    ∙ ap (λ (r : List ℕ). overwrite r members) (encode-row-ext W (λ v. cond (eqb v code) true (rowBit W members v)) (λ v. eqb v code || rowBit W members v) (λ v h. or-cond (eqb v code) (rowBit W members v)))
 
 change-is : (c : Graph.Change) → changeOf c ≡ Accepted (changeAs c)
 unfolding changeOf changeAs
@@ -74,7 +74,7 @@ module _ (rec : Record) (links p h b s x y : List ℕ) (code : ℕ) (ns : List �
   B = lent p (tables h x y) b s
 
   abbrev G : Network
-  G = networkOf 4 (rec .codes) links
+  G = networkOf 4 (rec .members) links
 
   abbrev H : Network
   H = networkAfter base rec links (opens o)
@@ -88,31 +88,31 @@ module _ (rec : Record) (links p h b s x y : List ℕ) (code : ℕ) (ns : List �
       let held = held-after base base-shape rec links p z (opens o) ok byte in
       omega (arith, number-after base base-shape rec links p z o ok byte, depots-few base H held)
 
-  open-is : H .isOpen ≡ (λ v. eqb v code || rowBit 4 (rec .codes) v)
+  open-is : H .isOpen ≡ (λ v. eqb v code || rowBit 4 (rec .members) v)
   unfolding networkAfter applied withDepot networkOf
   open-is = refl
 
   links-are : H .linked ≡ (λ u v. (eqb u code && memb v ns) || (eqb v code && memb u ns) || tableBit 4 links u v)
   unfolding networkAfter applied
-  links-are = linked-is 4 (rec .codes) links code ns
+  links-are = linked-is 4 (rec .members) links code ns
 
-  module _ (after left : List ℕ) (put : after ≡ overwrite (encodeRow 4 (λ v. eqb v code || rowBit 4 (rec .codes) v)) (rec .codes))
+  module _ (after left : List ℕ) (put : after ≡ overwrite (encodeRow 4 (λ v. eqb v code || rowBit 4 (rec .members) v)) (rec .members))
       (linked : left ≡ overwrite (encodeTable 4 (λ u v. (eqb u code && memb v ns) || (eqb v code && memb u ns) || tableBit 4 links u v)) links) where
-    open-bits : (v : ℕ) → rowBit 4 after v ≡ (eqb v code || rowBit 4 (rec .codes) v)
+    open-bits : (v : ℕ) → rowBit 4 after v ≡ (eqb v code || rowBit 4 (rec .members) v)
     unfolding rowBit
-    open-bits v = ap (λ (r : List ℕ). rowBit 4 r v) put ∙ row-read 4 (λ v. eqb v code || rowBit 4 (rec .codes) v) (rec .codes) v ∙ go (look (ltb v 256))
+    open-bits v = ap (λ (r : List ℕ). rowBit 4 r v) put ∙ row-read 4 (λ v. eqb v code || rowBit 4 (rec .members) v) (rec .members) v ∙ go (look (ltb v 256))
       where
-        go : (ltb v 256 ≡ true) ⊎ (ltb v 256 ≡ false) → (ltb v 256 && (eqb v code || rowBit 4 (rec .codes) v)) ≡ (eqb v code || rowBit 4 (rec .codes) v)
+        go : (ltb v 256 ≡ true) ⊎ (ltb v 256 ≡ false) → (ltb v 256 && (eqb v code || rowBit 4 (rec .members) v)) ≡ (eqb v code || rowBit 4 (rec .members) v)
         go (inl e) = rw e
         go (inr e) = rw (e, ne-eqb v code (λ q. let l : 256 ≤ v = ltb-false v 256 e in omega arith))
 
-    was-closed : rowBit 4 (rec .codes) code ≡ false
+    was-closed : rowBit 4 (rec .members) code ≡ false
     unfolding networkOf
     was-closed = admitted base base-shape rec links p z o ok .fresh
 
     pub network-is : networkOf 4 after left ≡ H
     unfolding networkAfter applied
-    network-is = linked-after 4 code ns (omega arith) byte bytes (rec .codes) after links left was-closed open-bits linked
+    network-is = linked-after 4 code ns (omega arith) byte bytes (rec .members) after links left was-closed open-bits linked
 
     figures-are : AreFiguresSound 256 G (tableBit 4 p) (rec .chain) (rec .count)
     figures-are = granted-figures base base-shape rec links p z (opens o) ok
@@ -131,7 +131,7 @@ module _ (rec : Record) (links p h b s x y : List ℕ) (code : ℕ) (ns : List �
         let l = long-is in
         let f = figures-are in
         let e = network-is in
-        let below : (u v : ℕ) → T (tableBit 4 p u v) → (u < 256) × (v < 256) = network-linked-below 4 (rec .codes) p in
+        let below : (u v : ℕ) → T (tableBit 4 p u v) → (u < 256) × (v < 256) = network-linked-below 4 (rec .members) p in
         record {
           table = subst (λ (n : ℕ). 1024 ≤ n) (sym same) (l .links-fit);
           pairTable = l .pairs-fit;
@@ -153,9 +153,9 @@ module _ (rec : Record) (links p h b s x y : List ℕ) (code : ℕ) (ns : List �
 
     -- what is left, of a number open, an outcome and a state
     abbrev leftWith : ℕ → Outcome → List ℕ → List ℕ → Ran → UpdateLeft
-    leftWith n oc codes l r = record {
+    leftWith n oc members l r = record {
       report = record { outcome = oc; searches = r .searches };
-      after = record { codes = codes; number = n; chain = r .chain; count = r .count };
+      after = record { members = members; number = n; chain = r .chain; count = r .count };
       links = l;
       lent = r .lent;
     }
@@ -173,5 +173,5 @@ module _ (rec : Record) (links p h b s x y : List ℕ) (code : ℕ) (ns : List �
         ap (λ (n : ℕ). leftWith n (Accepted c) after left r) (number-after base base-shape rec links p z o ok byte)
         ∙ ap (λ (f : Figured). leftWith opened (Accepted (f .change)) after left (f .ran)) q
         ∙ ap (λ (oc : Outcome). leftWith opened oc after left R) (sym (change-is (xo .change)))
-        ∙ ap (λ (cs : List ℕ). leftWith opened (changeOf (xo .change)) cs left R) (put ∙ ap (λ (f : ℕ → Bool). overwrite (encodeRow 4 f) (rec .codes)) (sym open-is))
-        ∙ ap (λ (ls : List ℕ). leftWith opened (changeOf (xo .change)) (overwrite (encodeRow 4 (H .isOpen)) (rec .codes)) ls R) (linked ∙ ap (λ (f : ℕ → ℕ → Bool). overwrite (encodeTable 4 f) links) (sym links-are))
+        ∙ ap (λ (cs : List ℕ). leftWith opened (changeOf (xo .change)) cs left R) (put ∙ ap (λ (f : ℕ → Bool). overwrite (encodeRow 4 f) (rec .members)) (sym open-is))
+        ∙ ap (λ (ls : List ℕ). leftWith opened (changeOf (xo .change)) (overwrite (encodeRow 4 (H .isOpen)) (rec .members)) ls R) (linked ∙ ap (λ (f : ℕ → ℕ → Bool). overwrite (encodeTable 4 f) links) (sym links-are))

@@ -30,7 +30,7 @@ update-refusals K shape rec links B o =
     let G = mapNetwork K rec links in
     refuses-by _ (updateConditions K rec links B o)
     (lent-tells K shape (longEnough K (sizesOf links B)) true (roundsBuffers K links B) (rw (← long-is K links B) at (decides-short (roundsBuffers K links B)))
-    rec links (B .pairs) (updateFaults G o) (ownConditions G o) (update-tells G (network-listed (K .words) (rec .codes) links) o))
+    rec links (B .pairs) (updateFaults G o) (ownConditions G o) (update-tells G (network-listed (K .words) (rec .members) links) o))
     (λ k. updateGiven k K rec links B o) _ (λ l. refusalOf (l .report .outcome)) numbered (λ k. refl)
   where
     numbered : (k : ℕ) → refusalOf (updateGiven k K rec links B o .report .outcome) ≡ k

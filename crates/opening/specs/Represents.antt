@@ -22,7 +22,7 @@ use Rattle.opening.specs.Memory.{Memory}
 
 -- the map M is that of the network G (rule 9.5)
 pub record Represents (K : Shape) (M : Memory) (G : Network) : Type 0 where
-  pub codes : (c : ℕ) → c < places K → rowBit (K .words) (M .rec .codes) c ≡ G .isOpen c
+  pub members : (c : ℕ) → c < places K → rowBit (K .words) (M .rec .members) c ≡ G .isOpen c
   pub number : M .rec .number ≡ length (vertices G)
   pub links : (u v : ℕ) → u < places K → v < places K → tableBit (K .words) (M .links) u v ≡ G .linked u v
   pub chain : IsDiameter G (delivers G) (M .rec .chain)

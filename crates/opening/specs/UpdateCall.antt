@@ -61,7 +61,7 @@ updateGiven zero K rec links B o =
     record {
       report = record { outcome = changeOf (x .change); searches = length (S .references) };
       after = record {
-        codes = overwrite (encodeRow (K .words) (H .isOpen)) (rec .codes);
+        members = overwrite (encodeRow (K .words) (H .isOpen)) (rec .members);
         number = length (vertices H);
         chain = S .candidate;
         count = countPairs (range (places K)) (S .pairs);

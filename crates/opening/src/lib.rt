@@ -62,13 +62,13 @@ fn refused(rec: Record, number: u8) -> Returned
 // ---- the opening
 
 // Puts the new code into the open set.
-fn put_code(codes: &mut [u64], code: u8)
-    requires { ⌜ 4 ≤ length (now codes) ⌝ }
+fn put_code(members: &mut [u64], code: u8)
+    requires { ⌜ 4 ≤ length (now members) ⌝ }
     ensures { λ r.
-        let before = now (codes .entry) in
-        ⌜ now (codes .exit) ≡ overwrite (encodeRow 4 (λ v. eqb v code || rowBit 4 before v)) before ⌝ }
+        let before = now (members .entry) in
+        ⌜ now (members .exit) ≡ overwrite (encodeRow 4 (λ v. eqb v code || rowBit 4 before v)) before ⌝ }
 {
-    rows::row_set(codes, 4, 0, code as usize);
+    rows::row_set(members, 4, 0, code as usize);
 }
 
 // The opening of a notice that nothing refuses: its links in place, then the figures.
@@ -93,8 +93,8 @@ fn open_map(
         ⌜ updateLeft r (now (links .exit)) after ≡ updateGiven 0 base rec (now (links .entry)) before asked ⌝ }
 {
     admission::link_depot(links, 4, code, neighbours);
-    let mut codes = rec.codes;
-    put_code(&mut codes, code);
+    let mut members = rec.members;
+    put_code(&mut members, code);
     let got = insertion::refigure(
         pairs,
         hops,
@@ -102,14 +102,14 @@ fn open_map(
         skips,
         even,
         odd,
-        &codes,
+        &members,
         &*links,
         code as usize,
         rec.chain,
         rec.count,
     );
     let after = Record {
-        codes: codes,
+        members: members,
         number: rec.number + 1,
         chain: got.chain,
         count: got.count,
@@ -146,8 +146,8 @@ pub fn open_sound(
         let asked = opens (noticeOf code (now (neighbours .entry))) in
         ⌜ updateLeft r (now (links .exit)) after ≡ updateCall base rec (now (links .entry)) before asked ⌝ }
 {
-    let codes = rec.codes;
-    let refusal = admission::notice_refusal(&codes, 4, code, neighbours);
+    let members = rec.members;
+    let refusal = admission::notice_refusal(&members, 4, code, neighbours);
     if refusal != 0 {
         return refused(rec, refusal);
     }

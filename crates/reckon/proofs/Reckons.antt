@@ -57,27 +57,27 @@ module _ (K : Shape) (rec : Record) (links : List ℕ) (z : Sizes) where
   pub granted-net : IsShape K → reckonRefusal K rec links z ≡ 0 → IsNet (mapNetwork K rec links)
   granted-net shape e =
       let t = granted-tests e in
-      let s : IsSound G = sound-links-iff (K .words) (rec .codes) links (rec .number) .0 (t .0) .isSound in
-      let m : length (vertices G) < unreached = omega (arith, network-most (K .words) (rec .codes) links, shape .most) in
+      let s : IsSound G = sound-links-iff (K .words) (rec .members) links (rec .number) .0 (t .0) .isSound in
+      let m : length (vertices G) < unreached = omega (arith, network-most (K .words) (rec .members) links, shape .most) in
       record { sound = s; connected = connected-iff G s m .0 (t .1); small = m }
 
 -- ---- the whole reckoning of a network, from the two calls
 
-module _ (K : Shape) (shape : IsShape K) (codes links : List ℕ) (net : IsNet (networkOf (K .words) codes links)) where
+module _ (K : Shape) (shape : IsShape K) (members links : List ℕ) (net : IsNet (networkOf (K .words) members links)) where
   abbrev N : Network
-  N = networkOf (K .words) codes links
+  N = networkOf (K .words) members links
 
-  pub reckoned-is : (B : Lent) (row pairs bounds skips waiting : List ℕ) (M′ : Workspace) → roundsBegun pairs (marks bounds skips waiting) ≡ roundsBeginOf (K .words) (K .otherMark) codes (roundsBegun (B .pairs) (marks (B .bounds) (B .skips) row))
+  pub reckoned-is : (B : Lent) (row pairs bounds skips waiting : List ℕ) (M′ : Workspace) → roundsBegun pairs (marks bounds skips waiting) ≡ roundsBeginOf (K .words) (K .otherMark) members (roundsBegun (B .pairs) (marks (B .bounds) (B .skips) row))
       → M′ ≡ runOf (K .words) links (K .searchedMark) (64 * K .words) (workspace (B .searched) (tally pairs 0) (marks bounds skips waiting) 0 0)
-      → ran (lent (M′ .paired .pairs) (M′ .searched) (M′ .marked .bounds) (M′ .marked .skips)) (M′ .candidate) (M′ .paired .count) (M′ .searches) ≡ ranBy K (networkOf (K .words) codes links) (reckon (chart (networkOf (K .words) codes links))) B
+      → ran (lent (M′ .paired .pairs) (M′ .searched) (M′ .marked .bounds) (M′ .marked .skips)) (M′ .candidate) (M′ .paired .count) (M′ .searches) ≡ ranBy K (networkOf (K .words) members links) (reckon (chart (networkOf (K .words) members links))) B
   unfolding ranBy reckon roundsBeginOf
   reckoned-is B row pairs bounds skips waiting M′ b e =
       let O : Origin = record { searched = B .searched; pairs = B .pairs; bounds = B .bounds; skips = B .skips; waiting = row } in
       let M : Workspace = workspace (B .searched) (tally pairs 0) (marks bounds skips waiting) 0 0 in
-      let H = start-holds K shape codes links net 0 O pairs bounds skips waiting (ap (λ (x : RoundsBegun). x .pairs) b) (ap (λ (x : RoundsBegun). x .marked .bounds) b) (ap (λ (x : RoundsBegun). x .marked .skips) b) (ap (λ (x : RoundsBegun). x .marked .waiting) b) in
-      let R = start-running K shape codes links net 0 (omega arith) in
-      let figures = run-figures K shape codes links net (start 0) R O M M′ H e in
-      rw (run-leaves K shape codes links net (start 0) R O M M′ H e, figures .0, figures .1, figures .2)
+      let H = start-holds K shape members links net 0 O pairs bounds skips waiting (ap (λ (x : RoundsBegun). x .pairs) b) (ap (λ (x : RoundsBegun). x .marked .bounds) b) (ap (λ (x : RoundsBegun). x .marked .skips) b) (ap (λ (x : RoundsBegun). x .marked .waiting) b) in
+      let R = start-running K shape members links net 0 (omega arith) in
+      let figures = run-figures K shape members links net (start 0) R O M M′ H e in
+      rw (run-leaves K shape members links net (start 0) R O M M′ H e, figures .0, figures .1, figures .2)
 
 -- ---- the call
 
@@ -98,8 +98,8 @@ module _ (K : Shape) (shape : IsShape K) (rec : Record) (links p h b s x y : Lis
 
   pub accepted-call : 0 ≡ reckonRefusal K rec links z → (B′ : Lent) (c n k : ℕ)
       → ran B′ c n k ≡ ranBy K (mapNetwork K rec links) (reckon (chart (mapNetwork K rec links))) B
-      → reckonLeft (record { answer = Searches k; after = record { codes = rec .codes; number = rec .number; chain = c; count = n } }) B′ ≡ reckonCall K rec links B
+      → reckonLeft (record { answer = Searches k; after = record { members = rec .members; number = rec .number; chain = c; count = n } }) B′ ≡ reckonCall K rec links B
   unfolding reckonCall reckonGiven ranBy figuredBy sizesOf
   accepted-call q B′ c n k e =
-      ap (λ (r : Ran). reckonLeft (record { answer = Searches (r .searches); after = record { codes = rec .codes; number = rec .number; chain = r .chain; count = r .count } }) (r .lent)) e
+      ap (λ (r : Ran). reckonLeft (record { answer = Searches (r .searches); after = record { members = rec .members; number = rec .number; chain = r .chain; count = r .count } }) (r .lent)) e
       ∙ ap (λ (m : ℕ). reckonGiven m K rec links B) q

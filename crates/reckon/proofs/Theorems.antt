@@ -59,12 +59,12 @@ module _ (K : Shape) (shape : IsShape K) (rec : Record) (links : List ℕ) (B : 
   long = granted-long K rec links (sizesOf links B) ok
 
   below : (v : ℕ) → T (G .isOpen v) → v < places K
-  below = network-open-below (K .words) (rec .codes) links
+  below = network-open-below (K .words) (rec .members) links
 
   number-is : rec .number ≡ length (vertices G)
   number-is =
-      sound-links-iff (K .words) (rec .codes) links (rec .number) .0 (granted-tests K rec links (sizesOf links B) ok .0) .counted
-      ∙ sym (network-length (K .words) (rec .codes) links)
+      sound-links-iff (K .words) (rec .members) links (rec .number) .0 (granted-tests K rec links (sizesOf links B) ok .0) .counted
+      ∙ sym (network-length (K .words) (rec .members) links)
 
   -- ---- the last search
 
@@ -92,7 +92,7 @@ module _ (K : Shape) (shape : IsShape K) (rec : Record) (links : List ℕ) (B : 
     chain = correct .figures .chain;
     pairs = λ u v p q. subst (λ (b : Bool). T b ↔ IsFarthest G (delivers G) u v) (sym (table-at (K .words) (S .pairs) (B .pairs) u v p q)) (correct .figures .pairs u v);
     count = ap (countPairs (range (places K))) (sym (pairs-read K G (net .sound) below (S .pairs) (B .pairs) (correct .figures .pairs)));
-    codes = refl;
+    members = refl;
     number = refl;
     accepted = refl;
     marked = skips-counted K G (net .sound) below shape S (correct .references) (B .skips);

@@ -31,7 +31,7 @@ pub record IsReckoning (K : Shape) (G : Network) (rec : Record) (B : Lent) (refe
   pub chain : IsDiameter G (delivers G) (left .reckoned .after .chain)
   pub pairs : (u v : ℕ) → u < places K → v < places K → T (tableBit (K .words) (left .lent .pairs) u v) ↔ IsFarthest G (delivers G) u v
   pub count : left .reckoned .after .count ≡ countPairs (range (places K)) (tableBit (K .words) (left .lent .pairs))
-  pub codes : left .reckoned .after .codes ≡ rec .codes
+  pub members : left .reckoned .after .members ≡ rec .members
   pub number : left .reckoned .after .number ≡ rec .number
   -- the answer: as many searches as depots are marked, no more than are open
   pub accepted : left .reckoned .answer ≡ Searches (searchesOf (left .reckoned .answer))

@@ -50,7 +50,7 @@ fn reckon_map(
     skips: &mut [u16],
     even: &mut [u64],
     odd: &mut [u64],
-    codes: &[u64],
+    members: &[u64],
     links: &[u64],
 ) -> RoundFigures
     requires { ⌜ (1024 ≤ length (now links))
@@ -60,18 +60,18 @@ fn reckon_map(
         × (256 ≤ length (now skips))
         × (4 ≤ length (now even))
         × (4 ≤ length (now odd))
-        × (4 ≤ length (now codes))
-        × IsNet (networkOf 4 (now codes) (now links)) ⌝ }
+        × (4 ≤ length (now members))
+        × IsNet (networkOf 4 (now members) (now links)) ⌝ }
     ensures { λ t.
         let before = lentBefore pairs hops bounds skips even odd in
         let after = lentAfter pairs hops bounds skips even odd in
-        let G = networkOf 4 (now (codes .entry)) (now (links .entry)) in
+        let G = networkOf 4 (now (members .entry)) (now (links .entry)) in
         ⌜ ran after (t .candidate) (t .count) (t .searches) ≡ ranBy base G (reckon (chart G)) before ⌝ }
 {
     let mut ranks = [0u16; 256];
     let mut seen = [0u64; 4];
     let mut next = [0u64; 4];
-    rounds::begin(pairs, bounds, skips, &mut ranks, codes, links, 4, 257);
+    rounds::begin(pairs, bounds, skips, &mut ranks, members, links, 4, 257);
     let none = RoundFigures {
         candidate: 0,
         count: 0,
@@ -126,10 +126,10 @@ pub fn reckon_all(
             after: rec,
         };
     }
-    let codes = rec.codes;
-    let got = reckon_map(pairs, hops, bounds, skips, even, odd, &codes, links);
+    let members = rec.members;
+    let got = reckon_map(pairs, hops, bounds, skips, even, odd, &members, links);
     let after = Record {
-        codes: codes,
+        members: members,
         number: rec.number,
         chain: got.candidate,
         count: got.count,

@@ -48,25 +48,25 @@ cleared-table W t = refl
 
 -- ---- the start
 
-module _ (K : Shape) (shape : IsShape K) (codes links : List ℕ) (net : IsNet (networkOf (K .words) codes links)) where
+module _ (K : Shape) (shape : IsShape K) (members links : List ℕ) (net : IsNet (networkOf (K .words) members links)) where
   abbrev W : ℕ
   W = K .words
 
   abbrev G : Network
-  G = networkOf (K .words) codes links
+  G = networkOf (K .words) members links
 
   pub start-holds : (c : ℕ) (O : Origin) (pairs bounds skips row : List ℕ) → pairs ≡ overwrite (encodeTable W (λ u v. false)) (O .pairs)
       → bounds ≡ overwrite (mapl (λ v. unreached) (range (64 * W))) (O .bounds) → skips ≡ overwrite (mapl (λ v. K .otherMark) (range (64 * W))) (O .skips)
-      → row ≡ overwrite (encodeRow W (rowBit W codes)) (O .waiting)
+      → row ≡ overwrite (encodeRow W (rowBit W members)) (O .waiting)
       → Holds W (K .searchedMark) (K .otherMark) G O (start c) (workspace (O .searched) (tally pairs 0) (marks bounds skips row) c 0)
   unfolding start searchAfter boundPlace skipPlace waitingPlace networkOf
   start-holds c O pairs bounds skips row p b s w = record {
     tables-are = refl;
     pairs-are = p;
     count-is = sym (count-no-pairs (64 * W));
-    bounds-are = b ∙ ap (λ (r : List ℕ). overwrite r (O .bounds)) (fill-ext (λ v. unreached) (λ v. cond (rowBit W codes v) unreached unreached) (64 * W) (λ v m. sym (same (rowBit W codes v) unreached)));
-    skips-are = s ∙ ap (λ (r : List ℕ). overwrite r (O .skips)) (fill-ext (λ v. K .otherMark) (λ v. cond (rowBit W codes v) (cond (eqb unreached unreached) (K .otherMark) 0) (K .otherMark)) (64 * W) (λ v m. sym (same (rowBit W codes v) (K .otherMark))));
-    waiting-is = w ∙ ap (λ (r : List ℕ). overwrite r (O .waiting)) (encode-row-ext W (rowBit W codes) (λ v. rowBit W codes v && true) (λ v m. sym (and-true-right (rowBit W codes v))));
+    bounds-are = b ∙ ap (λ (r : List ℕ). overwrite r (O .bounds)) (fill-ext (λ v. unreached) (λ v. cond (rowBit W members v) unreached unreached) (64 * W) (λ v m. sym (same (rowBit W members v) unreached)));
+    skips-are = s ∙ ap (λ (r : List ℕ). overwrite r (O .skips)) (fill-ext (λ v. K .otherMark) (λ v. cond (rowBit W members v) (cond (eqb unreached unreached) (K .otherMark) 0) (K .otherMark)) (64 * W) (λ v m. sym (same (rowBit W members v) (K .otherMark))));
+    waiting-is = w ∙ ap (λ (r : List ℕ). overwrite r (O .waiting)) (encode-row-ext W (rowBit W members) (λ v. rowBit W members v && true) (λ v m. sym (and-true-right (rowBit W members v))));
     candidate-is = refl;
     searches-are = refl;
   }
@@ -82,7 +82,7 @@ module _ (K : Shape) (shape : IsShape K) (codes links : List ℕ) (net : IsNet (
   most-ecc : (v : ℕ) → chart G .isDestination v ≡ true → ecc (chart G) v ≤ unreached
   most-ecc v t = le-of-lt (ecc-small (chart G) (chart-metric G net) v (chart-metric G net .inside v t))
 
-  pub start-running : (c : ℕ) → c ≤ unreached → Running W (K .searchedMark) (K .otherMark) (shape .most) codes links net (start c)
+  pub start-running : (c : ℕ) → c ≤ unreached → Running W (K .searchedMark) (K .otherMark) (shape .most) members links net (start c)
   unfolding start
   start-running c l = record { inv = start-fine (chart G) (chart-metric G net) unreached most-ecc (le-refl unreached) c l; low = λ v ov. le-refl unreached }
 
@@ -106,7 +106,7 @@ module _ (K : Shape) (shape : IsShape K) (codes links : List ℕ) (net : IsNet (
       go none e ih p = refl
       go (some r) e ih p = ih r p
 
-  module _ (S₀ : State) (R : Running W (K .searchedMark) (K .otherMark) (shape .most) codes links net S₀) where
+  module _ (S₀ : State) (R : Running W (K .searchedMark) (K .otherMark) (shape .most) members links net S₀) where
     abbrev S : State
     S = rounds (chart G) (length (chart G .depots)) S₀
 
@@ -129,7 +129,7 @@ module _ (K : Shape) (shape : IsShape K) (codes links : List ℕ) (net : IsNet (
 
     depots-few : length (chart G .depots) ≤ 64 * W
     unfolding chart
-    depots-few = network-most W codes links
+    depots-few = network-most W members links
 
     enough : rounds (chart G) (64 * W) S₀ ≡ S
     enough =
@@ -149,7 +149,7 @@ module _ (K : Shape) (shape : IsShape K) (codes links : List ℕ) (net : IsNet (
         )
       where
         end : Holds W (K .searchedMark) (K .otherMark) G O S M′
-        end = subst (Holds W (K .searchedMark) (K .otherMark) G O S) (sym e) (subst (λ (X : State). Holds W (K .searchedMark) (K .otherMark) G O X (runOf W links (K .searchedMark) (64 * W) M)) enough (run-holds W (K .searchedMark) (K .otherMark) (shape .most) codes links net (64 * W) O S₀ M H R .0))
+        end = subst (Holds W (K .searchedMark) (K .otherMark) G O S) (sym e) (subst (λ (X : State). Holds W (K .searchedMark) (K .otherMark) G O X (runOf W links (K .searchedMark) (64 * W) M)) enough (run-holds W (K .searchedMark) (K .otherMark) (shape .most) members links net (64 * W) O S₀ M H R .0))
 
         bound-end : (v : ℕ) → (G .isOpen v ≡ true) ⊎ (G .isOpen v ≡ false) → cond (G .isOpen v) (runBound (S .status v)) unreached ≡ cond (G .isOpen v) (boundOf (S .status v)) unreached
         bound-end v (inr q) = rw q
@@ -174,4 +174,4 @@ module _ (K : Shape) (shape : IsShape K) (codes links : List ℕ) (net : IsNet (
     run-figures O M M′ H e = (end .candidate-is, end .count-is, end .searches-are)
       where
         end : Holds W (K .searchedMark) (K .otherMark) G O S M′
-        end = subst (Holds W (K .searchedMark) (K .otherMark) G O S) (sym e) (subst (λ (X : State). Holds W (K .searchedMark) (K .otherMark) G O X (runOf W links (K .searchedMark) (64 * W) M)) enough (run-holds W (K .searchedMark) (K .otherMark) (shape .most) codes links net (64 * W) O S₀ M H R .0))
+        end = subst (Holds W (K .searchedMark) (K .otherMark) G O S) (sym e) (subst (λ (X : State). Holds W (K .searchedMark) (K .otherMark) G O X (runOf W links (K .searchedMark) (64 * W) M)) enough (run-holds W (K .searchedMark) (K .otherMark) (shape .most) members links net (64 * W) O S₀ M H R .0))

@@ -61,15 +61,15 @@ pick-same C D h (x ∷ xs) = ap (λ (o : Option ℕ). some (better C x o)) (pick
     go none = refl
     go (some w) = rw (h x, h w)
 
-module _ (W mark other : ℕ) (most : W < 513) (codes links : List ℕ) (net : IsNet (networkOf W codes links)) where
+module _ (W mark other : ℕ) (most : W < 513) (members links : List ℕ) (net : IsNet (networkOf W members links)) where
   abbrev G : Network
-  G = networkOf W codes links
+  G = networkOf W members links
 
   abbrev metric : IsMetric (chart G)
   metric = chart-metric G net
 
   inside : (v : ℕ) → T (G .isOpen v) → v < 64 * W
-  inside = network-open-below W codes links
+  inside = network-open-below W members links
 
   few : 64 * W < unreached
   few = omega arith
@@ -187,16 +187,16 @@ module _ (W mark other : ℕ) (most : W < 513) (codes links : List ℕ) (net : I
 
   degree-is : (v : ℕ) → chart (tableNetwork W links) .degree v ≡ chart G .degree v
   unfolding chart tableNetwork networkOf
-  degree-is v = sym (count-filter (rowBit W codes) (tableBit W links v) (range (64 * W)) (λ u q. t→true (rowBit W codes u) (net .sound .ends v u (true→t q))))
+  degree-is v = sym (count-filter (rowBit W members) (tableBit W links v) (range (64 * W)) (λ u q. t→true (rowBit W members u) (net .sound .ends v u (true→t q))))
 
   pub pick-is : (O : Origin) (S : State) (M : Workspace) → Holds W mark other G O S M → pickIn W links (M .marked .waiting) ≡ pick (chart G) (remaining (chart G) S)
   unfolding pickIn remaining chart networkOf waitingPlace
   pick-is O S M H =
       pick-same (chart (tableNetwork W links)) (chart G) degree-is (filterb (rowBit W (M .marked .waiting)) (range (64 * W)))
       ∙ ap (pick (chart G))
-      (filter-ext (rowBit W (M .marked .waiting)) (λ v. rowBit W codes v && isWaiting (S .status v)) (range (64 * W))
+      (filter-ext (rowBit W (M .marked .waiting)) (λ v. rowBit W members v && isWaiting (S .status v)) (range (64 * W))
       (λ v k. ap (λ (l : List ℕ). rowBit W l v) (H .waiting-is) ∙ row-at W (waitingPlace G S) (O .waiting) v (range-out (64 * W) k))
-      ∙ sym (filter-twice (λ v. isWaiting (S .status v)) (rowBit W codes) (range (64 * W))))
+      ∙ sym (filter-twice (λ v. isWaiting (S .status v)) (rowBit W members) (range (64 * W))))
 
   -- a picked depot is open, waits and was not searched
   pub picked : (S : State) → Running S → (r : ℕ) → pick (chart G) (remaining (chart G) S) ≡ some r → List·Memᴰ r (chart G .depots) × (memb r (S .references) ≡ false)

@@ -59,18 +59,18 @@ round-is-absorbed W links mark r M e T t m c n s a k =
 
 -- ---- the start
 
-pub begin-is : (W other : ℕ) (codes : List ℕ) (B : RoundsBegun) (pairs bounds skips waiting : List ℕ) → pairs ≡ overwrite (encodeRow (W * (64 * W)) (λ v. false)) (B .pairs)
+pub begin-is : (W other : ℕ) (members : List ℕ) (B : RoundsBegun) (pairs bounds skips waiting : List ℕ) → pairs ≡ overwrite (encodeRow (W * (64 * W)) (λ v. false)) (B .pairs)
     → bounds ≡ overwrite (mapl (λ v. 65535) (range (64 * W))) (B .marked .bounds) → skips ≡ overwrite (mapl (λ v. other) (range (64 * W))) (B .marked .skips)
-    → waiting ≡ overwrite (encodeRow W (rowBit W codes)) (B .marked .waiting) → roundsBegun pairs (marks bounds skips waiting) ≡ roundsBeginOf W other codes B
+    → waiting ≡ overwrite (encodeRow W (rowBit W members)) (B .marked .waiting) → roundsBegun pairs (marks bounds skips waiting) ≡ roundsBeginOf W other members B
 unfolding roundsBeginOf
-begin-is W other codes B pairs bounds skips waiting p b s w = rw (p, b, s, w) (ap (λ (l : List ℕ). roundsBegun l (roundsBeginOf W other codes B .marked)) (cleared-table W (B .pairs)))
+begin-is W other members B pairs bounds skips waiting p b s w = rw (p, b, s, w) (ap (λ (l : List ℕ). roundsBegun l (roundsBeginOf W other members B .marked)) (cleared-table W (B .pairs)))
 
 -- ---- the pairs stay counted
 
-pub begun-counted : (W other : ℕ) (codes : List ℕ) (B : RoundsBegun) (p : List ℕ) (m : Marks) → 0 < W → W < 513 → W * (64 * W) ≤ length (B .pairs)
-    → roundsBegun p m ≡ roundsBeginOf W other codes B → Counted W p 0
+pub begun-counted : (W other : ℕ) (members : List ℕ) (B : RoundsBegun) (p : List ℕ) (m : Marks) → 0 < W → W < 513 → W * (64 * W) ≤ length (B .pairs)
+    → roundsBegun p m ≡ roundsBeginOf W other members B → Counted W p 0
 unfolding roundsBeginOf tallyOf
-begun-counted W other codes B p m pos most l e =
+begun-counted W other members B p m pos most l e =
     holds-counted {P = λ u v. false} (record { is = ap₂ tally (ap (λ (X : RoundsBegun). X .pairs) e) (sym (count-no-pairs (64 * W))) }) pos most l
 
 pub round-counted : (W : ℕ) (links : List ℕ) (mark r : ℕ) (M : Workspace) (T : Tables) (t : List ℕ) (n c k : ℕ) (m : Marks) → Counted W (M .paired .pairs) (M .paired .count)

@@ -75,12 +75,12 @@ abbrev pub roundsBegun : List ℕ → Marks → RoundsBegun
 roundsBegun p m = record { pairs = p; marked = m }
 
 unfoldable pub roundsBeginOf : ℕ → ℕ → List ℕ → RoundsBegun → RoundsBegun
-roundsBeginOf W other codes B =
+roundsBeginOf W other members B =
     roundsBegun (overwrite (encodeTable W (λ u v. false)) (B .pairs))
     (marks
     (overwrite (mapl (λ v. unreached) (range (64 * W))) (B .marked .bounds))
     (overwrite (mapl (λ v. other) (range (64 * W))) (B .marked .skips))
-    (overwrite (encodeRow W (rowBit W codes)) (B .marked .waiting)))
+    (overwrite (encodeRow W (rowBit W members)) (B .marked .waiting)))
 
 -- ---- what the functions ask
 

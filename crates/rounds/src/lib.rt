@@ -210,23 +210,23 @@ pub fn begin(
     bounds: &mut [u16],
     skips: &mut [u16],
     ranks: &mut [u16],
-    codes: &[u64],
+    members: &[u64],
     links: &[u64],
     words: usize,
     other: u16,
 )
     requires { ⌜ Fits words (now bounds) (now skips) (now ranks)
         × (words * (64 * words) ≤ length (now pairs))
-        × (words ≤ length (now codes))
+        × (words ≤ length (now members))
         × (words * (64 * words) ≤ length (now links)) ⌝ }
     ensures { λ x.
         let before = roundsBegun (now (pairs .entry)) (marksBefore words bounds skips ranks) in
         let after = roundsBegun (now (pairs .exit)) (marksAfter words bounds skips ranks) in
-        ⌜ (after ≡ roundsBeginOf words other (now (codes .entry)) before)
+        ⌜ (after ≡ roundsBeginOf words other (now (members .entry)) before)
         × AreRanks words (now (links .entry)) (now (ranks .exit)) ⌝ }
 {
     rows::clear(pairs, words * (64 * words));
     rows::fill(bounds, 64 * words, 65535);
     rows::fill(skips, 64 * words, other);
-    ranks::rank_all(ranks, codes, links, words);
+    ranks::rank_all(ranks, members, links, words);
 }

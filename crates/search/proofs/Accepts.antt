@@ -127,8 +127,8 @@ module _ (K : Shape) (shape : IsShape K) (rec : Record) (links : List ℕ) (B : 
   pub accepted-net : searchRefusal K rec links (length (B .hops)) (length (B .even)) (length (B .odd)) code ≡ 0 → IsNet (mapNetwork K rec links)
   accepted-net z =
       let g = granted K rec links (length (B .hops)) (length (B .even)) (length (B .odd)) code z in
-      let s = sound-by (K .words) (rec .codes) links (rec .number) (g .links-sound) in
-      let m : length (vertices N) < unreached = omega (arith, network-most (K .words) (rec .codes) links, shape .most) in
+      let s = sound-by (K .words) (rec .members) links (rec .number) (g .links-sound) in
+      let m : length (vertices N) < unreached = omega (arith, network-most (K .words) (rec .members) links, shape .most) in
       record { sound = s; connected = connected-iff N s m .0 (g .joined); small = m }
 
   pub accepted-call : 0 ≡ searchRefusal K rec links (length (B .hops)) (length (B .even)) (length (B .odd)) code → (e : ℕ) (hops even odd : List ℕ)
@@ -146,7 +146,7 @@ module _ (K : Shape) (shape : IsShape K) (rec : Record) (links : List ℕ) (B : 
       ∙ ap (λ (x : ℕ). searchGiven x K rec links B code) z
     where
       inside : (v : ℕ) → T (N .isOpen v) → v < places K
-      inside = network-open-below (K .words) (rec .codes) links
+      inside = network-open-below (K .words) (rec .members) links
 
       few : places K < unreached
       few = omega (arith, shape .most)

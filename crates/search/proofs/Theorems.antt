@@ -191,5 +191,5 @@ search-demand2 K shape rec links B code z =
     let G = mapNetwork K rec links in
     let g = granted K rec links (length (B .hops)) (length (B .even)) (length (B .odd)) code z in
     subst (λ (left : SearchLeft). IsSearch K G code B left) (ap (λ (k : ℕ). searchGiven k K rec links B code) (sym z))
-    (leaves-search K G (accepted-net K shape rec links B code z) (network-open-below (K .words) (rec .codes) links) code (true→t (g .present))
+    (leaves-search K G (accepted-net K shape rec links B code z) (network-open-below (K .words) (rec .members) links) code (true→t (g .present))
     B (g .hops-fit) (g .even-fit) (g .odd-fit))

@@ -25,8 +25,8 @@ fn search_refusal(rec: Record, links: &[u64], hops: usize, even: usize, odd: usi
     if refusal != 0 {
         return refusal;
     }
-    let codes = rec.codes;
-    if !map::is_open(&codes, 4, code as usize) {
+    let members = rec.members;
+    if !map::is_open(&members, 4, code as usize) {
         return 4;
     }
     0

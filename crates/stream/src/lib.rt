@@ -36,7 +36,7 @@ pub fn begin(links: &mut [u64], pairs: &mut [u64]) -> Progress
     ensures { λ r. ⌜ streamBegun r (now (links .exit)) (now (pairs .exit)) ≡ beginCall (now (links .entry)) (now (pairs .entry)) ⌝ }
 {
     let none = Record {
-        codes: [0u64; 4],
+        members: [0u64; 4],
         number: 0,
         chain: 0,
         count: 0,

@@ -181,14 +181,14 @@ fn same_map(a: Lent, b: Lent) -> bool {
     let links = a.links;
     let pairs = a.pairs;
     let rec = a.rec;
-    let codes = rec.codes;
+    let members = rec.members;
     let old_links = b.links;
     let old_pairs = b.pairs;
     let old = b.rec;
-    let old_codes = old.codes;
+    let old_members = old.members;
     let linked = same_words(&links, &old_links, 1024);
     let paired = same_words(&pairs, &old_pairs, 1024);
-    let open = same_row(&codes, &old_codes);
+    let open = same_row(&members, &old_members);
     let figures = both(rec.chain == old.chain, rec.count == old.count);
     both(
         both(linked, paired),
@@ -285,10 +285,10 @@ pub fn is_true(m: Lent, sheet: &Sheet) -> bool {
     let links = m.links;
     let pairs = m.pairs;
     let rec = m.rec;
-    let codes = rec.codes;
+    let members = rec.members;
     let linked = bits_are(&links, sheet, plain_search::LINKS, 65536);
     let paired = bits_are(&pairs, sheet, plain_search::PAIRS, 65536);
-    let open = bits_are(&codes, sheet, plain_search::OPEN, 256);
+    let open = bits_are(&members, sheet, plain_search::OPEN, 256);
     let number = rec.number == read(sheet, plain_search::FIGURES, plain_search::NUMBER);
     let chain = rec.chain == read(sheet, plain_search::FIGURES, plain_search::CHAIN);
     let count = rec.count == read(sheet, plain_search::FIGURES, plain_search::COUNT) as u32;

@@ -27,7 +27,7 @@ fn empty() -> Lent {
     let mut links = [9u64; 1024];
     let mut pairs = [9u64; 1024];
     let spent = Record {
-        codes: [9u64; 4],
+        members: [9u64; 4],
         number: 9,
         chain: 9,
         count: 9,
@@ -52,7 +52,7 @@ fn empty() -> Lent {
 fn bend(m: Lent, bent: usize, j: usize) -> Lent {
     let mut lent = m;
     let mut rec = m.rec;
-    let mut codes = rec.codes;
+    let mut members = rec.members;
     if bent == 2 {
         if j % 16 == 1 {
             rec.chain = 256;
@@ -61,8 +61,8 @@ fn bend(m: Lent, bent: usize, j: usize) -> Lent {
         }
     }
     if bent == 3 {
-        plain_search::flip(&mut codes, plain_search::wide(code(j)));
-        rec.codes = codes;
+        plain_search::flip(&mut members, plain_search::wide(code(j)));
+        rec.members = members;
         rec.number = rec.number % 1024 + 1;
     }
     lent.rec = rec;

@@ -24,16 +24,16 @@ use Rattle.graph.specs.Updates.{Update}
 abbrev Holds : OpenOut → UpdateLeft → Type 0
 Holds y x = (recordOf (y .words) ≡ x .after) × (y .links ≡ x .links) × (y .lent ≡ x .lent)
 
-holds-accepted : (x : UpdateLeft) (l : List ℕ) (old : ℕ) (c : Change) → length (x .after .codes) ≡ 4 → Holds (openFrom (changeOf c) x l old) x
+holds-accepted : (x : UpdateLeft) (l : List ℕ) (old : ℕ) (c : Change) → length (x .after .members) ≡ 4 → Holds (openFrom (changeOf c) x l old) x
 unfolding openFrom changeOf
 holds-accepted x l old grew e = (words-read (x .after) l e, refl, refl)
 holds-accepted x l old kept e = (words-read (x .after) l e, refl, refl)
 holds-accepted x l old shrank e = (words-read (x .after) l e, refl, refl)
 
 module _ (l links : List ℕ) (B : Lent) (o : Update) (old : ℕ) (h : recordWords ≤ length l) where
-  codes-four : length (recordOf l .codes) ≡ 4
+  members-four : length (recordOf l .members) ≡ 4
   unfolding recordOf
-  codes-four = length-take 4 l ∙ omega (arith, h)
+  members-four = length-take 4 l ∙ omega (arith, h)
 
   refused : (k : ℕ) → let x = updateGiven (suc k) base (recordOf l) links B o in Holds (openFrom (x .report .outcome) x l old) x
   unfolding updateGiven openFrom
@@ -44,7 +44,7 @@ module _ (l links : List ℕ) (B : Lent) (o : Update) (old : ℕ) (h : recordWor
   holds-given zero =
       let row = encodeRow 4 (networkAfter base (recordOf l) links o .isOpen) in
       holds-accepted (updateGiven 0 base (recordOf l) links B o) l old (updatedBy base (recordOf l) links (B .pairs) o .change)
-      (overwrite-length row (recordOf l .codes) (omega (arith, encode-row-length 4 (networkAfter base (recordOf l) links o .isOpen), codes-four)) ∙ codes-four)
+      (overwrite-length row (recordOf l .members) (omega (arith, encode-row-length 4 (networkAfter base (recordOf l) links o .isOpen), members-four)) ∙ members-four)
   holds-given (suc k) = refused k
 
   -- ON A RECORD OF SEVEN WORDS the call leaves what `updateCall` leaves, accepted or refused: a list of these calls is a list of those

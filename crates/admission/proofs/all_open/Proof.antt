@@ -13,10 +13,10 @@ use Rattle.admission.proofs.all_open.Statement.{statement}
 use Rattle.admission.proofs.all_open.Tie as tie
 
 abbrev Inv-loop : tie.InvT-loop
-Inv-loop codes words neighbours i₀ i = (k : ℕ) → k < i → rowBit words codes (getD neighbours k 0) ≡ true
+Inv-loop members words neighbours i₀ i = (k : ℕ) → k < i → rowBit words members (getD neighbours k 0) ≡ true
 
 abbrev μ-loop : tie.MeasureT-loop
-μ-loop codes words neighbours i₀ i = length neighbours - i
+μ-loop members words neighbours i₀ i = length neighbours - i
 
 loop-holds : tie.Need-loop-holds Inv-loop μ-loop
 loop-holds c k l = absurd (omega arith)
@@ -44,7 +44,7 @@ loop-again c =
     let at-loop : tie.At-loop Inv-loop μ-loop = search in
     let start : tie.Start Inv-loop μ-loop = search in
     let a = start .args in
-    listed-more (rowBit (a .words) (a .codes .now)) (a .neighbours .now) _ (at-loop .loop .inv)
+    listed-more (rowBit (a .words) (a .members .now)) (a .neighbours .now) _ (at-loop .loop .inv)
     (test-passed (after-is-open .is-open .ensures) (c .if1 .left))
 
 returns-2 : tie.Need-returns-2 Inv-loop μ-loop

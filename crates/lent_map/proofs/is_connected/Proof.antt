@@ -20,7 +20,7 @@ ruleset back = (before-search-table, before-next-member)
 is-next : (c : tie.After-known-told) →
     let after-lowest : tie.After-lowest = search back in
     let start : tie.Start = search back in
-    IsNext (start .args .words) (start .args .codes .now) 0 (after-lowest .lowest .given .0 .0)
+    IsNext (start .args .words) (start .args .members .now) 0 (after-lowest .lowest .given .0 .0)
 is-next c =
     let after-lowest : tie.After-lowest = search back in
     let after-next-member : tie.After-next-member = search back in

@@ -29,14 +29,14 @@ long c = not-false _ (c .if1 .left)
 
 sound : (c : tie.Else2) →
     let s : tie.Start = search in
-    soundLinks 256 (networkOf 4 (s .args .rec .codes) (s .args .links .now)) (s .args .rec .number) ≡ true
+    soundLinks 256 (networkOf 4 (s .args .rec .members) (s .args .links .now)) (s .args .rec .number) ≡ true
 sound c =
     let after-links-are-sound : tie.After-links-are-sound = search in
     sym (after-links-are-sound .links-are-sound .ensures) ∙ not-false _ (c .if2 .left)
 
 figured : (c : tie.Else3) →
     let s : tie.Start = search in
-    let G = networkOf 4 (s .args .rec .codes) [] in
+    let G = networkOf 4 (s .args .rec .members) [] in
     (not (s .args .figured) || soundFigures 256 G (tableBit 4 (s .args .pairs .now)) (s .args .rec .chain) (s .args .rec .count)) ≡ true
 figured c =
     let after-stored-are-sound : tie.After-stored-are-sound = search in

@@ -1,8 +1,8 @@
--- `c_values::put_codes` meets its contract: four stores are one overwriting. Assumes nothing.
-use Rattle.c_values.proofs.Words.{write-codes}
+-- `c_values::put_members` meets its contract: four stores are one overwriting. Assumes nothing.
+use Rattle.c_values.proofs.Words.{write-members}
 use borrow.Author.Needs.{needs}
-use Rattle.c_values.proofs.put_codes.Statement.{statement}
-use Rattle.c_values.proofs.put_codes.Tie as tie
+use Rattle.c_values.proofs.put_members.Statement.{statement}
+use Rattle.c_values.proofs.put_members.Tie as tie
 
 -- the way back, from each call to the one before it
 abbrev before-put-word4 : tie.After-put-word4 → tie.After-put-word3
@@ -26,11 +26,11 @@ returns c =
     let after-put-word2 : tie.After-put-word2 = search back in
     let after-put-word : tie.After-put-word = search back in
     let start : tie.Start = search back in
-    write-codes _ _ (start .pre .0) (start .pre .1) (after-put-word .put-word .ensures) (after-put-word2 .put-word2 .ensures)
+    write-members _ _ (start .pre .0) (start .pre .1) (after-put-word .put-word .ensures) (after-put-word2 .put-word2 .ensures)
     (after-put-word3 .put-word3 .ensures) (after-put-word4 .put-word4 .ensures)
 
-pub put-codes-spec : {M : Type 1} → statement M
-put-codes-spec =
+pub put-members-spec : {M : Type 1} → statement M
+put-members-spec =
     tie.close
     (tie.spec
     (λ c. search needs) (λ c. search needs) (λ c. search needs)  -- shared-slice-read-put-word, put-word-requires, shared-slice-read-put-word-2
