@@ -61,16 +61,16 @@ pub fn notice_refusal(members: &[u64], words: usize, code: u8, neighbours: &[u8]
     ensures { λ r. ⌜ r ≡ firstOf (openFaults (networkOf words (now (members .entry)) []) (record { code = code; neighbours = now (neighbours .entry) })) ⌝ }
 {
     if map::is_open(members, words, code as usize) {
-        return 5;
+        return outcome::TAKEN;
     }
     if is_lonely(members, words, neighbours) {
-        return 6;
+        return outcome::LONELY;
     }
     if !is_rising(neighbours) {
-        return 7;
+        return outcome::UNSORTED;
     }
     if !all_open(members, words, neighbours) {
-        return 8;
+        return outcome::UNKNOWN;
     }
     0
 }

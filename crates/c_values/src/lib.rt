@@ -116,16 +116,16 @@ pub fn step_refusal(
         ⌜ r ≡ stepRefusal (now (words .entry)) (now (links .entry)) (now (pairs .entry)) long line out held ⌝ }
 {
     if words.len() < 7 {
-        return 1;
+        return outcome::SHORT;
     }
     if line < 517 {
-        return 1;
+        return outcome::SHORT;
     }
     if out < 48 {
-        return 1;
+        return outcome::SHORT;
     }
     if 517 < held {
-        return 1;
+        return outcome::SHORT;
     }
     let rec = record_of(words);
     opening::map_refusal(rec, links, pairs, hops, bounds, skips, even, odd)

@@ -3,6 +3,7 @@
 use mathlib.Core.Logic.{_⊎_}
 use mathlib.Core.List.{List, [], _∷_}
 use Prim.Native.Nat.{ℕ}
+use Rattle.outcome.specs.Numbers.{spoiltMap, apartMap}
 use Rattle.graph.specs.Network.{Network}
 use Rattle.graph.specs.Chart.{Pairs}
 use Rattle.graph.specs.Refusals.{IsApart}
@@ -23,8 +24,8 @@ IsSoundApart n G number = AreLinksSound n G number × IsApart G
 
 -- the table for a call that reads the links alone
 abbrev pub linkConditions : ℕ → Network → ℕ → List (Type 0 × ℕ)
-linkConditions n G number = (IsSpoilt n G number, 2) ∷ (IsSoundApart n G number, 3) ∷ []
+linkConditions n G number = (IsSpoilt n G number, spoiltMap) ∷ (IsSoundApart n G number, apartMap) ∷ []
 
 -- the table for a call that changes the map
 abbrev pub mapConditions : ℕ → Network → ℕ → Pairs → ℕ → ℕ → List (Type 0 × ℕ)
-mapConditions n G number P chain count = (IsMapSpoilt n G number P chain count, 2) ∷ (IsSoundApart n G number, 3) ∷ []
+mapConditions n G number P chain count = (IsMapSpoilt n G number P chain count, spoiltMap) ∷ (IsSoundApart n G number, apartMap) ∷ []

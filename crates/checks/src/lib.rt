@@ -13,7 +13,7 @@ ghost use Rattle.checks.specs.Sound.{soundLinks, soundFigures};
 // ---- sound links
 
 // Whether links and number open are sound. Only set bits are walked, and the walk ends at the first faulty one.
-pub fn links_are_sound(links: &[u64], members: &[u64], words: usize, number: u16) -> bool
+pub fn links_are_sound(members: &[u64], links: &[u64], words: usize, number: u16) -> bool
     requires { ⌜ IsLent words (now links) (now members) ⌝ }
     ensures { λ r. ⌜ r ≡ soundLinks (64 * words) (networkOf words (now (members .entry)) (now (links .entry))) number ⌝ }
 {
@@ -28,7 +28,7 @@ pub fn links_are_sound(links: &[u64], members: &[u64], words: usize, number: u16
             let mut x = links[words * u + w];
             while x != 0 {
                 let v = 64 * w + words::least(x);
-                if !map::link_is_sound(links, members, words, u, v) {
+                if !map::link_is_sound(members, links, words, u, v) {
                     fine = false;
                     break 'rows;
                 }
@@ -59,8 +59,8 @@ fn count_pairs(pairs: &[u64], words: usize) -> usize
 
 // Whether the figures are sound. They ask only which codes are open, so no link is lent.
 pub fn figures_are_sound(
-    pairs: &[u64],
     members: &[u64],
+    pairs: &[u64],
     words: usize,
     chain: u16,
     count: u32,

@@ -150,8 +150,8 @@ fn end(
     skips: &mut [u16],
     even: &mut [u64],
     odd: &mut [u64],
-    out: &mut [u8],
     line: &[u8],
+    out: &mut [u8],
     failed: bool,
 )
     requires { ⌜ IsReady progress (now links) (lentAt pairs hops bounds skips even odd) (now line) ⌝ }
@@ -213,8 +213,8 @@ fn follow(
             skips,
             even,
             odd,
-            out,
             &*line,
+            out,
             ended.failed,
         );
     }

@@ -17,7 +17,7 @@ struct Four {
 }
 
 // The word x with the members of word j of row v of a table besides. Past the row there is none.
-fn with_word(x: u64, links: &[u64], words: usize, v: usize, j: usize) -> u64
+fn with_word(links: &[u64], x: u64, words: usize, v: usize, j: usize) -> u64
     requires { ⌜ (words * v + words ≤ length (now links)) × (v < 64 * words) ⌝ }
     ensures { λ r. ⌜ r ≡ wordOf 64 (λ b. bit x b || tableBit words (now (links .entry)) v (64 * j + b)) ⌝ }
 {
@@ -30,9 +30,9 @@ fn with_word(x: u64, links: &[u64], words: usize, v: usize, j: usize) -> u64
 // Visits the members that word w of a layer holds: each gets the hop k, and the codes linked to it come into the four words from word j on.
 // The word is a copy, from which each member leaves as it is visited.
 fn reach_word(
-    from: Four,
-    hops: &mut [u16],
     links: &[u64],
+    hops: &mut [u16],
+    from: Four,
     words: usize,
     w: usize,
     word: u64,
@@ -50,10 +50,10 @@ fn reach_word(
     while x != 0 {
         let v = 64 * w + words::least(x);
         hops[v] = k;
-        a = with_word(a, links, words, v, j);
-        b = with_word(b, links, words, v, j + 1);
-        c = with_word(c, links, words, v, j + 2);
-        d = with_word(d, links, words, v, j + 3);
+        a = with_word(links, a, words, v, j);
+        b = with_word(links, b, words, v, j + 1);
+        c = with_word(links, c, words, v, j + 2);
+        d = with_word(links, d, words, v, j + 3);
         x = words::drop_least(x);
     }
     Four {
@@ -66,8 +66,8 @@ fn reach_word(
 
 // Visits the members of a layer, word by word: each gets the hop k, and the codes linked to it are the four words from word j on.
 fn reach_layer(
-    hops: &mut [u16],
     links: &[u64],
+    hops: &mut [u16],
     layer: &[u64],
     words: usize,
     j: usize,
@@ -87,7 +87,7 @@ fn reach_layer(
     };
     let mut w = 0;
     while w < words {
-        got = reach_word(got, hops, links, words, w, layer[w], j, k);
+        got = reach_word(links, hops, got, words, w, layer[w], j, k);
         w += 1;
     }
     got
@@ -105,7 +105,7 @@ fn put_word(row: &mut [u64], words: usize, j: usize, x: u64)
 
 // Visits the members of a layer: each gets the hop k, and the codes linked to it are next. Four words of next at a time, so that a row of
 // four is visited once; a longer one gets its hops again with each four.
-fn visit(next: &mut [u64], hops: &mut [u16], links: &[u64], layer: &[u64], words: usize, k: u16)
+fn visit(links: &[u64], hops: &mut [u16], layer: &[u64], next: &mut [u64], words: usize, k: u16)
     requires { ⌜ SearchRoom words (now links) (now hops) × (words ≤ length (now next)) × (words ≤ length (now layer)) ⌝ }
     ensures { λ r.
         let before = visited (now (next .entry)) (now (hops .entry)) in
@@ -114,7 +114,7 @@ fn visit(next: &mut [u64], hops: &mut [u16], links: &[u64], layer: &[u64], words
 {
     let mut j = 0;
     while j < words {
-        let got = reach_layer(hops, links, layer, words, j, k);
+        let got = reach_layer(links, hops, layer, words, j, k);
         put_word(next, words, j, got.a);
         put_word(next, words, j + 1, got.b);
         put_word(next, words, j + 2, got.c);
@@ -124,7 +124,7 @@ fn visit(next: &mut [u64], hops: &mut [u16], links: &[u64], layer: &[u64], words
 }
 
 // Takes the codes that are seen out of next, and answers whether one is left: the or of all words tells by one test at the end.
-fn keep_unseen(next: &mut [u64], seen: &[u64], words: usize) -> bool
+fn keep_unseen(seen: &[u64], next: &mut [u64], words: usize) -> bool
     requires { ⌜ (words ≤ length (now next)) × (words ≤ length (now seen)) ⌝ }
     ensures { λ r. ⌜ unseen r (now (next .exit)) ≡ unseenOf words (now (seen .entry)) (now (next .entry)) ⌝ }
 {
@@ -156,12 +156,12 @@ fn pass_on(other: &mut [u64], seen: &mut [u64], next: &[u64], words: usize)
 // One step of a search, from the layer at distance k to the next one, which goes into the other row and is seen.
 // Answers whether there is a next layer. What stands in next afterwards is free.
 pub fn step(
+    links: &[u64],
     hops: &mut [u16],
+    layer: &[u64],
     other: &mut [u64],
     seen: &mut [u64],
     next: &mut [u64],
-    links: &[u64],
-    layer: &[u64],
     words: usize,
     k: u16,
 ) -> bool
@@ -174,8 +174,8 @@ pub fn step(
         ⌜ stepped r (now (hops .exit)) (now (other .exit)) (now (seen .exit))
         ≡ stepOf words (now (links .entry)) (now (layer .entry)) k (now (hops .entry)) (now (other .entry)) (now (seen .entry)) ⌝ }
 {
-    visit(next, hops, links, layer, words, k);
-    if !keep_unseen(next, &*seen, words) {
+    visit(links, hops, layer, next, words, k);
+    if !keep_unseen(&*seen, next, words) {
         return false;
     }
     pass_on(other, seen, &*next, words);

@@ -6,6 +6,7 @@ use Prim.Native.Nat.{ℕ, _+_, min}
 use lib.Dec.{eqb, ltb}
 use lib.ListN.{length}
 use Rattle.lists.specs.Lists.{anyb, allb, maxOf, memb, insertBy}
+use Rattle.outcome.specs.Numbers.{takenCode, lonelyDepot, unsortedNeighbours, unknownNeighbour}
 use Rattle.graph.specs.Network.{Network}
 use Rattle.graph.specs.Distance.{vertices, unreached}
 use Rattle.graph.specs.Chart.{Chart, ecc, Pairs, ownPairs}
@@ -51,10 +52,10 @@ isEmpty (x ∷ xs) = false
 unfoldable pub noticeFaults : (ℕ → Bool) → ℕ → Notice → List (Bool × ℕ)
 unfolding isEmpty strictlyRising allb
 noticeFaults known n o =
-    (known (o .code), 5)
-    ∷ (isEmpty (o .neighbours) && ltb 0 n, 6)
-    ∷ (not (strictlyRising (o .neighbours)), 7)
-    ∷ (not (allb known (o .neighbours)), 8)
+    (known (o .code), takenCode)
+    ∷ (isEmpty (o .neighbours) && ltb 0 n, lonelyDepot)
+    ∷ (not (strictlyRising (o .neighbours)), unsortedNeighbours)
+    ∷ (not (allb known (o .neighbours)), unknownNeighbour)
     ∷ []
 
 -- the same on a network whose depots are codes

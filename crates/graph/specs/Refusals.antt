@@ -6,6 +6,7 @@ use mathlib.Core.List.{List, [], _∷_, List·Memᴰ}
 use Prim.Native.Nat.{ℕ, suc, _≤_, _<_}
 use lib.Dec.{T}
 use lib.ListN.{length, getD}
+use Rattle.outcome.specs.Numbers.{takenCode, lonelyDepot, unsortedNeighbours, unknownNeighbour}
 use Rattle.graph.specs.Network.{Network, Walk}
 use Rattle.graph.specs.Opening.{Notice}
 use Rattle.graph.specs.Updates.{Update, opens}
@@ -42,7 +43,11 @@ IsUnknown G ns = (v : ℕ) × List·Memᴰ v ns × (T (G .isOpen v) → ⊥)
 -- the table for a notice
 abbrev pub noticeConditions : Network → Notice → List (Type 0 × ℕ)
 noticeConditions G o =
-    (IsTaken G (o .code), 5) ∷ (IsLonely G (o .neighbours), 6) ∷ (IsUnsorted (o .neighbours), 7) ∷ (IsUnknown G (o .neighbours), 8) ∷ []
+    (IsTaken G (o .code), takenCode)
+    ∷ (IsLonely G (o .neighbours), lonelyDepot)
+    ∷ (IsUnsorted (o .neighbours), unsortedNeighbours)
+    ∷ (IsUnknown G (o .neighbours), unknownNeighbour)
+    ∷ []
 
 -- the table for an update
 abbrev pub ownConditions : Network → Update → List (Type 0 × ℕ)

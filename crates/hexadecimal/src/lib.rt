@@ -21,7 +21,7 @@ pub fn all_digits(s: &[u8]) -> bool
 }
 
 // Puts the bytes that the digits spell at the start of the frame buffer.
-pub fn read_bytes(digits: &[u8], frame: &mut [u8])
+pub fn read_bytes(frame: &mut [u8], digits: &[u8])
     requires { ⌜ (allb isDigit (now digits) ≡ true) × (length (now digits) ≤ 2 * length (now frame)) ⌝ }
     ensures { λ _. ⌜ now (frame .exit) ≡ overwrite (bytesOf (now (digits .entry))) (now (frame .entry)) ⌝ }
 {
@@ -34,7 +34,7 @@ pub fn read_bytes(digits: &[u8], frame: &mut [u8])
 }
 
 // Puts two digits for each byte of the frame at the start of the line buffer.
-pub fn write_digits(frame: &[u8], line: &mut [u8])
+pub fn write_digits(line: &mut [u8], frame: &[u8])
     requires { ⌜ 2 * length (now frame) ≤ length (now line) ⌝ }
     ensures { λ _. ⌜ now (line .exit) ≡ overwrite (digitsOf (now (frame .entry))) (now (line .entry)) ⌝ }
 {

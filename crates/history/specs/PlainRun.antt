@@ -2,6 +2,7 @@
 use mathlib.Core.Bool.{not}
 use mathlib.Core.List.{List, [], _∷_}
 use Prim.Native.Nat.{ℕ, zero, suc}
+use Rattle.outcome.specs.Numbers.{shortBuffer}
 use Rattle.lists.specs.Lists.{firstOf}
 use Rattle.graph.specs.Network.{Network}
 use Rattle.graph.specs.Updates.{Update, updateFaults}
@@ -22,7 +23,7 @@ pub record Feed : Type 0 where
 -- the number of a call's refusal (rule 9.2), 0 if it is accepted
 unfoldable pub plainRefusal : Shape → Network → Feed → ℕ
 unfolding firstOf longEnough updateFaults
-plainRefusal K G c = firstOf ((not (longEnough K (c .sizes)), 1) ∷ updateFaults G (c .ask))
+plainRefusal K G c = firstOf ((not (longEnough K (c .sizes)), shortBuffer) ∷ updateFaults G (c .ask))
 
 -- what an accepted call asked for joins the accepted
 unfoldable pub joining : ℕ → Ask → List Ask → List Ask

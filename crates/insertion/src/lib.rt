@@ -7,7 +7,7 @@ ghost use Rattle.graph.specs.Chart.{chart};
 ghost use Rattle.graph.specs.Rounds.{round, rounds, start};
 ghost use Rattle.map.specs.Room.{tables};
 ghost use Rattle.layers.specs.Layers.{searched, searchTable};
-ghost use Rattle.map.specs.Memory.{base, networkOf};
+ghost use Rattle.map.specs.Memory.{base, places, networkOf};
 ghost use Rattle.pairs.specs.Pairs.{tally, Counted};
 ghost use Rattle.rounds.specs.Leaves.{ran, ranBy};
 ghost use Rattle.map.specs.Slices.{tablesBefore, tablesAfter, lentAt, lentBefore, lentAfter};
@@ -39,20 +39,20 @@ fn join(
     chain: u16,
     count: u32,
 ) -> u32
-    requires { ⌜ Counted 4 (now pairs) count
-        × (256 ≤ length (now bounds))
-        × (256 ≤ length (now skips))
-        × (4 ≤ length (now even))
-        × (4 ≤ length (now odd))
-        × (a < 256) ⌝ }
+    requires { ⌜ Counted (base .words) (now pairs) count
+        × (places base ≤ length (now bounds))
+        × (places base ≤ length (now skips))
+        × (base .words ≤ length (now even))
+        × (base .words ≤ length (now odd))
+        × (a < places base) ⌝ }
     ensures { λ n.
         let T = tables [] (now (even .entry)) (now (odd .entry)) in
         let before = joined (tally (now (pairs .entry)) count) (marking (now (bounds .entry)) (now (skips .entry))) in
         let after = joined (tally (now (pairs .exit)) n) (marking (now (bounds .exit)) (now (skips .exit))) in
         ⌜ after ≡ joinOf base a e chain T before ⌝ }
 {
-    let sum = rounds::settle_by(pairs, even, odd, 4, a, e, chain, count);
-    bounds::mark_once(bounds, skips, 4, a, e, 256, 257);
+    let sum = rounds::settle_by(pairs, even, odd, map::WORDS, a, e, chain, count);
+    bounds::mark_once(bounds, skips, map::WORDS, a, e, map::SEARCHED, map::OTHER);
     sum
 }
 
@@ -60,14 +60,14 @@ fn join(
 
 // Rounds with the candidate way, whose first reference is the search from a that stands in the tables.
 fn shrink(
+    members: &[u64],
+    links: &[u64],
     pairs: &mut [u64],
     hops: &mut [u16],
     bounds: &mut [u16],
     skips: &mut [u16],
     even: &mut [u64],
     odd: &mut [u64],
-    members: &[u64],
-    links: &[u64],
     a: usize,
     e: u16,
     way: u16,
@@ -75,29 +75,38 @@ fn shrink(
     requires { let given = lentAt pairs hops bounds skips even odd in
         ⌜ IsWhole base (now members) (now links) given
         × HoldsSearch base (now members) (now links) given a e
-        × (a < 256) ⌝ }
+        × (a < places base) ⌝ }
     ensures { λ t.
         let before = lentBefore pairs hops bounds skips even odd in
         let after = lentAfter pairs hops bounds skips even odd in
-        let G = networkOf 4 (now (members .entry)) (now (links .entry)) in
+        let G = networkOf (base .words) (now (members .entry)) (now (links .entry)) in
         let M = chart G in
         ⌜ ran after (t .candidate) (t .count) (t .searches)
         ≡ ranBy base G (rounds M (length (M .depots)) (round M a (start way))) before ⌝ }
 {
-    let mut ranks = [0u16; 256];
-    let mut seen = [0u64; 4];
-    let mut next = [0u64; 4];
-    rounds::begin(pairs, bounds, skips, &mut ranks, members, links, 4, 257);
-    let first = rounds::absorb(
+    let mut ranks = [0u16; map::PLACES];
+    let mut seen = [0u64; map::WORDS];
+    let mut next = [0u64; map::WORDS];
+    rounds::begin(
+        members,
+        links,
         pairs,
         bounds,
         skips,
         &mut ranks,
+        map::WORDS,
+        map::OTHER,
+    );
+    let first = rounds::absorb(
+        pairs,
         &*hops,
+        bounds,
+        skips,
         &*even,
         &*odd,
-        4,
-        256,
+        &mut ranks,
+        map::WORDS,
+        map::SEARCHED,
         a,
         e,
         way,
@@ -109,51 +118,34 @@ fn shrink(
         searches: 1,
     };
     rounds::run_rounds(
+        links,
+        pairs,
         hops,
+        bounds,
+        skips,
         even,
         odd,
         &mut seen,
         &mut next,
-        pairs,
-        bounds,
-        skips,
         &mut ranks,
-        links,
-        4,
-        256,
+        map::WORDS,
+        map::SEARCHED,
         before,
     )
 }
 
 // ---- the whole step
 
-// The search from a, on local memory for the codes seen and the next layer.
-fn search_once(hops: &mut [u16], even: &mut [u64], odd: &mut [u64], links: &[u64], a: usize) -> u16
-    requires { ⌜ (1024 ≤ length (now links))
-        × (256 ≤ length (now hops))
-        × (4 ≤ length (now even))
-        × (4 ≤ length (now odd))
-        × (a < 256) ⌝ }
-    ensures { λ r.
-        let before = tablesBefore hops even odd in
-        let after = tablesAfter hops even odd in
-        ⌜ searched r after ≡ searchTable 4 (now (links .entry)) a before ⌝ }
-{
-    let mut seen = [0u64; 4];
-    let mut next = [0u64; 4];
-    layers::search_table(hops, even, odd, &mut seen, &mut next, links, 4, a)
-}
-
 // The figures for an eccentricity e that is not above the chain, without the stale pairs.
 fn settle_low(
+    members: &[u64],
+    links: &[u64],
     pairs: &mut [u64],
     hops: &mut [u16],
     bounds: &mut [u16],
     skips: &mut [u16],
     even: &mut [u64],
     odd: &mut [u64],
-    members: &[u64],
-    links: &[u64],
     a: usize,
     e: u16,
     chain: u16,
@@ -162,15 +154,15 @@ fn settle_low(
         ⌜ IsWhole base (now members) (now links) given
         × AreOpen base (now members) (now links) (now pairs)
         × HoldsSearch base (now members) (now links) given a e
-        × (a < 256)
+        × (a < places base)
         × (e ≤ chain) ⌝ }
     ensures { λ r.
         let before = lentBefore pairs hops bounds skips even odd in
         let after = lentAfter pairs hops bounds skips even odd in
-        let G = networkOf 4 (now (members .entry)) (now (links .entry)) in
+        let G = networkOf (base .words) (now (members .entry)) (now (links .entry)) in
         ⌜ figured (r .change) (ran after (r .chain) (r .count) (r .searches)) ≡ figuredBy base G a chain before ⌝ }
 {
-    let left = stale_pairs::drop_stale(pairs, &*hops, 4, chain);
+    let left = stale_pairs::drop_stale(pairs, &*hops, map::WORDS, chain);
     if e == chain {
         let sum = join(pairs, bounds, skips, &*even, &*odd, a, e, chain, left.count);
         return Figures {
@@ -181,7 +173,7 @@ fn settle_low(
         };
     }
     if left.count != 0 {
-        bounds::mark_once(bounds, skips, 4, a, e, 256, 257);
+        bounds::mark_once(bounds, skips, map::WORDS, a, e, map::SEARCHED, map::OTHER);
         return Figures {
             change: Change::Kept,
             chain: chain,
@@ -190,14 +182,14 @@ fn settle_low(
         };
     }
     let got = shrink(
+        members,
+        links,
         pairs,
         hops,
         bounds,
         skips,
         even,
         odd,
-        members,
-        links,
         a,
         e,
         left.way,
@@ -213,27 +205,27 @@ fn settle_low(
 // The figures after a's links are in place, by the stored chain and the count of the stored pairs: the search from a, then the pairs, the
 // marks and, if the chain shrank, the rounds.
 pub fn refigure(
+    members: &[u64],
+    links: &[u64],
     pairs: &mut [u64],
     hops: &mut [u16],
     bounds: &mut [u16],
     skips: &mut [u16],
     even: &mut [u64],
     odd: &mut [u64],
-    members: &[u64],
-    links: &[u64],
     a: usize,
     chain: u16,
     count: u32,
 ) -> Figures
     requires { let given = lentAt pairs hops bounds skips even odd in
-        ⌜ IsFigurable base (now members) (now links) given a chain count × (a < 256) ⌝ }
+        ⌜ IsFigurable base (now members) (now links) given a chain count × (a < places base) ⌝ }
     ensures { λ r.
         let before = lentBefore pairs hops bounds skips even odd in
         let after = lentAfter pairs hops bounds skips even odd in
-        let G = networkOf 4 (now (members .entry)) (now (links .entry)) in
+        let G = networkOf (base .words) (now (members .entry)) (now (links .entry)) in
         ⌜ figured (r .change) (ran after (r .chain) (r .count) (r .searches)) ≡ figuredBy base G a chain before ⌝ }
 {
-    let e = search_once(hops, even, odd, links, a);
+    let e = search::search_sound(links, hops, even, odd, a);
     if chain < e {
         let own = join(pairs, bounds, skips, &*even, &*odd, a, e, chain, count);
         return Figures {
@@ -244,14 +236,14 @@ pub fn refigure(
         };
     }
     settle_low(
+        members,
+        links,
         pairs,
         hops,
         bounds,
         skips,
         even,
         odd,
-        members,
-        links,
         a,
         e,
         chain,

@@ -28,7 +28,7 @@ fn begin(
         let after = tablesAfter hops even odd in
         ⌜ searchBegun after (now (seen .exit)) ≡ searchBeginOf words start before (now (seen .entry)) ⌝ }
 {
-    rows::fill(hops, 64 * words, 65535);
+    rows::fill(hops, 64 * words, map::UNREACHED);
     rows::clear(even, words);
     rows::clear(odd, words);
     rows::clear(seen, words);
@@ -39,12 +39,12 @@ fn begin(
 // A search from start over any table of links: hop table and layer rows, and the distance of the last layer.
 // What stands in seen and next afterwards is free.
 pub fn search_table(
+    links: &[u64],
     hops: &mut [u16],
     even: &mut [u64],
     odd: &mut [u64],
     seen: &mut [u64],
     next: &mut [u64],
-    links: &[u64],
     words: usize,
     start: usize,
 ) -> u16
@@ -63,12 +63,12 @@ pub fn search_table(
     let mut k: u16 = 0;
     loop {
         if k % 2 == 0 {
-            if !frontier::step(hops, odd, seen, next, links, &*even, words, k) {
+            if !frontier::step(links, hops, &*even, odd, seen, next, words, k) {
                 return k;
             }
             k += 1;
         } else {
-            if !frontier::step(hops, even, seen, next, links, &*odd, words, k) {
+            if !frontier::step(links, hops, &*odd, even, seen, next, words, k) {
                 return k;
             }
             k += 1;

@@ -6,6 +6,7 @@ use mathlib.Core.List.{List, [], _∷_}
 use Prim.Native.Nat.{ℕ}
 use Rattle.lists.specs.Lists.{firstOf}
 use Rattle.lists.specs.Conditions.{IsShort}
+use Rattle.outcome.specs.Numbers.{shortBuffer, spoiltMap, apartMap}
 use Rattle.graph.specs.Distance.{connected}
 use Rattle.rows.specs.Rows.{tableBit}
 use Rattle.map.specs.Memory.{Shape, places, mapNetwork}
@@ -19,9 +20,9 @@ unfoldable pub lentFaults : Shape → Bool → Bool → Record → List ℕ → 
 lentFaults K long figured rec links pairs =
     let G = mapNetwork K rec links in
     let sound = soundLinks (places K) G (rec .number) in
-    (not long, 1)
-    ∷ (not (cond figured (sound && soundFigures (places K) G (tableBit (K .words) pairs) (rec .chain) (rec .count)) sound), 2)
-    ∷ (not (connected G), 3)
+    (not long, shortBuffer)
+    ∷ (not (cond figured (sound && soundFigures (places K) G (tableBit (K .words) pairs) (rec .chain) (rec .count)) sound), spoiltMap)
+    ∷ (not (connected G), apartMap)
     ∷ []
 
 -- the first that holds; 0: none
@@ -31,5 +32,5 @@ lentRefusal K long figured rec links pairs = firstOf (lentFaults K long figured 
 -- the conditions, with the buffers that the call is lent, each its named size with its length
 abbrev pub lentConditions : Shape → List (ℕ × ℕ) → Bool → Record → List ℕ → List ℕ → List (Type 0 × ℕ)
 lentConditions K buffers true rec links pairs =
-    (IsShort buffers, 1) ∷ mapConditions (places K) (mapNetwork K rec links) (rec .number) (tableBit (K .words) pairs) (rec .chain) (rec .count)
-lentConditions K buffers false rec links pairs = (IsShort buffers, 1) ∷ linkConditions (places K) (mapNetwork K rec links) (rec .number)
+    (IsShort buffers, shortBuffer) ∷ mapConditions (places K) (mapNetwork K rec links) (rec .number) (tableBit (K .words) pairs) (rec .chain) (rec .count)
+lentConditions K buffers false rec links pairs = (IsShort buffers, shortBuffer) ∷ linkConditions (places K) (mapNetwork K rec links) (rec .number)

@@ -10,7 +10,7 @@ ghost use Rattle.lists.specs.Lists.{range, allb};
 ghost use Rattle.graph.specs.Network.{IsSound};
 ghost use Rattle.graph.specs.Distance.{unreached, connected};
 ghost use Rattle.rows.specs.Rows.{rowBit, tableBit};
-ghost use Rattle.map.specs.Memory.{base, networkOf};
+ghost use Rattle.map.specs.Memory.{base, places, tableWords, networkOf};
 ghost use Rattle.map.specs.Bits.{IsLent};
 ghost use Rattle.checks.specs.Sound.{soundFigures};
 ghost use Rattle.lent_map.specs.Faults.{lentRefusal};
@@ -20,24 +20,24 @@ use rows::Next;
 // ---- connectedness
 
 // Whether the code v is closed or has a hop.
-fn is_reached(hops: &[u16], members: &[u64], words: usize, v: usize) -> bool
+fn is_reached(members: &[u64], hops: &[u16], words: usize, v: usize) -> bool
     requires { ⌜ (64 * words ≤ length (now hops)) × (words ≤ length (now members)) × (v < 64 * words) ⌝ }
     ensures { λ r. ⌜ r ≡ (not (rowBit words (now (members .entry)) v) || ltb (getD (now (hops .entry)) v 0) unreached) ⌝ }
 {
     if !map::is_open(members, words, v) {
         return true;
     }
-    hops[v] < 65535
+    hops[v] < map::UNREACHED
 }
 
 // Whether every open code has a hop.
-fn all_reached(hops: &[u16], members: &[u64], words: usize) -> bool
+fn all_reached(members: &[u64], hops: &[u16], words: usize) -> bool
     requires { ⌜ (words < 513) × (64 * words ≤ length (now hops)) × (words ≤ length (now members)) ⌝ }
     ensures { λ r. ⌜ r ≡ allb (λ v. not (rowBit words (now (members .entry)) v) || ltb (getD (now (hops .entry)) v 0) unreached) (range (64 * words)) ⌝ }
 {
     let mut v: usize = 0;
     while v < 64 * words {
-        if !is_reached(hops, members, words, v) {
+        if !is_reached(members, hops, words, v) {
             return false;
         }
         v += 1;
@@ -48,13 +48,13 @@ fn all_reached(hops: &[u16], members: &[u64], words: usize) -> bool
 // Whether the depots are connected: a search from the lowest open code, in the memory lent for it, reaches every one.
 // What stands in that memory afterwards is free.
 pub fn is_connected(
+    members: &[u64],
+    links: &[u64],
     hops: &mut [u16],
     even: &mut [u64],
     odd: &mut [u64],
     seen: &mut [u64],
     next: &mut [u64],
-    links: &[u64],
-    members: &[u64],
     words: usize,
 ) -> bool
     requires { ⌜ IsLent words (now links) (now members)
@@ -70,65 +70,65 @@ pub fn is_connected(
     let Next::At(start) = lowest else {
         return true;
     };
-    layers::search_table(hops, even, odd, seen, next, links, words, start);
-    all_reached(&*hops, members, words)
+    layers::search_table(links, hops, even, odd, seen, next, words, start);
+    all_reached(members, &*hops, words)
 }
 
 // The same for rows of four words, on local memory, so that a refused call changes nothing.
-pub fn map_is_connected(links: &[u64], members: &[u64]) -> bool
-    requires { ⌜ IsLent 4 (now links) (now members) × IsSound (networkOf 4 (now members) (now links)) ⌝ }
-    ensures { λ r. ⌜ r ≡ connected (networkOf 4 (now (members .entry)) (now (links .entry))) ⌝ }
+pub fn map_is_connected(members: &[u64], links: &[u64]) -> bool
+    requires { ⌜ IsLent (base .words) (now links) (now members) × IsSound (networkOf (base .words) (now members) (now links)) ⌝ }
+    ensures { λ r. ⌜ r ≡ connected (networkOf (base .words) (now (members .entry)) (now (links .entry))) ⌝ }
 {
-    let mut hops = [0u16; 256];
-    let mut even = [0u64; 4];
-    let mut odd = [0u64; 4];
-    let mut seen = [0u64; 4];
-    let mut next = [0u64; 4];
+    let mut hops = [0u16; map::PLACES];
+    let mut even = [0u64; map::WORDS];
+    let mut odd = [0u64; map::WORDS];
+    let mut seen = [0u64; map::WORDS];
+    let mut next = [0u64; map::WORDS];
     is_connected(
+        members,
+        links,
         &mut hops,
         &mut even,
         &mut odd,
         &mut seen,
         &mut next,
-        links,
-        members,
-        4,
+        map::WORDS,
     )
 }
 
 // ---- the refusal
 
 // Whether the stored figures are sound, where the call goes by them.
-fn stored_are_sound(figured: bool, pairs: &[u64], members: &[u64], chain: u16, count: u32) -> bool
-    requires { ⌜ (figured ≡ true → IsLent 4 (now pairs) (now members)) ⌝ }
+fn stored_are_sound(members: &[u64], pairs: &[u64], figured: bool, chain: u16, count: u32) -> bool
+    requires { ⌜ (figured ≡ true → IsLent (base .words) (now pairs) (now members)) ⌝ }
     ensures { λ r.
-        let G = networkOf 4 (now (members .entry)) [] in
-        ⌜ r ≡ (not figured || soundFigures 256 G (tableBit 4 (now (pairs .entry))) chain count) ⌝ }
+        let G = networkOf (base .words) (now (members .entry)) [] in
+        ⌜ r ≡ (not figured || soundFigures (places base) G (tableBit (base .words) (now (pairs .entry))) chain count) ⌝ }
 {
     if !figured {
         return true;
     }
-    checks::figures_are_sound(pairs, members, 4, chain, count)
+    checks::figures_are_sound(members, pairs, map::WORDS, chain, count)
 }
 
 // The first refusal of lent memory that holds, whatever the call is asked; 0 for none. It only reads: `long` tells whether every buffer has its named
 // size, `figured` whether the call goes by the stored figures, and where it does not, the pairs are not looked at.
-pub fn map_refusal(long: bool, figured: bool, rec: Record, links: &[u64], pairs: &[u64]) -> u8
-    requires { ⌜ (long ≡ true → 1024 ≤ length (now links)) × (long ≡ true → figured ≡ true → 1024 ≤ length (now pairs)) ⌝ }
+pub fn map_refusal(rec: Record, links: &[u64], pairs: &[u64], long: bool, figured: bool) -> u8
+    requires { ⌜ (long ≡ true → tableWords base ≤ length (now links)) × (long ≡ true → figured ≡ true → tableWords base ≤ length (now pairs)) ⌝ }
     ensures { λ r. ⌜ r ≡ lentRefusal base long figured rec (now (links .entry)) (now (pairs .entry)) ⌝ }
 {
     if !long {
-        return 1;
+        return outcome::SHORT;
     }
     let members = rec.members;
-    if !checks::links_are_sound(links, &members, 4, rec.number) {
-        return 2;
+    if !checks::links_are_sound(&members, links, map::WORDS, rec.number) {
+        return outcome::SPOILT;
     }
-    if !stored_are_sound(figured, pairs, &members, rec.chain, rec.count) {
-        return 2;
+    if !stored_are_sound(&members, pairs, figured, rec.chain, rec.count) {
+        return outcome::SPOILT;
     }
-    if !map_is_connected(links, &members) {
-        return 3;
+    if !map_is_connected(&members, links) {
+        return outcome::APART;
     }
     0
 }

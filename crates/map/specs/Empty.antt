@@ -8,6 +8,7 @@ use lib.Dec.{leb}
 use lib.ListN.{length}
 use Rattle.lists.specs.Lists.{range, mapl, overwrite, firstOf}
 use Rattle.lists.specs.Conditions.{Refuses, IsShort}
+use Rattle.outcome.specs.Numbers.{shortBuffer}
 use Rattle.rows.specs.Rows.{tableBit}
 use Rattle.map.specs.Memory.{Shape, tableWords, networkOf}
 use Rattle.map.specs.declared.Record.{Record}
@@ -37,7 +38,7 @@ abbrev pub emptyLeft : Emptied → List ℕ → List ℕ → EmptyLeft
 emptyLeft r l p = record { answer = r .answer; after = r .after; links = l; pairs = p }
 
 unfoldable pub emptyRefusal : Shape → List ℕ → List ℕ → ℕ
-emptyRefusal K links pairs = firstOf ((not (leb (tableWords K) (length links) && leb (tableWords K) (length pairs)), 1) ∷ [])
+emptyRefusal K links pairs = firstOf ((not (leb (tableWords K) (length links) && leb (tableWords K) (length pairs)), shortBuffer) ∷ [])
 
 unfoldable pub emptyGiven : ℕ → Shape → Record → List ℕ → List ℕ → EmptyLeft
 emptyGiven zero K rec links pairs = record {
@@ -59,7 +60,7 @@ abbrev pub EmptyDemand1 : Shape → (Record → List ℕ → List ℕ → EmptyL
 EmptyDemand1 K step =
     (rec : Record) (links pairs : List ℕ)
     → Refuses
-    ((IsShort (emptyBuffers K links pairs), 1) ∷ [])
+    ((IsShort (emptyBuffers K links pairs), shortBuffer) ∷ [])
     (emptyingNumber (step rec links pairs .answer))
     (λ k. record { answer = Refused k; after = rec; links = links; pairs = pairs })
     (step rec links pairs)

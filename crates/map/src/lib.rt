@@ -9,6 +9,27 @@ ghost use Rattle.map.specs.Room.{sizes, longEnough};
 ghost use Rattle.map.specs.Bits.{IsLent, soundLink, soundPair};
 ghost use Rattle.map.specs.Empty.{emptyLeft, emptyCall};
 
+// ---- the shape of a map, in specifications `base` (specs/Memory)
+
+// the words of a row, of the open set and of a layer
+pub const WORDS: usize = 4;
+
+// the codes: so many rows a table has, and so many numbers the hop, bound and skip tables
+pub const PLACES: usize = 64 * WORDS;
+
+// the words of the link table and of the pair table
+pub const TABLE: usize = WORDS * PLACES;
+
+// the skip table's mark of a searched depot, and of any that was neither searched nor skipped
+pub const SEARCHED: u16 = 256;
+
+pub const OTHER: u16 = 257;
+
+// the hop of a closed code, and the bound of a depot that has none
+pub const UNREACHED: u16 = 65535;
+
+// ---- the open set
+
 // Whether v is open. The open set is lent as row 0 of a table.
 pub fn is_open(members: &[u64], words: usize, v: usize) -> bool
     requires { ⌜ (words ≤ length (now members)) × (v < 64 * words) ⌝ }
@@ -20,7 +41,7 @@ pub fn is_open(members: &[u64], words: usize, v: usize) -> bool
 // ---- whether a bit may stand
 
 // Whether a bit v of row u may stand: u and v are open and differ, and row v has bit u.
-pub fn link_is_sound(links: &[u64], members: &[u64], words: usize, u: usize, v: usize) -> bool
+pub fn link_is_sound(members: &[u64], links: &[u64], words: usize, u: usize, v: usize) -> bool
     requires { ⌜ IsLent words (now links) (now members) × (u < 64 * words) × (v < 64 * words) ⌝ }
     ensures { λ r. ⌜ r ≡ soundLink (networkOf words (now (members .entry)) (now (links .entry))) u v ⌝ }
 {
@@ -64,32 +85,32 @@ pub fn are_long(
 ) -> bool
     ensures { λ r. ⌜ r ≡ longEnough base (sizes links pairs hops bounds skips even odd) ⌝ }
 {
-    if links < 1024 {
+    if links < TABLE {
         return false;
     }
-    if pairs < 1024 {
+    if pairs < TABLE {
         return false;
     }
-    if hops < 256 {
+    if hops < PLACES {
         return false;
     }
-    if bounds < 256 {
+    if bounds < PLACES {
         return false;
     }
-    if skips < 256 {
+    if skips < PLACES {
         return false;
     }
-    if even < 4 {
+    if even < WORDS {
         return false;
     }
-    4 <= odd
+    WORDS <= odd
 }
 
 // ---- emptying
 
-// The record of one map: open set (one row), number open, longest chain, pair count.
+// The record of one map: the members of the open set (one row), number open, longest chain, pair count.
 pub struct Record {
-    pub members: [u64; 4],
+    pub members: [u64; WORDS],
     pub number: u16,
     pub chain: u16,
     pub count: u32,
@@ -109,25 +130,25 @@ pub struct Emptied {
 
 // Empties a map: both tables and the record become zero. Refused only with 1, where a table is short.
 // A table is cleared as one row of 1,024 words.
-pub fn empty_map(links: &mut [u64], pairs: &mut [u64], rec: Record) -> Emptied
+pub fn empty_map(rec: Record, links: &mut [u64], pairs: &mut [u64]) -> Emptied
     ensures { λ r. ⌜ emptyLeft r (now (links .exit)) (now (pairs .exit)) ≡ emptyCall base rec (now (links .entry)) (now (pairs .entry)) ⌝ }
 {
-    if links.len() < 1024 {
+    if links.len() < TABLE {
         return Emptied {
-            answer: Emptying::Refused(1),
+            answer: Emptying::Refused(outcome::SHORT),
             after: rec,
         };
     }
-    if pairs.len() < 1024 {
+    if pairs.len() < TABLE {
         return Emptied {
-            answer: Emptying::Refused(1),
+            answer: Emptying::Refused(outcome::SHORT),
             after: rec,
         };
     }
-    rows::clear(links, 1024);
-    rows::clear(pairs, 1024);
+    rows::clear(links, TABLE);
+    rows::clear(pairs, TABLE);
     let none = Record {
-        members: [0u64; 4],
+        members: [0u64; WORDS],
         number: 0,
         chain: 0,
         count: 0,

@@ -21,36 +21,36 @@ pub enum Writing {
 
 // Reads the line that the input begins with into the frame buffer. It does not judge the neighbours:
 // the opening does.
-pub fn read_notice(input: &[u8], frame: &mut [u8]) -> Reading
+pub fn read_notice(frame: &mut [u8], input: &[u8]) -> Reading
     ensures { λ r. ⌜ lineLeft (readingOf r) (now (frame .exit)) ≡ readCall (now (input .entry)) (now (frame .entry)) ⌝ }
 {
     if frame.len() < 258 {
-        return Reading::Refused(1);
+        return Reading::Refused(outcome::SHORT);
     }
     let head = first_part(input);
     let end = line_end(head);
     if end == head.len() {
-        return Reading::Refused(9);
+        return Reading::Refused(outcome::GARBLED);
     }
     let digits = &head[..end];
     if !spells_frame(digits) {
-        return Reading::Refused(9);
+        return Reading::Refused(outcome::GARBLED);
     }
-    hexadecimal::read_bytes(digits, frame);
+    hexadecimal::read_bytes(frame, digits);
     Reading::Frame(end / 2, end + 1)
 }
 
 // Writes the line of a frame, which is the whole slice, into the line buffer.
-pub fn write_notice(frame: &[u8], line: &mut [u8]) -> Writing
+pub fn write_notice(line: &mut [u8], frame: &[u8]) -> Writing
     ensures { λ r. ⌜ lineLeft (writingOf r) (now (line .exit)) ≡ writeCall (now (frame .entry)) (now (line .entry)) ⌝ }
 {
     if line.len() < 517 {
-        return Writing::Refused(1);
+        return Writing::Refused(outcome::SHORT);
     }
     if !is_frame(frame) {
-        return Writing::Refused(9);
+        return Writing::Refused(outcome::GARBLED);
     }
-    hexadecimal::write_digits(frame, line);
+    hexadecimal::write_digits(line, frame);
     let end = 2 * frame.len();
     line[end] = 10;
     Writing::Line(end + 1)

@@ -45,7 +45,7 @@ pub fn map_refusal(
         ⌜ r ≡ mapRefusal base rec (now (links .entry)) (now (pairs .entry)) long ⌝ }
 {
     let long = map::are_long(links.len(), pairs.len(), hops, bounds, skips, even, odd);
-    lent_map::map_refusal(long, true, rec, links, pairs)
+    lent_map::map_refusal(rec, links, pairs, long, true)
 }
 
 // What a refused opening answers.
@@ -63,12 +63,12 @@ fn refused(rec: Record, number: u8) -> Returned
 
 // Puts the new code into the open set.
 fn put_code(members: &mut [u64], code: u8)
-    requires { ⌜ 4 ≤ length (now members) ⌝ }
+    requires { ⌜ base .words ≤ length (now members) ⌝ }
     ensures { λ r.
         let before = now (members .entry) in
-        ⌜ now (members .exit) ≡ overwrite (encodeRow 4 (λ v. eqb v code || rowBit 4 before v)) before ⌝ }
+        ⌜ now (members .exit) ≡ overwrite (encodeRow (base .words) (λ v. eqb v code || rowBit (base .words) before v)) before ⌝ }
 {
-    rows::row_set(members, 4, 0, code as usize);
+    rows::row_set(members, map::WORDS, 0, code as usize);
 }
 
 // The opening of a notice that nothing refuses: its links in place, then the figures.
@@ -92,18 +92,18 @@ fn open_map(
         let asked = opens (noticeOf code (now (neighbours .entry))) in
         ⌜ updateLeft r (now (links .exit)) after ≡ updateGiven 0 base rec (now (links .entry)) before asked ⌝ }
 {
-    admission::link_depot(links, 4, code, neighbours);
+    admission::link_depot(links, map::WORDS, code, neighbours);
     let mut members = rec.members;
     put_code(&mut members, code);
     let got = insertion::refigure(
+        &members,
+        &*links,
         pairs,
         hops,
         bounds,
         skips,
         even,
         odd,
-        &members,
-        &*links,
         code as usize,
         rec.chain,
         rec.count,
@@ -147,7 +147,7 @@ pub fn open_sound(
         ⌜ updateLeft r (now (links .exit)) after ≡ updateCall base rec (now (links .entry)) before asked ⌝ }
 {
     let members = rec.members;
-    let refusal = admission::notice_refusal(&members, 4, code, neighbours);
+    let refusal = admission::notice_refusal(&members, map::WORDS, code, neighbours);
     if refusal != 0 {
         return refused(rec, refusal);
     }

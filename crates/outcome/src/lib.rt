@@ -2,6 +2,28 @@
 ghost use mathlib.Core.Path.{_≡_};
 ghost use Rattle.outcome.specs.Outcome.{letterOf};
 
+// ---- the numbers of the refusals (rule 8.1); in specifications, `specs/Numbers`
+
+pub const SHORT: u8 = 1;
+
+pub const SPOILT: u8 = 2;
+
+pub const APART: u8 = 3;
+
+pub const ABSENT: u8 = 4;
+
+pub const TAKEN: u8 = 5;
+
+pub const LONELY: u8 = 6;
+
+pub const UNSORTED: u8 = 7;
+
+pub const UNKNOWN: u8 = 8;
+
+pub const GARBLED: u8 = 9;
+
+// ---- the answer
+
 // How the longest chain changed with an accepted opening.
 pub enum Change {
     Grew,

@@ -5,7 +5,7 @@ ghost use lib.ListN.{length};
 ghost use Rattle.graph.specs.Chart.{chart};
 ghost use Rattle.graph.specs.Rounds.{reckon};
 ghost use Rattle.graph.specs.Correct.{IsNet};
-ghost use Rattle.map.specs.Memory.{base, networkOf};
+ghost use Rattle.map.specs.Memory.{base, places, tableWords, networkOf};
 ghost use Rattle.rounds.specs.Leaves.{ran, ranBy};
 ghost use Rattle.map.specs.Room.{sizes};
 ghost use Rattle.map.specs.Slices.{lentBefore, lentAfter};
@@ -39,71 +39,80 @@ fn reckon_refusal(
     ensures { λ r. ⌜ r ≡ reckonRefusal base rec (now (links .entry)) (sizes (length (now (links .entry))) pairs hops bounds skips even odd) ⌝ }
 {
     let long = map::are_long(links.len(), pairs, hops, bounds, skips, even, odd);
-    lent_map::map_refusal(long, false, rec, links, links)
+    lent_map::map_refusal(rec, links, links, long, false)
 }
 
 // The whole reckoning of a sound, connected map.
 fn reckon_map(
+    members: &[u64],
+    links: &[u64],
     pairs: &mut [u64],
     hops: &mut [u16],
     bounds: &mut [u16],
     skips: &mut [u16],
     even: &mut [u64],
     odd: &mut [u64],
-    members: &[u64],
-    links: &[u64],
 ) -> RoundFigures
-    requires { ⌜ (1024 ≤ length (now links))
-        × (1024 ≤ length (now pairs))
-        × (256 ≤ length (now hops))
-        × (256 ≤ length (now bounds))
-        × (256 ≤ length (now skips))
-        × (4 ≤ length (now even))
-        × (4 ≤ length (now odd))
-        × (4 ≤ length (now members))
-        × IsNet (networkOf 4 (now members) (now links)) ⌝ }
+    requires { ⌜ (tableWords base ≤ length (now links))
+        × (tableWords base ≤ length (now pairs))
+        × (places base ≤ length (now hops))
+        × (places base ≤ length (now bounds))
+        × (places base ≤ length (now skips))
+        × (base .words ≤ length (now even))
+        × (base .words ≤ length (now odd))
+        × (base .words ≤ length (now members))
+        × IsNet (networkOf (base .words) (now members) (now links)) ⌝ }
     ensures { λ t.
         let before = lentBefore pairs hops bounds skips even odd in
         let after = lentAfter pairs hops bounds skips even odd in
-        let G = networkOf 4 (now (members .entry)) (now (links .entry)) in
+        let G = networkOf (base .words) (now (members .entry)) (now (links .entry)) in
         ⌜ ran after (t .candidate) (t .count) (t .searches) ≡ ranBy base G (reckon (chart G)) before ⌝ }
 {
-    let mut ranks = [0u16; 256];
-    let mut seen = [0u64; 4];
-    let mut next = [0u64; 4];
-    rounds::begin(pairs, bounds, skips, &mut ranks, members, links, 4, 257);
+    let mut ranks = [0u16; map::PLACES];
+    let mut seen = [0u64; map::WORDS];
+    let mut next = [0u64; map::WORDS];
+    rounds::begin(
+        members,
+        links,
+        pairs,
+        bounds,
+        skips,
+        &mut ranks,
+        map::WORDS,
+        map::OTHER,
+    );
     let none = RoundFigures {
         candidate: 0,
         count: 0,
         searches: 0,
     };
     rounds::run_rounds(
+        links,
+        pairs,
         hops,
+        bounds,
+        skips,
         even,
         odd,
         &mut seen,
         &mut next,
-        pairs,
-        bounds,
-        skips,
         &mut ranks,
-        links,
-        4,
-        256,
+        map::WORDS,
+        map::SEARCHED,
         none,
     )
 }
 
 // The whole reckoning: chain, pairs and pair count afresh, whatever figures stood there; or the first refusal that holds, and then nothing is changed.
 pub fn reckon_all(
+    rec: Record,
+    links: &[u64],
     pairs: &mut [u64],
     hops: &mut [u16],
     bounds: &mut [u16],
     skips: &mut [u16],
     even: &mut [u64],
     odd: &mut [u64],
-    rec: Record,
-    links: &[u64],
 ) -> Reckoned
     ensures { λ r.
         let before = lentBefore pairs hops bounds skips even odd in
@@ -127,7 +136,7 @@ pub fn reckon_all(
         };
     }
     let members = rec.members;
-    let got = reckon_map(pairs, hops, bounds, skips, even, odd, &members, links);
+    let got = reckon_map(&members, links, pairs, hops, bounds, skips, even, odd);
     let after = Record {
         members: members,
         number: rec.number,

@@ -29,7 +29,7 @@ pub fn write_report(line: &mut [u8], report: ReportFields) -> Written
     ensures { λ r. ⌜ reportLeft (writtenOf r) (now (line .exit)) ≡ reportCall report (now (line .entry)) ⌝ }
 {
     if line.len() < 48 {
-        return Written::Refused(1);
+        return Written::Refused(outcome::SHORT);
     }
     let outcome = report.outcome;
     let a = put_number(line, 0, report.number);

@@ -62,12 +62,12 @@ pub struct RoundFigures {
 // Takes in a finished search from r with eccentricity e: candidate and pairs; then r leaves the remaining; then their bounds and the skipping.
 pub fn absorb(
     pairs: &mut [u64],
+    hops: &[u16],
     bounds: &mut [u16],
     skips: &mut [u16],
-    ranks: &mut [u16],
-    hops: &[u16],
     even: &[u64],
     odd: &[u64],
+    ranks: &mut [u16],
     words: usize,
     mark: u16,
     r: usize,
@@ -91,7 +91,7 @@ pub fn absorb(
     let sum = settle_by(pairs, even, odd, words, r, e, candidate, count);
     let c = raise(candidate, e);
     bounds::leave(bounds, skips, ranks, words, r, e, mark);
-    bounds::relax(bounds, skips, ranks, hops, words, r as u16, e, c);
+    bounds::relax(hops, bounds, skips, ranks, words, r as u16, e, c);
     RoundFigures {
         candidate: c,
         count: sum,
@@ -101,16 +101,16 @@ pub fn absorb(
 
 // One round: a search from r, taken in. What stands in seen and next afterwards is free.
 fn round(
+    links: &[u64],
+    pairs: &mut [u64],
     hops: &mut [u16],
+    bounds: &mut [u16],
+    skips: &mut [u16],
     even: &mut [u64],
     odd: &mut [u64],
     seen: &mut [u64],
     next: &mut [u64],
-    pairs: &mut [u64],
-    bounds: &mut [u16],
-    skips: &mut [u16],
     ranks: &mut [u16],
-    links: &[u64],
     words: usize,
     mark: u16,
     r: usize,
@@ -127,15 +127,15 @@ fn round(
         ⌜ (exit ≡ roundOf words (now (links .entry)) mark r entry)
         × AreThinned words (now (ranks .entry)) (now (ranks .exit)) ⌝ }
 {
-    let e = layers::search_table(hops, even, odd, seen, next, links, words, r);
+    let e = layers::search_table(links, hops, even, odd, seen, next, words, r);
     let got = absorb(
         pairs,
+        &*hops,
         bounds,
         skips,
-        ranks,
-        &*hops,
         &*even,
         &*odd,
+        ranks,
         words,
         mark,
         r,
@@ -154,16 +154,16 @@ fn round(
 
 // Rounds until no depot remains. What stands in ranks, seen and next afterwards is free where the caller does not look.
 pub fn run_rounds(
+    links: &[u64],
+    pairs: &mut [u64],
     hops: &mut [u16],
+    bounds: &mut [u16],
+    skips: &mut [u16],
     even: &mut [u64],
     odd: &mut [u64],
     seen: &mut [u64],
     next: &mut [u64],
-    pairs: &mut [u64],
-    bounds: &mut [u16],
-    skips: &mut [u16],
     ranks: &mut [u16],
-    links: &[u64],
     words: usize,
     mark: u16,
     before: RoundFigures,
@@ -185,16 +185,16 @@ pub fn run_rounds(
             return now;
         };
         let after = round(
+            links,
+            pairs,
             hops,
+            bounds,
+            skips,
             even,
             odd,
             seen,
             next,
-            pairs,
-            bounds,
-            skips,
             ranks,
-            links,
             words,
             mark,
             r,
@@ -206,12 +206,12 @@ pub fn run_rounds(
 
 // The start of rounds: no pair, no bound, no mark, every open depot remaining.
 pub fn begin(
+    members: &[u64],
+    links: &[u64],
     pairs: &mut [u64],
     bounds: &mut [u16],
     skips: &mut [u16],
     ranks: &mut [u16],
-    members: &[u64],
-    links: &[u64],
     words: usize,
     other: u16,
 )
@@ -226,7 +226,7 @@ pub fn begin(
         × AreRanks words (now (links .entry)) (now (ranks .exit)) ⌝ }
 {
     rows::clear(pairs, words * (64 * words));
-    rows::fill(bounds, 64 * words, 65535);
+    rows::fill(bounds, 64 * words, map::UNREACHED);
     rows::fill(skips, 64 * words, other);
-    ranks::rank_all(ranks, members, links, words);
+    ranks::rank_all(members, links, ranks, words);
 }

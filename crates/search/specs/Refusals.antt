@@ -5,6 +5,7 @@ use mathlib.Core.List.{List, [], _∷_, _++_}
 use Prim.Native.Nat.{ℕ}
 use lib.ListN.{length}
 use Rattle.lists.specs.Conditions.{Refuses}
+use Rattle.outcome.specs.Numbers.{absentCode}
 use Rattle.graph.specs.Refusals.{IsAbsent}
 use Rattle.map.specs.Room.{Tables}
 use Rattle.map.specs.Memory.{Shape, places, tableWords, mapNetwork}
@@ -22,7 +23,7 @@ searchBuffers K links B =
 -- 1 short, 2 spoilt (links alone), 3 apart, 4 absent
 abbrev pub searchConditions : Shape → Record → List ℕ → Tables → ℕ → List (Type 0 × ℕ)
 searchConditions K rec links B code =
-    lentConditions K (searchBuffers K links B) false rec links [] ++ (IsAbsent (mapNetwork K rec links) code, 4) ∷ []
+    lentConditions K (searchBuffers K links B) false rec links [] ++ (IsAbsent (mapNetwork K rec links) code, absentCode) ∷ []
 
 -- DEMAND 1 of a program whose search call is `step`: refused with the first that holds, and then nothing changes
 abbrev pub SearchDemand1 : Shape → (Record → List ℕ → Tables → ℕ → SearchLeft) → Type 0

@@ -6,6 +6,7 @@ use Prim.Native.Nat.{ℕ, zero, suc, _%_}
 use lib.Dec.{eqb}
 use lib.ListN.{length, take}
 use Rattle.lists.specs.Lists.{firstOf}
+use Rattle.outcome.specs.Numbers.{absentCode}
 use Rattle.graph.specs.Chart.{chart, ecc}
 use Rattle.map.specs.Room.{Tables}
 use Rattle.layers.specs.Layers.{searchLeaves}
@@ -25,7 +26,7 @@ unfoldable pub searchRefusal : Shape → Record → List ℕ → ℕ → ℕ →
 searchRefusal K rec links hops even odd code =
     firstOf
     (lentFaults K (longEnough K (searchSizes K (length links) hops even odd)) false rec links []
-    ++ (not (mapNetwork K rec links .isOpen code), 4)
+    ++ (not (mapNetwork K rec links .isOpen code), absentCode)
     ∷ [])
 
 -- what the call leaves: its answer (the eccentricity, or the refusal's number), and the hop table and the two layer rows

@@ -44,7 +44,7 @@ pub struct Sifted {
 }
 
 // Takes the stale members out of x, whose bit b stands for the pair of u and first + b: those whose way is below chain.
-fn sift(x: u64, hops: &[u16], u: usize, first: usize, chain: u16) -> Sifted
+fn sift(hops: &[u16], x: u64, u: usize, first: usize, chain: u16) -> Sifted
     requires { ⌜ (u < length (now hops)) × (first + 64 ≤ length (now hops)) ⌝ }
     ensures { λ r.
         let way = wayBy (now (hops .entry)) in
@@ -81,7 +81,7 @@ fn drop_row(pairs: &mut [u64], hops: &[u16], words: usize, u: usize, chain: u16)
     let mut j = 0;
     while j < words {
         let i = base + j;
-        let left = sift(pairs[i], hops, u, 64 * j, chain);
+        let left = sift(hops, pairs[i], u, 64 * j, chain);
         pairs[i] = left.word;
         count += words::count(left.word);
         way = longer(way, left.way);

@@ -41,7 +41,7 @@ pub fn begin(links: &mut [u64], pairs: &mut [u64]) -> Progress
         chain: 0,
         count: 0,
     };
-    let got = map::empty_map(links, pairs, none);
+    let got = map::empty_map(none, links, pairs);
     let rec = got.after;
     Progress {
         rec: rec,
@@ -83,7 +83,7 @@ fn answer_line(
         ⌜ updateLeft r (now (links .exit)) after ≡ answerTo (readLine (now (text .entry))) rec (now (links .entry)) before ⌝ }
 {
     let mut frame = [0u8; 258];
-    let got = notice::read_notice(text, &mut frame);
+    let got = notice::read_notice(&mut frame, text);
     match got {
         Reading::Frame(n, _) => {
             let code = frame[1];
@@ -114,8 +114,8 @@ fn take_line(
     skips: &mut [u16],
     even: &mut [u64],
     odd: &mut [u64],
-    out: &mut [u8],
     line: &[u8],
+    out: &mut [u8],
 ) -> Fed
     requires { let long = sizesAt links pairs hops bounds skips even odd in
         ⌜ (mapRefusal base (fed .progress .rec) (now links) (now pairs) long ≡ 0)
@@ -220,8 +220,8 @@ pub fn feed(
             skips,
             even,
             odd,
-            out,
             &*line,
+            out,
         );
     }
     now
@@ -259,5 +259,5 @@ pub fn finish(
     if line_buffer::is_stopped(progress.lines, 0, out.len()) {
         return fed;
     }
-    take_line(fed, links, pairs, hops, bounds, skips, even, odd, out, line)
+    take_line(fed, links, pairs, hops, bounds, skips, even, odd, line, out)
 }

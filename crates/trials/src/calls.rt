@@ -127,14 +127,14 @@ pub fn reckon(m: Lent) -> Answer {
     let mut even = m.even;
     let mut odd = m.odd;
     let got = reckon::reckon_all(
+        m.rec,
+        &links,
         &mut pairs,
         &mut hops,
         &mut bounds,
         &mut skips,
         &mut even,
         &mut odd,
-        m.rec,
-        &links,
     );
     let rec = got.after;
     left.pairs = pairs;
@@ -158,7 +158,7 @@ pub fn search(m: Lent, s: u8) -> Answer {
     let mut hops = m.hops;
     let mut even = m.even;
     let mut odd = m.odd;
-    let found = search::search_from(&mut hops, &mut even, &mut odd, m.rec, &links, s);
+    let found = search::search_from(m.rec, &links, &mut hops, &mut even, &mut odd, s);
     left.hops = hops;
     left.even = even;
     left.odd = odd;
@@ -246,13 +246,13 @@ fn hands_back(m: Lent, s: u8, sheet: &Sheet, row: usize, e: u16) -> bool {
     let mut refusal = 99;
     let mut ecc = 0;
     let rows = search::search_rows(
+        m.rec,
+        &links,
         &mut hops,
         &mut even,
         &mut odd,
         &mut refusal,
         &mut ecc,
-        m.rec,
-        &links,
         s,
     );
     let farthest = plain_search::layer_is(rows[0], sheet, row, e);

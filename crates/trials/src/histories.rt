@@ -32,7 +32,7 @@ fn empty() -> Lent {
         chain: 9,
         count: 9,
     };
-    let emptied = map::empty_map(&mut links, &mut pairs, spent);
+    let emptied = map::empty_map(spent, &mut links, &mut pairs);
     let rec = emptied.after;
     Lent {
         links,

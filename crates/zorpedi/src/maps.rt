@@ -17,10 +17,10 @@ pub extern "C" fn zorpedi_empty(words: &mut [u64], links: &mut [u64], pairs: &mu
         ≡ emptyOut (now (words .entry)) (now (links .entry)) (now (pairs .entry)) ⌝ }
 {
     if words.len() < 7 {
-        return 1;
+        return outcome::SHORT;
     }
     let rec = c_values::record_of(&*words);
-    let got = map::empty_map(links, pairs, rec);
+    let got = map::empty_map(rec, links, pairs);
     let after = got.after;
     let answer = got.answer;
     match answer {
@@ -35,12 +35,12 @@ pub extern "C" fn zorpedi_empty(words: &mut [u64], links: &mut [u64], pairs: &mu
 // The search from a depot. 0, and its eccentricity; or 1 (short), 2 (spoilt), 3 (apart), 4 (absent).
 #[no_mangle]
 pub extern "C" fn zorpedi_search(
+    words: &[u64],
+    links: &[u64],
     hops: &mut [u16],
     even: &mut [u64],
     odd: &mut [u64],
     eccentricity: &mut u16,
-    words: &[u64],
-    links: &[u64],
     code: u8,
 ) -> u8
     ensures { λ r.
@@ -50,10 +50,10 @@ pub extern "C" fn zorpedi_search(
         ≡ searchOut (now (words .entry)) (now (links .entry)) before (now (eccentricity .entry)) code ⌝ }
 {
     if words.len() < 7 {
-        return 1;
+        return outcome::SHORT;
     }
     let rec = c_values::record_of(words);
-    let found = search::search_from(hops, even, odd, rec, links, code);
+    let found = search::search_from(rec, links, hops, even, odd, code);
     match found {
         Found::Reached(e) => {
             *eccentricity = e;
@@ -67,6 +67,7 @@ pub extern "C" fn zorpedi_search(
 #[no_mangle]
 pub extern "C" fn zorpedi_reckon(
     words: &mut [u64],
+    links: &[u64],
     pairs: &mut [u64],
     hops: &mut [u16],
     bounds: &mut [u16],
@@ -74,7 +75,6 @@ pub extern "C" fn zorpedi_reckon(
     even: &mut [u64],
     odd: &mut [u64],
     searches: &mut u16,
-    links: &[u64],
 ) -> u8
     ensures { λ r.
         let before = lentBefore pairs hops bounds skips even odd in
@@ -83,10 +83,10 @@ pub extern "C" fn zorpedi_reckon(
         ≡ reckonOut (now (words .entry)) (now (links .entry)) before (now (searches .entry)) ⌝ }
 {
     if words.len() < 7 {
-        return 1;
+        return outcome::SHORT;
     }
     let rec = c_values::record_of(&*words);
-    let got = reckon::reckon_all(pairs, hops, bounds, skips, even, odd, rec, links);
+    let got = reckon::reckon_all(rec, links, pairs, hops, bounds, skips, even, odd);
     let after = got.after;
     let answer = got.answer;
     match answer {
@@ -122,7 +122,7 @@ pub extern "C" fn zorpedi_open(
         ≡ openOut (now (words .entry)) (now (links .entry)) before asked (now (searches .entry)) ⌝ }
 {
     if words.len() < 7 {
-        return 1;
+        return outcome::SHORT;
     }
     let rec = c_values::record_of(&*words);
     let got = opening::open_step(

@@ -9,16 +9,16 @@ use report::Written;
 // Reads the notice line at the start of input into frame (258 bytes). 0, and the frame's length and the bytes used; or 1 (short), 9 (garbled).
 #[no_mangle]
 pub extern "C" fn zorpedi_read_notice(
-    input: &[u8],
     frame: &mut [u8],
     length: &mut usize,
     used: &mut usize,
+    input: &[u8],
 ) -> u8
     ensures { λ r.
         ⌜ lineOut r (now (length .exit)) (now (used .exit)) (now (frame .exit))
         ≡ readOut (now (input .entry)) (now (frame .entry)) (now (length .entry)) (now (used .entry)) ⌝ }
 {
-    let got = notice::read_notice(input, frame);
+    let got = notice::read_notice(frame, input);
     match got {
         Reading::Frame(n, u) => {
             *length = n;
@@ -31,10 +31,10 @@ pub extern "C" fn zorpedi_read_notice(
 
 // Writes the line of a frame into line (517 bytes). 0, and the line's length; or 1 (short), 9 (garbled).
 #[no_mangle]
-pub extern "C" fn zorpedi_write_notice(frame: &[u8], line: &mut [u8], length: &mut usize) -> u8
+pub extern "C" fn zorpedi_write_notice(line: &mut [u8], length: &mut usize, frame: &[u8]) -> u8
     ensures { λ r. ⌜ lineOut r (now (length .exit)) 0 (now (line .exit)) ≡ writeOut (now (frame .entry)) (now (line .entry)) (now (length .entry)) ⌝ }
 {
-    let got = notice::write_notice(frame, line);
+    let got = notice::write_notice(line, frame);
     match got {
         Writing::Line(n) => {
             *length = n;

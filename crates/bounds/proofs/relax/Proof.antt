@@ -8,10 +8,10 @@ use Rattle.bounds.proofs.relax.Statement.{statement}
 use Rattle.bounds.proofs.relax.Tie as tie
 
 abbrev Inv-loop : tie.InvT-loop
-Inv-loop bounds₀ skips₀ ranks₀ hops words r e c v₀ bounds skips ranks v = Relaxing words hops r e c bounds₀ skips₀ ranks₀ bounds skips ranks v
+Inv-loop hops bounds₀ skips₀ ranks₀ words r e c v₀ bounds skips ranks v = Relaxing words hops r e c bounds₀ skips₀ ranks₀ bounds skips ranks v
 
 abbrev μ-loop : tie.MeasureT-loop
-μ-loop bounds₀ skips₀ ranks₀ hops words r e c v₀ bounds skips ranks v = 64 * words - v
+μ-loop hops bounds₀ skips₀ ranks₀ words r e c v₀ bounds skips ranks v = 64 * words - v
 
 loop-again : tie.Need-loop-again Inv-loop μ-loop
 loop-again c =

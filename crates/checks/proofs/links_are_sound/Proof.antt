@@ -11,22 +11,22 @@ use Rattle.checks.proofs.links_are_sound.Statement.{statement}
 use Rattle.checks.proofs.links_are_sound.Tie as tie
 
 abbrev Inv-loop2 : tie.InvT-loop2
-Inv-loop2 links members words number fine₀ u w x₀ fine x = BitsDone (soundLink (networkOf words members links)) u w x₀ fine x
+Inv-loop2 members links words number fine₀ u w x₀ fine x = BitsDone (soundLink (networkOf words members links)) u w x₀ fine x
 
 abbrev μ-loop2 : tie.MeasureT-loop2
-μ-loop2 links members words number fine₀ u w x₀ fine x = x
+μ-loop2 members links words number fine₀ u w x₀ fine x = x
 
 abbrev Inv-loop : tie.InvT-loop
-Inv-loop links members words number fine₀ u w₀ fine w = WordsDone words links (soundLink (networkOf words members links)) u fine w
+Inv-loop members links words number fine₀ u w₀ fine w = WordsDone words links (soundLink (networkOf words members links)) u fine w
 
 abbrev μ-loop : tie.MeasureT-loop
-μ-loop links members words number fine₀ u w₀ fine w = words - w
+μ-loop members links words number fine₀ u w₀ fine w = words - w
 
 abbrev Inv-rows : tie.InvT-rows
-Inv-rows links members words number fine₀ u₀ fine u = RowsDone words links (soundLink (networkOf words members links)) fine u
+Inv-rows members links words number fine₀ u₀ fine u = RowsDone words links (soundLink (networkOf words members links)) fine u
 
 abbrev μ-rows : tie.MeasureT-rows
-μ-rows links members words number fine₀ u₀ fine u = 64 * words - u
+μ-rows members links words number fine₀ u₀ fine u = 64 * words - u
 
 pub links-are-sound-spec : {M : Type 1} → statement M
 links-are-sound-spec =

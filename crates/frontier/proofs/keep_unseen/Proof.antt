@@ -8,10 +8,10 @@ use Rattle.frontier.proofs.keep_unseen.Statement.{statement}
 use Rattle.frontier.proofs.keep_unseen.Tie as tie
 
 abbrev Inv-loop : tie.InvT-loop
-Inv-loop next₀ seen words all₀ j₀ next all j = Keeping words seen next₀ next all j
+Inv-loop seen next₀ words all₀ j₀ next all j = Keeping words seen next₀ next all j
 
 abbrev μ-loop : tie.MeasureT-loop
-μ-loop next₀ seen words all₀ j₀ next all j = words - j
+μ-loop seen next₀ words all₀ j₀ next all j = words - j
 
 loop-again : tie.Need-loop-again Inv-loop μ-loop
 loop-again c =

@@ -8,10 +8,10 @@ use Rattle.frontier.proofs.reach_layer.Statement.{statement}
 use Rattle.frontier.proofs.reach_layer.Tie as tie
 
 abbrev Inv-loop : tie.InvT-loop
-Inv-loop hops₀ links layer words j k got₀ w₀ hops got w = WordsVisited words links k j layer hops₀ (reached got hops) w
+Inv-loop links hops₀ layer words j k got₀ w₀ hops got w = WordsVisited words links k j layer hops₀ (reached got hops) w
 
 abbrev μ-loop : tie.MeasureT-loop
-μ-loop hops₀ links layer words j k got₀ w₀ hops got w = words - w
+μ-loop links hops₀ layer words j k got₀ w₀ hops got w = words - w
 
 pub reach-layer-spec : {M : Type 1} → statement M
 reach-layer-spec =

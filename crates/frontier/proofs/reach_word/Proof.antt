@@ -9,10 +9,10 @@ use Rattle.frontier.proofs.reach_word.Statement.{statement}
 use Rattle.frontier.proofs.reach_word.Tie as tie
 
 abbrev Inv-loop : tie.InvT-loop
-Inv-loop hops₀ links words w word j k a₀ b₀ c₀ d₀ x₀ hops a b c d x = BitsVisited words links k j w word (four a₀ b₀ c₀ d₀) hops₀ (side a b c d hops) x
+Inv-loop links hops₀ words w word j k a₀ b₀ c₀ d₀ x₀ hops a b c d x = BitsVisited words links k j w word (four a₀ b₀ c₀ d₀) hops₀ (side a b c d hops) x
 
 abbrev μ-loop : tie.MeasureT-loop
-μ-loop hops₀ links words w word j k a₀ b₀ c₀ d₀ x₀ hops a b c d x = x
+μ-loop links hops₀ words w word j k a₀ b₀ c₀ d₀ x₀ hops a b c d x = x
 
 with-word-requires : tie.Need-with-word-requires Inv-loop μ-loop
 with-word-requires c κs =

@@ -8,10 +8,10 @@ use Rattle.frontier.proofs.visit.Statement.{statement}
 use Rattle.frontier.proofs.visit.Tie as tie
 
 abbrev Inv-loop : tie.InvT-loop
-Inv-loop next₀ hops₀ links layer words k j₀ next hops j = FoursVisited words links k layer next₀ hops₀ next hops j
+Inv-loop links hops₀ layer next₀ words k j₀ hops next j = FoursVisited words links k layer next₀ hops₀ next hops j
 
 abbrev μ-loop : tie.MeasureT-loop
-μ-loop next₀ hops₀ links layer words k j₀ next hops j = words - j
+μ-loop links hops₀ layer next₀ words k j₀ hops next j = words - j
 
 -- the way back, from each place to the one before it
 abbrev before-put-word4 : tie.After-put-word4 Inv-loop μ-loop → tie.After-put-word3 Inv-loop μ-loop
@@ -56,7 +56,7 @@ loop-again c =
     (after-put-word .put-word .ensures) (after-put-word2 .put-word2 .ensures) (after-put-word3 .put-word3 .ensures)
     (after-put-word4 .put-word4 .ensures)
     (after-put-word4 .put-word4 .kept .0 ∙ after-put-word3 .put-word3 .kept .0 ∙ after-put-word2 .put-word2 .kept .0
-    ∙ after-put-word .put-word .kept .0) (after-reach-layer .reach-layer .kept .0)
+    ∙ after-put-word .put-word .kept .0) (after-reach-layer .reach-layer .kept .1 .0)
 
 pub visit-spec : {M : Type 1} → statement M
 visit-spec =

@@ -10,10 +10,10 @@ use Rattle.hexadecimal.proofs.read_bytes.Statement.{statement}
 use Rattle.hexadecimal.proofs.read_bytes.Tie as tie
 
 abbrev Inv-loop : tie.InvT-loop
-Inv-loop digits frame₀ n i₀ frame i = (i ≤ n) × Copied (bytesOf digits) frame₀ frame i
+Inv-loop frame₀ digits n i₀ frame i = (i ≤ n) × Copied (bytesOf digits) frame₀ frame i
 
 abbrev μ-loop : tie.MeasureT-loop
-μ-loop digits frame₀ n i₀ frame i = n - i
+μ-loop frame₀ digits n i₀ frame i = n - i
 
 returns : tie.Need-returns Inv-loop μ-loop
 returns c =

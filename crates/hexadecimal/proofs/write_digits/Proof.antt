@@ -12,10 +12,10 @@ use Rattle.hexadecimal.proofs.write_digits.Statement.{statement}
 use Rattle.hexadecimal.proofs.write_digits.Tie as tie
 
 abbrev Inv-loop : tie.InvT-loop
-Inv-loop frame line₀ i₀ line i = (i ≤ length frame) × Copied (digitsOf frame) line₀ line (2 * i)
+Inv-loop line₀ frame i₀ line i = (i ≤ length frame) × Copied (digitsOf frame) line₀ line (2 * i)
 
 abbrev μ-loop : tie.MeasureT-loop
-μ-loop frame line₀ i₀ line i = length frame - i
+μ-loop line₀ frame i₀ line i = length frame - i
 
 digit-requires : tie.Need-digit-requires Inv-loop μ-loop
 digit-requires c κs =

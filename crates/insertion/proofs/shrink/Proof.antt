@@ -33,6 +33,9 @@ absorb-requires c κs =
       search needs,
     )
 
+slice-aggregate-run-rounds-3 : tie.Need-slice-aggregate-run-rounds-3
+slice-aggregate-run-rounds-3 c = search needs
+
 run-rounds-requires : tie.Need-run-rounds-requires
 run-rounds-requires c κs =
     let after-absorb : tie.After-absorb = search back in
@@ -43,10 +46,38 @@ run-rounds-requires c κs =
       absorbed-counted _ _ _ _ _ _ _ _ _ _
           (begun-counted _ _ _ _ _ _ (omega arith) (omega arith) (pre .0 .pairTable) (after-begin .begin .ensures .0))
           (after-absorb .absorb .ensures .0),
-      search needs,
+      record {
+        positive = omega arith;
+        most = omega arith;
+        boundPlaces = omega (arith, pre .0 .boundPlaces, after-absorb .absorb .kept, after-begin .begin .kept);
+        skipPlaces = omega (arith, pre .0 .skipPlaces, after-absorb .absorb .kept, after-begin .begin .kept);
+        rankPlaces = omega (arith, slice-aggregate-run-rounds-3 c);
+      },
       search (thinned-ranks, needs),
       search needs,
     )
+
+-- the three calls keep the lengths of pairs, bounds and skips
+same-length : tie.Need-same-length
+same-length c =
+    let after-run-rounds : tie.After-run-rounds = search back in
+    let after-absorb : tie.After-absorb = search back in
+    let after-begin : tie.After-begin = search back in
+    omega (arith, after-run-rounds .run-rounds .kept, after-absorb .absorb .kept, after-begin .begin .kept)
+
+same-length-3 : tie.Need-same-length-3
+same-length-3 c =
+    let after-run-rounds : tie.After-run-rounds = search back in
+    let after-absorb : tie.After-absorb = search back in
+    let after-begin : tie.After-begin = search back in
+    omega (arith, after-run-rounds .run-rounds .kept, after-absorb .absorb .kept, after-begin .begin .kept)
+
+same-length-4 : tie.Need-same-length-4
+same-length-4 c =
+    let after-run-rounds : tie.After-run-rounds = search back in
+    let after-absorb : tie.After-absorb = search back in
+    let after-begin : tie.After-begin = search back in
+    omega (arith, after-run-rounds .run-rounds .kept, after-absorb .absorb .kept, after-begin .begin .kept)
 
 returns : tie.Need-returns
 returns c =
@@ -64,11 +95,11 @@ shrink-spec =
     (λ c. search needs) (λ c. search needs) (λ c. search needs)  -- slice-aggregate-begin, begin-requires, slice-aggregate-absorb
     absorb-requires
     (λ c. search needs) (λ c. search needs)  -- slice-aggregate-run-rounds, slice-aggregate-run-rounds-2
-    (λ c. search needs)  -- slice-aggregate-run-rounds-3
+    slice-aggregate-run-rounds-3
     run-rounds-requires
-    (λ c. let begun : tie.After-begin = search back in let absorbed : tie.After-absorb = search back in search needs)  -- same-length
+    same-length
     (λ c. search needs)  -- same-length-2
-    (λ c. let begun : tie.After-begin = search back in let absorbed : tie.After-absorb = search back in search needs)  -- same-length-3
-    (λ c. let begun : tie.After-begin = search back in let absorbed : tie.After-absorb = search back in search needs)  -- same-length-4
+    same-length-3
+    same-length-4
     (λ c. search needs) (λ c. search needs)  -- same-length-5, same-length-6
     returns)

@@ -13,7 +13,7 @@ use Rattle.layers.proofs.search_table.Statement.{statement}
 use Rattle.layers.proofs.search_table.Tie as tie
 
 abbrev Inv-loop : tie.InvT-loop
-Inv-loop hops₀ even₀ odd₀ seen₀ next₀ links words start k₀ hops even odd seen next k =
+Inv-loop links hops₀ even₀ odd₀ seen₀ next₀ words start k₀ hops even odd seen next k =
     AtLayer words links start (tables hops₀ even₀ odd₀) seen₀ k hops even odd seen
     × (length hops ≡ length hops₀)
     × (length even ≡ length even₀)
@@ -23,7 +23,7 @@ Inv-loop hops₀ even₀ odd₀ seen₀ next₀ links words start k₀ hops even
     × (k < 64 * words)
 
 abbrev μ-loop : tie.MeasureT-loop
-μ-loop hops₀ even₀ odd₀ seen₀ next₀ links words start k₀ hops even odd seen next k = 64 * words - k
+μ-loop links hops₀ even₀ odd₀ seen₀ next₀ words start k₀ hops even odd seen next k = 64 * words - k
 
 -- the way back, from each place to the one before it
 abbrev before-step2 : tie.After-step2 Inv-loop μ-loop → tie.Else1 Inv-loop μ-loop
@@ -78,7 +78,7 @@ loop-again c =
     let v = at-loop .loop .inv in
     let k = after-step .step .kept in
     let J = turn-even _ _ _ (start .pre .0 .most) _ _ _ _ _ _ _ (v .0) _ _ _ _ (after-step .step .ensures) (not-false _ (c .if2 .left)) (then1 .if1 .taken) in
-    (J, k .0 ∙ v .1, v .2, k .1 .0 ∙ v .3, k .1 .1 .0 ∙ v .4, k .1 .1 .1 .0 ∙ v .5, J .few)
+    (J, omega (arith, k, v .1), v .2, omega (arith, k, v .3), omega (arith, k, v .4), omega (arith, k, v .5), J .few)
 
 returns-2 : tie.Need-returns-2 Inv-loop μ-loop
 returns-2 c =
@@ -107,7 +107,7 @@ loop-again-2 c =
     let k = after-step2 .step2 .kept in
     let J = turn-odd _ _ _ (start .pre .0 .most) _ _ _ _ _ _ _ (v .0) _ _ _ _ (after-step2 .step2 .ensures) (not-false _ (c .if3 .left))
     (omega (arith, else1 .if1 .left)) in
-    (J, k .0 ∙ v .1, k .1 .0 ∙ v .2, v .3, k .1 .1 .0 ∙ v .4, k .1 .1 .1 .0 ∙ v .5, J .few)
+    (J, omega (arith, k, v .1), omega (arith, k, v .2), v .3, omega (arith, k, v .4), omega (arith, k, v .5), J .few)
 
 pub search-table-spec : {M : Type 1} → statement M
 search-table-spec =

@@ -14,10 +14,10 @@ use Rattle.lent_map.proofs.all_reached.Statement.{statement}
 use Rattle.lent_map.proofs.all_reached.Tie as tie
 
 abbrev Inv-loop : tie.InvT-loop
-Inv-loop hops members words v₀ v = (v ≤ 64 * words) × ((x : ℕ) → x < v → (not (rowBit words members x) || ltb (getD hops x 0) unreached) ≡ true)
+Inv-loop members hops words v₀ v = (v ≤ 64 * words) × ((x : ℕ) → x < v → (not (rowBit words members x) || ltb (getD hops x 0) unreached) ≡ true)
 
 abbrev μ-loop : tie.MeasureT-loop
-μ-loop hops members words v₀ v = 64 * words - v
+μ-loop members hops words v₀ v = 64 * words - v
 
 returns : tie.Need-returns Inv-loop μ-loop
 returns c =

@@ -56,7 +56,7 @@ returns-2 c =
     let pre = start .pre in
     let n = is-next after-known-told in
     c .all-reached .ensures
-    ∙ all-reached-is _ _ _ (pre .0 .positive) (pre .0 .most) (pre .6) _ (n .here) (after-search-table .search-table .last .0)
+    ∙ all-reached-is _ _ _ (pre .0 .positive) (pre .0 .most) (pre .6) _ (n .here) (after-search-table .search-table .last .1 .0)
     (hops-of _ _ _ (pre .0 .positive) (pre .0 .most) (pre .6) _ (n .here) _ _ _ _ _ (after-search-table .search-table .ensures))
 
 pub is-connected-spec : {M : Type 1} → statement M

@@ -42,7 +42,7 @@ slice-write-line c =
       arith,
       frame-parts _ (sym (after-is-frame .is-frame .ensures) ∙ not-false _ (else2 .if2 .left)) .1,
       after-shared-slice-known .shared-slice-known .given 2,
-      after-write-digits .write-digits .kept .1 .0,
+      after-write-digits .write-digits .kept .0,
     )
 
 returns-3 : tie.Need-returns-3

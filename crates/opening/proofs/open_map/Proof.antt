@@ -40,14 +40,14 @@ put-code-requires c κs = omega (arith, slice-aggregate-put-code c)
 
 refigure-requires : tie.Need-refigure-requires
 refigure-requires c κs =
-    let after-codes4 : tie.After-codes4 = search back in
+    let after-members4 : tie.After-members4 = search back in
     let after-put-code : tie.After-put-code = search back in
     let after-link-depot : tie.After-link-depot = search back in
     let after-shared-slice-known : tie.After-shared-slice-known = search back in
     let start : tie.Start = search back in (
       figurable _ _ _ _ _ _ _ _ _ _ (start .pre) (start .fits .code .fits)
           (λ k l. after-shared-slice-known .shared-slice-known .given k .fits) _ _ (after-put-code .put-code .ensures)
-          (after-link-depot .link-depot .ensures) (omega (arith, slice-aggregate-refigure after-codes4))
+          (after-link-depot .link-depot .ensures) (omega (arith, slice-aggregate-refigure after-members4))
           (after-link-depot .link-depot .kept .0),
       search needs,
     )

@@ -14,6 +14,7 @@ slice-aggregate-reckon-map c = search needs
 
 reckon-map-requires : tie.Need-reckon-map-requires
 reckon-map-requires c κs =
+    let after-members2 : tie.After-members2 = search in
     let else1 : tie.Else1 = search in
     let after-reckon-refusal : tie.After-reckon-refusal = search in
     let z = sym (after-reckon-refusal .reckon-refusal .ensures) ∙ else1 .if1 .left in
@@ -25,7 +26,7 @@ reckon-map-requires c κs =
       l .skips-fit,
       l .even-fit,
       l .odd-fit,
-      omega (arith, slice-aggregate-reckon-map c),
+      omega (arith, slice-aggregate-reckon-map after-members2),
       granted-net base _ _ _ base-shape z,
     )
 

@@ -32,8 +32,8 @@ run-rounds-requires c κs =
       record {
         positive = omega arith;
         most = omega arith;
-        boundPlaces = omega (arith, pre .3, k .1 .0);
-        skipPlaces = omega (arith, pre .4, k .1 .1 .0);
+        boundPlaces = omega (arith, pre .3, k);
+        skipPlaces = omega (arith, pre .4, k);
         rankPlaces = omega (arith, slice-aggregate-run-rounds-3 c);
       },
       after-begin .begin .ensures .1,

@@ -20,7 +20,7 @@ use Rattle.rounds.proofs.run_rounds.Statement.{statement}
 use Rattle.rounds.proofs.run_rounds.Tie as tie
 
 abbrev Inv-loop : tie.InvT-loop
-Inv-loop hops₀ even₀ odd₀ seen₀ next₀ pairs₀ bounds₀ skips₀ ranks₀ links words mark now₀ hops even odd seen next pairs bounds skips ranks now =
+Inv-loop links pairs₀ hops₀ bounds₀ skips₀ even₀ odd₀ seen₀ next₀ ranks₀ words mark now₀ pairs hops bounds skips even odd seen next ranks now =
     AtRound words links mark
     (workspace (tables hops₀ even₀ odd₀) (tally pairs₀ (now₀ .count)) (marks bounds₀ skips₀ (waitingOf words ranks₀)) (now₀ .candidate) (now₀ .searches))
     (workspace (tables hops even odd) (tally pairs (now .count)) (marks bounds skips (waitingOf words ranks)) (now .candidate) (now .searches))
@@ -36,7 +36,7 @@ Inv-loop hops₀ even₀ odd₀ seen₀ next₀ pairs₀ bounds₀ skips₀ rank
     × AreRanks words links ranks
 
 abbrev μ-loop : tie.MeasureT-loop
-μ-loop hops₀ even₀ odd₀ seen₀ next₀ pairs₀ bounds₀ skips₀ ranks₀ links words mark now₀ hops even odd seen next pairs bounds skips ranks now =
+μ-loop links pairs₀ hops₀ bounds₀ skips₀ even₀ odd₀ seen₀ next₀ ranks₀ words mark now₀ pairs hops bounds skips even odd seen next ranks now =
     countb (rowBit words (waitingOf words ranks)) (range (64 * words))
 
 -- the depot picked

@@ -9,27 +9,26 @@ use Rattle.search.proofs.search_from.Statement.{statement}
 use Rattle.search.proofs.search_from.Tie as tie
 use Rattle.map.proofs.Theorems.{base-shape}
 
-search-table-requires : tie.Need-search-table-requires
-search-table-requires c κs =
+search-sound-requires : tie.Need-search-sound-requires
+search-sound-requires c κs =
     let else1 : tie.Else1 = search in
     let after-search-refusal : tie.After-search-refusal = search in
     let start : tie.Start = search in
     let g = granted base _ _ _ _ _ _ (sym (after-search-refusal .search-refusal .ensures) ∙ else1 .if1 .left) in (
-      record { positive = omega arith; most = omega arith; table = g .table; places = g .hops-fit },
+      g .table,
+      g .hops-fit,
       g .even-fit,
       g .odd-fit,
-      omega arith,
-      omega arith,
       omega (arith, start .fits .code .fits),
     )
 
 returns-2 : tie.Need-returns-2
 returns-2 c =
-    let after-search-table : tie.After-search-table = search in
+    let after-search-sound : tie.After-search-sound = search in
     let else1 : tie.Else1 = search in
     let after-search-refusal : tie.After-search-refusal = search in
     accepted-call base base-shape _ _ _ _ (sym (else1 .if1 .left) ∙ after-search-refusal .search-refusal .ensures) _ _ _ _
-    (after-search-table .search-table .ensures)
+    (after-search-sound .search-sound .ensures)
 
 pub search-from-spec : {M : Type 1} → statement M
 search-from-spec =
@@ -37,7 +36,6 @@ search-from-spec =
     (tie.spec
     (λ c. search needs)  -- search-refusal-requires
     (λ c. search (refused-call, base-shape))  -- returns
-    (λ c. search needs) (λ c. search needs)  -- slice-aggregate-search-table, slice-aggregate-search-table-2
-    search-table-requires
+    search-sound-requires
     (λ c. search needs) (λ c. search needs) (λ c. search needs)  -- same-length, same-length-2, same-length-3
     returns-2)

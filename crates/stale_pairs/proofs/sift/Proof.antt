@@ -8,10 +8,10 @@ use Rattle.stale_pairs.proofs.sift.Tie as tie
 use Rattle.stale_pairs.specs.Stale.{wayBy}
 
 abbrev Inv-loop : tie.InvT-loop
-Inv-loop x hops u first chain word₀ way₀ left₀ word way left = Sifting (wayBy hops) chain u first x word way left
+Inv-loop hops x u first chain word₀ way₀ left₀ word way left = Sifting (wayBy hops) chain u first x word way left
 
 abbrev μ-loop : tie.MeasureT-loop
-μ-loop x hops u first chain word₀ way₀ left₀ word way left = left
+μ-loop hops x u first chain word₀ way₀ left₀ word way left = left
 
 returns : tie.Need-returns Inv-loop μ-loop
 returns c =

@@ -29,7 +29,7 @@ read : (c : tie.After-known-told) →
     (f : List ℕ)
     × (v : ℕ)
     × (readLine (start .args .text .now) ≡ frame f v)
-    × FrameStands f (after-got .got .given .0 .0) (after-read-notice .read-notice .last .1 .0)
+    × FrameStands f (after-got .got .given .0 .0) (after-read-notice .read-notice .last .0)
 read c =
     let after-got : tie.After-got = search back in
     let after-read-notice : tie.After-read-notice = search back in
