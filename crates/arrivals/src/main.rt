@@ -41,9 +41,9 @@ fn same(a: Map, b: Map) -> bool {
     let other_pairs = b.pairs;
     let other = b.rec;
     let other_members = other.members;
-    let linked = same_words(&links, &other_links, 1024);
-    let paired = same_words(&pairs, &other_pairs, 1024);
-    let open = same_words(&members, &other_members, 4);
+    let linked = same_words(&links, &other_links, map::TABLE);
+    let paired = same_words(&pairs, &other_pairs, map::TABLE);
+    let open = same_words(&members, &other_members, map::WORDS);
     let figures = both(rec.chain == other.chain, rec.count == other.count);
     both(
         both(linked, paired),

@@ -4,8 +4,8 @@ use outcome::Outcome;
 
 // The map, by value: both tables and the record.
 pub struct Map {
-    pub links: [u64; 1024],
-    pub pairs: [u64; 1024],
+    pub links: [u64; map::TABLE],
+    pub pairs: [u64; map::TABLE],
     pub rec: Record,
 }
 
@@ -27,11 +27,11 @@ fn refusal_of(o: Outcome) -> u8 {
 fn open(m: Map, code: u8, neighbours: &[u8]) -> Taken {
     let mut links = m.links;
     let mut pairs = m.pairs;
-    let mut hops = [0u16; 256];
-    let mut bounds = [0u16; 256];
-    let mut skips = [0u16; 256];
-    let mut even = [0u64; 4];
-    let mut odd = [0u64; 4];
+    let mut hops = [0u16; map::PLACES];
+    let mut bounds = [0u16; map::PLACES];
+    let mut skips = [0u16; map::PLACES];
+    let mut even = [0u64; map::WORDS];
+    let mut odd = [0u64; map::WORDS];
     let got = lent_opening::open_value(
         m.rec,
         &mut links,
@@ -61,13 +61,13 @@ fn open_beside(m: Map, code: u8, near: u8) -> Taken {
 // The map after the depots 0, 1 and 2 have opened in a path.
 fn begin() -> Map {
     let rec = Record {
-        members: [0u64; 4],
+        members: [0u64; map::WORDS],
         number: 0,
         chain: 0,
         count: 0,
     };
-    let links = [0u64; 1024];
-    let pairs = [0u64; 1024];
+    let links = [0u64; map::TABLE];
+    let pairs = [0u64; map::TABLE];
     let one = open(Map { links, pairs, rec }, 0, b"");
     let two = open_beside(one.map, 1, 0);
     let three = open_beside(two.map, 2, 1);

@@ -1,20 +1,28 @@
 -- THE RECORD AS SEVEN LENT WORDS: the open set (four words), the number open, the longest chain, the pair count. Assumes nothing.
 use mathlib.Core.List.{List, [], _∷_, _++_}
-use Prim.Native.Nat.{ℕ, min}
+use Prim.Native.Nat.{ℕ, _+_, min}
 use lib.ListN.{getD, take}
+use Rattle.map.specs.Memory.{base}
 use Rattle.map.specs.declared.Record.{Record}
 
 abbrev pub recordWords : ℕ
-recordWords = 7
+recordWords = base .words + 3
 
 unfoldable pub recordOf : List ℕ → Record
-recordOf words = record { members = take 4 words; number = getD words 4 0; chain = getD words 5 0; count = getD words 6 0 }
+recordOf words = record { members = take (base .words) words; number = getD words 4 0; chain = getD words 5 0; count = getD words 6 0 }
 
 unfoldable pub wordsOf : Record → List ℕ
 wordsOf rec = rec .members ++ (rec .number ∷ rec .chain ∷ rec .count ∷ [])
 
 -- ---- a step of the code: nobody has to believe it
 
+-- the largest numbers of 16 and of 32 bits
+abbrev pub most16 : ℕ
+most16 = 65535
+
+abbrev pub most32 : ℕ
+most32 = 4294967295
+
 -- The record at the widths of its fields. `map-clamp` and `clamped-is` (proofs/Clamps) say that no call can tell the difference.
 unfoldable pub clampedOf : List ℕ → Record
-clampedOf words = record { members = take 4 words; number = min (getD words 4 0) 65535; chain = min (getD words 5 0) 65535; count = min (getD words 6 0) 4294967295 }
+clampedOf words = record { members = take (base .words) words; number = min (getD words 4 0) most16; chain = min (getD words 5 0) most16; count = min (getD words 6 0) most32 }

@@ -3,8 +3,9 @@ ghost use mathlib.Core.Path.{_≡_};
 ghost use Prim.Native.Nat.{_≤_, _<_, min};
 ghost use lib.ListN.{length, set};
 ghost use Rattle.lists.specs.Lists.{overwrite};
+ghost use Rattle.map.specs.Memory.{base};
 ghost use Rattle.map.specs.Room.{sizes};
-ghost use Rattle.c_values.specs.Words.{recordWords, wordsOf, clampedOf};
+ghost use Rattle.c_values.specs.Words.{recordWords, most16, most32, wordsOf, clampedOf};
 ghost use Rattle.c_values.specs.Outcomes.{outcomeOf};
 ghost use Rattle.c_values.specs.Refusal.{stepRefusal};
 use map::Record;
@@ -13,22 +14,30 @@ use outcome::Outcome;
 
 // ---- the record
 
+// the words that a record is lent for C: its open set, then number open, chain and pair count; in specifications `recordWords`
+pub const RECORD_WORDS: usize = map::WORDS + 3;
+
+// the largest numbers of 16 and of 32 bits; in specifications `most16`, `most32`
+const MOST_16: u16 = 65535;
+
+const MOST_32: u32 = 4294967295;
+
 // A word at 16 bits: a larger one becomes the largest, which no map has as its number open or its chain.
 fn at_16_bits(x: u64) -> u16
-    ensures { λ r. ⌜ r ≡ min x 65535 ⌝ }
+    ensures { λ r. ⌜ r ≡ min x most16 ⌝ }
 {
-    if 65535 < x {
-        return 65535;
+    if (MOST_16 as u64) < x {
+        return MOST_16;
     }
     x as u16
 }
 
 // A word at 32 bits: a larger one becomes the largest, which no map has as its pair count.
 fn at_32_bits(x: u64) -> u32
-    ensures { λ r. ⌜ r ≡ min x 4294967295 ⌝ }
+    ensures { λ r. ⌜ r ≡ min x most32 ⌝ }
 {
-    if 4294967295 < x {
-        return 4294967295;
+    if (MOST_32 as u64) < x {
+        return MOST_32;
     }
     x as u32
 }
@@ -56,7 +65,7 @@ fn put_word(words: &mut [u64], i: usize, x: u64)
 
 // Puts the open set into the first four words.
 fn put_members(words: &mut [u64], members: &[u64])
-    requires { ⌜ (recordWords ≤ length (now words)) × (length (now members) ≡ 4) ⌝ }
+    requires { ⌜ (recordWords ≤ length (now words)) × (length (now members) ≡ base .words) ⌝ }
     ensures { λ r. ⌜ now (words .exit) ≡ overwrite (now (members .entry)) (now (words .entry)) ⌝ }
 {
     put_word(words, 0, members[0]);
@@ -115,16 +124,16 @@ pub fn step_refusal(
         let long = sizes (length (now (links .entry))) (length (now (pairs .entry))) hops bounds skips even odd in
         ⌜ r ≡ stepRefusal (now (words .entry)) (now (links .entry)) (now (pairs .entry)) long line out held ⌝ }
 {
-    if words.len() < 7 {
+    if words.len() < RECORD_WORDS {
         return outcome::SHORT;
     }
-    if line < 517 {
+    if line < notice::LINE_LIMIT {
         return outcome::SHORT;
     }
-    if out < 48 {
+    if out < report::BUFFER_LIMIT {
         return outcome::SHORT;
     }
-    if 517 < held {
+    if notice::LINE_LIMIT < held {
         return outcome::SHORT;
     }
     let rec = record_of(words);

@@ -225,14 +225,14 @@ fn main() {
         usage::print();
         return;
     }
-    let mut links = [0u64; 1024];
-    let mut pairs = [0u64; 1024];
-    let mut hops = [0u16; 256];
-    let mut bounds = [0u16; 256];
-    let mut skips = [0u16; 256];
-    let mut even = [0u64; 4];
-    let mut odd = [0u64; 4];
-    let mut line = [0u8; 517];
+    let mut links = [0u64; map::TABLE];
+    let mut pairs = [0u64; map::TABLE];
+    let mut hops = [0u16; map::PLACES];
+    let mut bounds = [0u16; map::PLACES];
+    let mut skips = [0u16; map::PLACES];
+    let mut even = [0u64; map::WORDS];
+    let mut odd = [0u64; map::WORDS];
+    let mut line = [0u8; notice::LINE_LIMIT];
     let mut out = [0u8; 65536];
     let mut input = [0u8; 65536];
     let progress = stream::begin(&mut links, &mut pairs);

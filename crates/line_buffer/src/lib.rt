@@ -17,12 +17,12 @@ pub struct Gathered {
 
 // ---- the line buffer
 
-// Puts a byte behind those that are held. A line's first 517 bytes decide how it reads, so that no more are kept.
+// Puts a byte behind those that are held. A line's first bytes, as many as the longest has, decide how it reads, so that no more are kept.
 fn hold(line: &mut [u8], held: usize, b: u8) -> usize
     requires { ⌜ lineLimit ≤ length (now line) ⌝ }
     ensures { λ r. ⌜ holding (now (line .exit)) r ≡ holdByte b (holding (now (line .entry)) held) ⌝ }
 {
-    if held < 517 {
+    if held < notice::LINE_LIMIT {
         line[held] = b;
         return held + 1;
     }
@@ -90,10 +90,10 @@ pub fn put_report(out: &mut [u8], at: usize, number: u32, got: Returned) -> usiz
 pub fn is_stopped(lines: u32, written: usize, room: usize) -> bool
     ensures { λ r. ⌜ r ≡ isStopped lines written room ⌝ }
 {
-    if room < 48 {
+    if room < report::BUFFER_LIMIT {
         return true;
     }
-    if room - 48 < written {
+    if room - report::BUFFER_LIMIT < written {
         return true;
     }
     1000000 <= lines

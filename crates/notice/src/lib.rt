@@ -7,6 +7,11 @@ ghost use lib.ListN.{take};
 ghost use Rattle.notice.specs.Lines.{lineLimit, isFrame, endOf, spellsFrame};
 ghost use Rattle.notice.specs.Calls.{readingOf, writingOf, lineLeft, readCall, writeCall};
 
+// the most bytes that a frame has, and a line with its ending; in specifications `frameLimit`, `lineLimit`
+pub const FRAME_LIMIT: usize = 258;
+
+pub const LINE_LIMIT: usize = 2 * FRAME_LIMIT + 1;
+
 // What the reader answers: the frame's length with the bytes used, or the number of the refusal.
 pub enum Reading {
     Frame(usize, usize),
@@ -24,7 +29,7 @@ pub enum Writing {
 pub fn read_notice(frame: &mut [u8], input: &[u8]) -> Reading
     ensures { λ r. ⌜ lineLeft (readingOf r) (now (frame .exit)) ≡ readCall (now (input .entry)) (now (frame .entry)) ⌝ }
 {
-    if frame.len() < 258 {
+    if frame.len() < FRAME_LIMIT {
         return Reading::Refused(outcome::SHORT);
     }
     let head = first_part(input);
@@ -44,7 +49,7 @@ pub fn read_notice(frame: &mut [u8], input: &[u8]) -> Reading
 pub fn write_notice(line: &mut [u8], frame: &[u8]) -> Writing
     ensures { λ r. ⌜ lineLeft (writingOf r) (now (line .exit)) ≡ writeCall (now (frame .entry)) (now (line .entry)) ⌝ }
 {
-    if line.len() < 517 {
+    if line.len() < LINE_LIMIT {
         return Writing::Refused(outcome::SHORT);
     }
     if !is_frame(frame) {
@@ -60,10 +65,10 @@ pub fn write_notice(line: &mut [u8], frame: &[u8]) -> Writing
 fn first_part(input: &[u8]) -> &[u8]
     ensures { λ r. ⌜ now r ≡ take lineLimit (now (input .entry)) ⌝ }
 {
-    if input.len() < 517 {
+    if input.len() < LINE_LIMIT {
         return &input[..];
     }
-    &input[..517]
+    &input[..LINE_LIMIT]
 }
 
 // Where the first 0A stands, the length where there is none.

@@ -8,6 +8,9 @@ ghost use Rattle.report.specs.Line.{outcomeText, field, figuresText, wri
 ghost use Rattle.report.specs.Placed.{Placed};
 use outcome::Outcome;
 
+// the bytes that a line is lent; in specifications `bufferLimit`
+pub const BUFFER_LIMIT: usize = 48;
+
 // What a line reports: its number, the outcome of its call, and the figures of the map after it.
 pub struct ReportFields {
     pub number: u32,
@@ -28,7 +31,7 @@ pub enum Written {
 pub fn write_report(line: &mut [u8], report: ReportFields) -> Written
     ensures { λ r. ⌜ reportLeft (writtenOf r) (now (line .exit)) ≡ reportCall report (now (line .entry)) ⌝ }
 {
-    if line.len() < 48 {
+    if line.len() < BUFFER_LIMIT {
         return Written::Refused(outcome::SHORT);
     }
     let outcome = report.outcome;

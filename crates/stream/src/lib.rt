@@ -36,7 +36,7 @@ pub fn begin(links: &mut [u64], pairs: &mut [u64]) -> Progress
     ensures { λ r. ⌜ streamBegun r (now (links .exit)) (now (pairs .exit)) ≡ beginCall (now (links .entry)) (now (pairs .entry)) ⌝ }
 {
     let none = Record {
-        members: [0u64; 4],
+        members: [0u64; map::WORDS],
         number: 0,
         chain: 0,
         count: 0,
@@ -82,7 +82,7 @@ fn answer_line(
         let after = lentAfter pairs hops bounds skips even odd in
         ⌜ updateLeft r (now (links .exit)) after ≡ answerTo (readLine (now (text .entry))) rec (now (links .entry)) before ⌝ }
 {
-    let mut frame = [0u8; 258];
+    let mut frame = [0u8; notice::FRAME_LIMIT];
     let got = notice::read_notice(&mut frame, text);
     match got {
         Reading::Frame(n, _) => {

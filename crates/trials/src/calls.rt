@@ -14,14 +14,14 @@ use search::Found;
 
 // What is lent: the map, which is both tables and the record, and scratch.
 pub struct Lent {
-    pub links: [u64; 1024],
-    pub pairs: [u64; 1024],
+    pub links: [u64; map::TABLE],
+    pub pairs: [u64; map::TABLE],
     pub rec: Record,
-    pub hops: [u16; 256],
-    pub bounds: [u16; 256],
-    pub skips: [u16; 256],
-    pub even: [u64; 4],
-    pub odd: [u64; 4],
+    pub hops: [u16; map::PLACES],
+    pub bounds: [u16; map::PLACES],
+    pub skips: [u16; map::PLACES],
+    pub even: [u64; map::WORDS],
+    pub odd: [u64; map::WORDS],
 }
 
 // What a call answers and leaves. The word is the number of a refusal, or the letter of an opening, or D (done); the number is that of the searches, or the
@@ -171,7 +171,7 @@ pub fn search(m: Lent, s: u8) -> Answer {
 // ---- what they left
 
 // Whether two rows are the same.
-fn same_row(a: &[u64; 4], b: &[u64; 4]) -> bool {
+fn same_row(a: &[u64; map::WORDS], b: &[u64; map::WORDS]) -> bool {
     let low = both(a[0] == b[0], a[1] == b[1]);
     both(low, both(a[2] == b[2], a[3] == b[3]))
 }
@@ -186,8 +186,8 @@ fn same_map(a: Lent, b: Lent) -> bool {
     let old_pairs = b.pairs;
     let old = b.rec;
     let old_members = old.members;
-    let linked = same_words(&links, &old_links, 1024);
-    let paired = same_words(&pairs, &old_pairs, 1024);
+    let linked = same_words(&links, &old_links, map::TABLE);
+    let paired = same_words(&pairs, &old_pairs, map::TABLE);
     let open = same_row(&members, &old_members);
     let figures = both(rec.chain == old.chain, rec.count == old.count);
     both(
@@ -260,7 +260,13 @@ fn hands_back(m: Lent, s: u8, sheet: &Sheet, row: usize, e: u16) -> bool {
 }
 
 // Whether the last layer, read off the rows of a search, is that of the plain search.
-fn is_last(even: [u64; 4], odd: [u64; 4], sheet: &Sheet, row: usize, e: u16) -> bool {
+fn is_last(
+    even: [u64; map::WORDS],
+    odd: [u64; map::WORDS],
+    sheet: &Sheet,
+    row: usize,
+    e: u16,
+) -> bool {
     plain_search::layer_is(search::last_layer(&even, &odd, e), sheet, row, e)
 }
 

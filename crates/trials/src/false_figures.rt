@@ -14,7 +14,7 @@ use crate::tally::Tally;
 use crate::tally::both;
 
 // Claims a pair of depots, the one with the lower code first, if `claimed` is odd. How many there are with it.
-fn claim(pairs: &mut [u64; 1024], claimed: usize, low: usize, high: usize) -> u32 {
+fn claim(pairs: &mut [u64; map::TABLE], claimed: usize, low: usize, high: usize) -> u32 {
     if claimed % 2 == 0 {
         return 0;
     }
@@ -26,7 +26,7 @@ fn claim(pairs: &mut [u64; 1024], claimed: usize, low: usize, high: usize) -> u3
 // and third.
 fn claim_all(m: Lent, chain: u16, claimed: usize) -> Lent {
     let mut lent = m;
-    let mut pairs = [0u64; 1024];
+    let mut pairs = [0u64; map::TABLE];
     let first = claim(&mut pairs, claimed, 0, 1) % 2;
     let second = claim(&mut pairs, claimed / 2, 2, 0) % 2;
     let third = claim(&mut pairs, claimed / 4, 2, 1) % 2;

@@ -24,10 +24,10 @@ pub struct State {
 
 // What is lent first: the empty map, and scratch of no use.
 fn empty() -> Lent {
-    let mut links = [9u64; 1024];
-    let mut pairs = [9u64; 1024];
+    let mut links = [9u64; map::TABLE];
+    let mut pairs = [9u64; map::TABLE];
     let spent = Record {
-        members: [9u64; 4],
+        members: [9u64; map::WORDS],
         number: 9,
         chain: 9,
         count: 9,
@@ -38,11 +38,11 @@ fn empty() -> Lent {
         links,
         pairs,
         rec,
-        hops: [7u16; 256],
-        bounds: [7u16; 256],
-        skips: [7u16; 256],
-        even: [7u64; 4],
-        odd: [7u64; 4],
+        hops: [7u16; map::PLACES],
+        bounds: [7u16; map::PLACES],
+        skips: [7u16; map::PLACES],
+        even: [7u64; map::WORDS],
+        odd: [7u64; map::WORDS],
     }
 }
 
@@ -174,7 +174,7 @@ fn search_each(s: State, sheet: &Sheet) -> Tally {
     rec.chain = 999;
     rec.count = 5;
     falsely.rec = rec;
-    falsely.pairs = [7u64; 1024];
+    falsely.pairs = [7u64; map::TABLE];
     let before = s.tally;
     let mut t = before.seen(is_reckoned(falsely, sheet));
     let mut v: usize = 0;

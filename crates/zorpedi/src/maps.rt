@@ -16,7 +16,7 @@ pub extern "C" fn zorpedi_empty(words: &mut [u64], links: &mut [u64], pairs: &mu
         ⌜ emptiedOut r (now (words .exit)) (now (links .exit)) (now (pairs .exit))
         ≡ emptyOut (now (words .entry)) (now (links .entry)) (now (pairs .entry)) ⌝ }
 {
-    if words.len() < 7 {
+    if words.len() < c_values::RECORD_WORDS {
         return outcome::SHORT;
     }
     let rec = c_values::record_of(&*words);
@@ -49,7 +49,7 @@ pub extern "C" fn zorpedi_search(
         ⌜ searchedOut r (now (eccentricity .exit)) after
         ≡ searchOut (now (words .entry)) (now (links .entry)) before (now (eccentricity .entry)) code ⌝ }
 {
-    if words.len() < 7 {
+    if words.len() < c_values::RECORD_WORDS {
         return outcome::SHORT;
     }
     let rec = c_values::record_of(words);
@@ -82,7 +82,7 @@ pub extern "C" fn zorpedi_reckon(
         ⌜ reckonedOut r (now (words .exit)) (now (searches .exit)) after
         ≡ reckonOut (now (words .entry)) (now (links .entry)) before (now (searches .entry)) ⌝ }
 {
-    if words.len() < 7 {
+    if words.len() < c_values::RECORD_WORDS {
         return outcome::SHORT;
     }
     let rec = c_values::record_of(&*words);
@@ -121,7 +121,7 @@ pub extern "C" fn zorpedi_open(
         ⌜ openedOut r (now (words .exit)) (now (searches .exit)) (now (links .exit)) after
         ≡ openOut (now (words .entry)) (now (links .entry)) before asked (now (searches .entry)) ⌝ }
 {
-    if words.len() < 7 {
+    if words.len() < c_values::RECORD_WORDS {
         return outcome::SHORT;
     }
     let rec = c_values::record_of(&*words);
