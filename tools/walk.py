@@ -7,7 +7,7 @@ from layout import WIDE
 
 CRATE = 'lent_opening'
 # the types: the record, what the step by value returns, and the part of it that `open` returns
-TYPES = (('Record', 'map', 'RT', 'RL'), ('Returned', 'opening', 'OT', 'OL'), ('Report', 'opening', 'VT', 'VL'))
+TYPES = (('Record', 'map', 'RT', 'RL'), ('Returned', 'update', 'OT', 'OL'), ('Report', 'update', 'VT', 'VL'))
 
 LIBRARY = '''\
 use mathlib.Core.Path.{_≡_, refl, ap}

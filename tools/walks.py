@@ -23,8 +23,8 @@ CITED = '''\
 use Rattle.graph.specs.Updates.{opens as opensDepot}
 use Rattle.map.specs.Room.{tables, lent}
 use Rattle.map.specs.Memory.{base as baseShape}
-use Rattle.opening.specs.UpdateCall.{leftOf, updateLeft, updateCall}
-use Rattle.opening.specs.Steps.{noticeOf}'''
+use Rattle.update.specs.UpdateCall.{leftOf, updateLeft, updateCall}
+use Rattle.graph.specs.Opening.{noticeOf}'''
 
 
 class Lent(Walk):

@@ -22,7 +22,7 @@ use Rattle.checks.specs.Sound.{allSet, soundLinks, soundFigures}
 use Rattle.map.specs.Bits.{soundLink, soundPair}
 use Rattle.pairs.proofs.PairCounts.{pairs-few}
 use Rattle.map.specs.Room.{Sizes, longEnough}
-use Rattle.opening.specs.Steps.{mapRefusal}
+use Rattle.update.specs.Steps.{mapRefusal}
 use Rattle.c_values.specs.Words.{recordOf, clampedOf}
 use Rattle.lent_map.specs.Faults.{lentFaults, lentRefusal}
 

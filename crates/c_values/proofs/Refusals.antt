@@ -13,7 +13,7 @@ use Rattle.map.specs.declared.Record.{Record}
 use Rattle.map.specs.Room.{Sizes}
 use Rattle.notice.specs.Lines.{lineLimit}
 use Rattle.report.specs.Line.{bufferLimit}
-use Rattle.opening.specs.Steps.{mapRefusal}
+use Rattle.update.specs.Steps.{mapRefusal}
 use Rattle.c_values.specs.Words.{recordWords, recordOf, clampedOf}
 use Rattle.c_values.specs.Refusal.{stepRefusal}
 use Rattle.c_values.proofs.Clamps.{map-clamp}

@@ -9,7 +9,7 @@ use Rattle.map.specs.Room.{Sizes}
 use Rattle.outcome.specs.Numbers.{shortBuffer}
 use Rattle.notice.specs.Lines.{lineLimit}
 use Rattle.report.specs.Line.{bufferLimit}
-use Rattle.opening.specs.Steps.{mapRefusal}
+use Rattle.update.specs.Steps.{mapRefusal}
 use Rattle.c_values.specs.Words.{recordWords, recordOf}
 
 -- the first refusal of a step: a buffer is short (more held than a line has is short too); then those of the lent map

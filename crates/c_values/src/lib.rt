@@ -137,5 +137,5 @@ pub fn step_refusal(
         return outcome::SHORT;
     }
     let rec = record_of(words);
-    opening::map_refusal(rec, links, pairs, hops, bounds, skips, even, odd)
+    update::map_refusal(rec, links, pairs, hops, bounds, skips, even, odd)
 }

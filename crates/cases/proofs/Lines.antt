@@ -19,17 +19,17 @@ use Rattle.map.specs.Memory.{base}
 use Rattle.map.specs.declared.Record.{Record}
 use Rattle.map.specs.Room.{Lent, sizesOf, longEnough}
 use Rattle.outcome.specs.Outcome as Outcome
-use Rattle.opening.specs.UpdateCall.{changeOf, updateRefusal, networkAfter, updatedBy, UpdateLeft, updateGiven, updateCall}
+use Rattle.update.specs.UpdateCall.{changeOf, updateRefusal, networkAfter, updatedBy, UpdateLeft, updateGiven, updateCall}
 use Rattle.history.specs.PlainRun.{plainRefusal}
 use Rattle.plain_list.specs.PlainList.{plainNext}
-use Rattle.opening.specs.Memory.{Memory}
+use Rattle.update.specs.Memory.{Memory}
 use Rattle.history.specs.History.{Call, lend, lentOf, callStep, memoryAfter, feedOf}
 use Rattle.history.specs.Demand3.{IsCall, AreCalls}
-use Rattle.opening.proofs.Memories.{IsHeld, Stores, memoryFor, depots-few}
-use Rattle.opening.proofs.Grants.{held-after}
+use Rattle.update.proofs.Memories.{IsHeld, Stores, memoryFor, depots-few}
+use Rattle.update.proofs.Grants.{held-after}
 use Rattle.history.proofs.Steps.{lent-says, refusal-is, one-step}
 use Rattle.history.proofs.Runs.{call-memory}
-use Rattle.opening.proofs.Keeps.{left-ends, left-stores}
+use Rattle.update.proofs.Keeps.{left-ends, left-stores}
 use Rattle.cases.specs.Results.{pairsIn, answerOf, answersOf, asksOf, AllLong}
 use Rattle.cases.proofs.Listings.{pairs-open, count-open}
 use Rattle.map.proofs.Theorems.{base-shape}

@@ -18,7 +18,7 @@ use Rattle.graph.specs.Cases.{path}
 use Rattle.graph.proofs.Walks.{append, reverse}
 use Rattle.map.specs.Memory.{base}
 use Rattle.ranks.proofs.Picking.{filter-skip}
-use Rattle.opening.proofs.Memories.{IsHeld}
+use Rattle.update.proofs.Memories.{IsHeld}
 
 -- ---- its links
 

@@ -25,7 +25,7 @@ use Rattle.rounds.specs.Leaves.{roundsLeave}
 use Rattle.reckon.specs.ReckonCall.{reckonRefusal, figuredBy, ReckonLeft, reckonGiven, reckonCall}
 use Rattle.reckon.specs.declared.Reckoning.the-variants.{Searches}
 use Rattle.lent_map.proofs.Refuses.{refused-never}
-use Rattle.opening.proofs.Memories.{IsHeld, pairs-read}
+use Rattle.update.proofs.Memories.{IsHeld, pairs-read}
 use Rattle.cases.specs.Results.{pairsIn, IsMapOf, Result, resultOf}
 use Rattle.cases.proofs.Listings.{pairs-open, count-open}
 use Rattle.cases.proofs.Paths.{path-held}

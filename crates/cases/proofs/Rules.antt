@@ -4,7 +4,7 @@ use mathlib.Core.Bool.{true}
 use Rattle.lists.specs.Lists.{allb}
 use Rattle.graph.specs.Cases.{followAll, noDepot}
 use Rattle.map.specs.Memory.{base}
-use Rattle.opening.specs.UpdateCall.{updateCall}
+use Rattle.update.specs.UpdateCall.{updateCall}
 use Rattle.cases.specs.Rules.{shrinkLines, shrinkAnswers, RuleCases}
 use Rattle.cases.proofs.Theorems.{areBytes, opened-lines}
 

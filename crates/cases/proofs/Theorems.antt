@@ -24,13 +24,13 @@ use Rattle.map.specs.declared.Emptying.the-variants.{Done}
 use Rattle.map.proofs.Theorems.{emptied-is-empty, base-shape}
 use Rattle.reckon.specs.ReckonCall.{reckonCall}
 use Rattle.outcome.specs.Outcome.{letterOf, refusalOf}
-use Rattle.opening.specs.UpdateCall.{updateCall, IsWithin}
+use Rattle.update.specs.UpdateCall.{updateCall, IsWithin}
 use Rattle.plain_list.specs.PlainList.{moved}
-use Rattle.opening.specs.Memory.{Memory, emptyMemory}
+use Rattle.update.specs.Memory.{Memory, emptyMemory}
 use Rattle.history.specs.History.{Call}
 use Rattle.history.specs.Demand3.{NamesCodes, IsCall, AreCalls}
-use Rattle.opening.proofs.Memories.{network-path, network-read}
-use Rattle.opening.proofs.Empties.{empty-held, none-diameter, none-farthest, empty-memory}
+use Rattle.update.proofs.Memories.{network-path, network-read}
+use Rattle.update.proofs.Empties.{empty-held, none-diameter, none-farthest, empty-memory}
 use Rattle.hexadecimal.specs.Hex.{isDigit, digitValue, bytesOf}
 use Rattle.notice.specs.Lines.{endOf, spellsFrame, isFrame, readHead}
 use Rattle.report.specs.Decimal.{spell, decimal}

@@ -16,8 +16,8 @@ use Rattle.map.specs.declared.Record.{Record}
 use Rattle.map.specs.Room.{Lent, sizesOf, longEnough}
 use Rattle.reckon.specs.ReckonCall.{reckoningNumber, searchesOf, ReckonLeft}
 use Rattle.outcome.specs.Outcome as Outcome
-use Rattle.opening.specs.UpdateCall.{UpdateLeft, Step}
-use Rattle.opening.specs.Memory.{Memory}
+use Rattle.update.specs.UpdateCall.{UpdateLeft, Step}
+use Rattle.update.specs.Memory.{Memory}
 use Rattle.history.specs.History.{Call, callStep, memoryAfter, feedOf}
 use Rattle.history.specs.PlainRun.{Ask}
 

@@ -7,9 +7,9 @@ use mathlib.Core.List.{List, [], _∷_}
 use Rattle.graph.specs.Updates.{opens}
 use Rattle.graph.specs.Cases.{AnswerLine}
 use Rattle.map.specs.Memory.{base}
-use Rattle.opening.specs.Memory.{emptyMemory}
+use Rattle.update.specs.Memory.{emptyMemory}
 use Rattle.history.specs.History.{Call}
-use Rattle.opening.specs.UpdateCall.{Step}
+use Rattle.update.specs.UpdateCall.{Step}
 use Rattle.cases.specs.Results.{answersOf, asksOf, AllLong}
 use Rattle.history.specs.PlainRun.{Ask}
 

@@ -15,9 +15,9 @@ use Rattle.map.specs.declared.Record.{Record}
 use Rattle.map.specs.declared.Emptying.the-variants.{Done}
 use Rattle.map.specs.Room.{Lent}
 use Rattle.reckon.specs.ReckonCall.{ReckonLeft}
-use Rattle.opening.specs.Memory.{emptyMemory}
+use Rattle.update.specs.Memory.{emptyMemory}
 use Rattle.history.specs.History.{Call}
-use Rattle.opening.specs.UpdateCall.{Step}
+use Rattle.update.specs.UpdateCall.{Step}
 use Rattle.report.specs.Line.{bufferLimit}
 use Rattle.transcript.specs.Transcript.{transcript}
 use Rattle.stream.specs.Pieces.{Standing, Turn, standsAfter, usedBy, writtenBy, lastWritten, HasBegun}

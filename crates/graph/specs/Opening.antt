@@ -18,6 +18,9 @@ pub record Notice : Type 0 where
   pub code : ℕ
   pub neighbours : List ℕ
 
+abbrev pub noticeOf : ℕ → List ℕ → Notice
+noticeOf code neighbours = record { code = code; neighbours = neighbours }
+
 unfoldable pub emptyNetwork : Network
 emptyNetwork = record { depots = []; isOpen = λ c. false; linked = λ u v. false }
 

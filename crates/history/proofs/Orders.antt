@@ -14,7 +14,7 @@ use Rattle.graph.specs.Updates.{opens, applied}
 use Rattle.map.specs.Memory.{Shape, places}
 use Rattle.history.specs.PlainRun.{Ask, Feed, plainRefusal, joining, plainRun}
 use Rattle.plain_list.specs.PlainList.{plainNext}
-use Rattle.opening.proofs.Memories.{IsHeld, network-path}
+use Rattle.update.proofs.Memories.{IsHeld, network-path}
 
 -- ---- the network with what a list asks for added, one after the other
 

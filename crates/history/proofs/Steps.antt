@@ -12,20 +12,20 @@ use Rattle.graph.specs.Chart.{diameter, farthest}
 use Rattle.graph.specs.Updates.{applied}
 use Rattle.map.specs.Memory.{Shape, IsShape, tableWords, mapNetwork}
 use Rattle.map.specs.Room.{Lent, Sizes, sizesOf, longEnough}
-use Rattle.opening.specs.UpdateCall.{updateRefusal, networkAfter, UpdateLeft, updateGiven, referencesBy}
+use Rattle.update.specs.UpdateCall.{updateRefusal, networkAfter, UpdateLeft, updateGiven, referencesBy}
 use Rattle.plain_list.specs.PlainList.{moved, plainAnswer, plainNext}
 use Rattle.history.specs.PlainRun.{plainRefusal}
-use Rattle.opening.specs.Memory.{Memory}
+use Rattle.update.specs.Memory.{Memory}
 use Rattle.history.specs.History.{lend, restore, Call, lentOf, memoryAfter, lentSize, feedOf}
-use Rattle.opening.specs.Represents.{IsMarked}
-use Rattle.opening.specs.Demand2.{mapAfter}
+use Rattle.update.specs.Represents.{IsMarked}
+use Rattle.update.specs.Demand2.{mapAfter}
 use Rattle.history.specs.Demand3.{IsCall}
 use Rattle.lists.proofs.Buffers.{overwrite-all}
 use Rattle.history.proofs.Lendings.{lent-length, lent-whole, restored-same, restored-new}
-use Rattle.opening.proofs.Memories.{IsHeld, Says, record-path, memory-path, writeMap, written-says, memoryFor, links-length, pairs-length}
-use Rattle.opening.proofs.Grants.{after-is, granted-long, held-after, figures-are-sound, refused-alike}
-use Rattle.opening.proofs.Openings.{opened-moved, opened-writes, says-true}
-use Rattle.opening.proofs.Marks.{refused-marked, opened-marked}
+use Rattle.update.proofs.Memories.{IsHeld, Says, record-path, memory-path, writeMap, written-says, memoryFor, links-length, pairs-length}
+use Rattle.update.proofs.Grants.{after-is, granted-long, held-after, figures-are-sound, refused-alike}
+use Rattle.update.proofs.Openings.{opened-moved, opened-writes, says-true}
+use Rattle.update.proofs.Marks.{refused-marked, opened-marked}
 use Rattle.map.proofs.Longs.{are-long}
 
 -- the map as a call is lent it, and as it stands when the call has left a map in the lent words

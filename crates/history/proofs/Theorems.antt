@@ -5,15 +5,15 @@ use Rattle.graph.specs.Network.{Network}
 use Rattle.graph.specs.Opening.{emptyNetwork}
 use Rattle.graph.proofs.Theorems.{diameter-is}
 use Rattle.map.specs.Memory.{Shape, IsShape, base}
-use Rattle.opening.specs.UpdateCall.{updateCall, referencesOf}
+use Rattle.update.specs.UpdateCall.{updateCall, referencesOf}
 use Rattle.history.specs.PlainRun.{plainRefusal}
 use Rattle.plain_list.specs.PlainList.{plainNext}
-use Rattle.opening.specs.Memory.{Memory}
+use Rattle.update.specs.Memory.{Memory}
 use Rattle.history.specs.History.{Call, lend, lentOf, callStep, runMemory, runAnswers, feedOf, feedsOf}
-use Rattle.opening.specs.Represents.{Represents, IsMarked}
+use Rattle.update.specs.Represents.{Represents, IsMarked}
 use Rattle.history.specs.Demand3.{IsCall, AreCalls, memoryAfterAll, plainAfterAll, searchedIn, Demand3}
-use Rattle.opening.proofs.Memories.{written-represents, memoryFor, memory-written}
-use Rattle.opening.proofs.Empties.{empty-held, empty-memory}
+use Rattle.update.proofs.Memories.{written-represents, memoryFor, memory-written}
+use Rattle.update.proofs.Empties.{empty-held, empty-memory}
 use Rattle.history.proofs.Runs.{fed-snoc, call-marked, IsRun, run}
 use Rattle.history.proofs.Orders.{order-free}
 use Rattle.map.proofs.Theorems.{base-shape}

@@ -13,11 +13,11 @@ use Rattle.graph.specs.Chart.{diameter}
 use Rattle.graph.specs.Opening.{emptyNetwork}
 use Rattle.graph.specs.Updates.{opens}
 use Rattle.map.specs.Memory.{Shape, places}
-use Rattle.opening.specs.UpdateCall.{referencesOf, IsWithin, Step}
+use Rattle.update.specs.UpdateCall.{referencesOf, IsWithin, Step}
 use Rattle.history.specs.PlainRun.{Ask, PlainRun, plainRun}
-use Rattle.opening.specs.Memory.{Memory, emptyMemory}
+use Rattle.update.specs.Memory.{Memory, emptyMemory}
 use Rattle.history.specs.History.{Call, lend, lentOf, callStep, runMemory, runAnswers, feedsOf}
-use Rattle.opening.specs.Represents.{Represents, IsMarked}
+use Rattle.update.specs.Represents.{Represents, IsMarked}
 
 -- what is asked for names codes of the map: bytes where it has 256
 abbrev pub NamesCodes : Shape → Ask → Type 0

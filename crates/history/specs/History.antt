@@ -7,9 +7,9 @@ use lib.ListN.{length, take, drop}
 use Rattle.map.specs.Room.{Tables, Lent}
 use Rattle.map.specs.Memory.{Shape, tableWords}
 use Rattle.outcome.specs.declared.Outcome.{Outcome}
-use Rattle.opening.specs.UpdateCall.{UpdateLeft, Step}
+use Rattle.update.specs.UpdateCall.{UpdateLeft, Step}
 use Rattle.history.specs.PlainRun.{Ask, Feed}
-use Rattle.opening.specs.Memory.{Memory}
+use Rattle.update.specs.Memory.{Memory}
 
 -- how a table of the map is lent: its first k words alone, or whole, with further words of the caller's behind it
 pub data Part : Type 0 where

@@ -17,14 +17,14 @@ use denote.Steps.{owned}
 use denote.Struct.Steps.{spelt}
 use denote.Struct.Laws as LL
 use Rattle.map.specs.declared.Record.{Record}
-use Rattle.opening.specs.declared.Returned.{Returned}
-use Rattle.opening.specs.declared.Report.{Report}
+use Rattle.update.specs.declared.Returned.{Returned}
+use Rattle.update.specs.declared.Report.{Report}
 use Rattle.map.proofs.Record as RT
 use Rattle.map.proofs.Record.Laws as RL
-use Rattle.opening.proofs.Returned as OT
-use Rattle.opening.proofs.Returned.Laws as OL
-use Rattle.opening.proofs.Report as VT
-use Rattle.opening.proofs.Report.Laws as VL
+use Rattle.update.proofs.Returned as OT
+use Rattle.update.proofs.Returned.Laws as OL
+use Rattle.update.proofs.Report as VT
+use Rattle.update.proofs.Report.Laws as VL
 
 -- the record's type
 abbrev pub R : RattleType

@@ -3,11 +3,11 @@ ghost use mathlib.Core.Path.{_≡_};
 ghost use Rattle.graph.specs.Updates.{opens};
 ghost use Rattle.map.specs.Memory.{base};
 ghost use Rattle.map.specs.Slices.{lentBefore, lentAfter};
-ghost use Rattle.opening.specs.UpdateCall.{leftOf, updateLeft, updateCall};
-ghost use Rattle.opening.specs.Steps.{noticeOf};
+ghost use Rattle.update.specs.UpdateCall.{leftOf, updateLeft, updateCall};
+ghost use Rattle.graph.specs.Opening.{noticeOf};
 use map::Record;
-use opening::Report;
-use opening::Returned;
+use update::Report;
+use update::Returned;
 
 // The opening of a depot on a record that is lent, and is brought up to date (rule 4.1).
 pub fn open(

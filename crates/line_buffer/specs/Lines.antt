@@ -8,7 +8,7 @@ use Rattle.lists.specs.Lists.{overwrite}
 use Rattle.notice.specs.Lines.{lineLimit, lineEnd}
 use Rattle.report.specs.Line.{bufferLimit}
 use Rattle.report.specs.declared.ReportFields.{ReportFields}
-use Rattle.opening.specs.declared.Returned.{Returned}
+use Rattle.update.specs.declared.Returned.{Returned}
 use Rattle.transcript.specs.Transcript.{linesLimit}
 use Rattle.line_buffer.specs.declared.Gathered.{Gathered}
 

@@ -5,8 +5,8 @@ ghost use lib.ListN.{length, drop};
 ghost use Rattle.notice.specs.Lines.{lineLimit};
 ghost use Rattle.report.specs.Line.{bufferLimit, reportLine};
 ghost use Rattle.line_buffer.specs.Lines.{holding, holdByte, partLeft, partFrom, reportOf, pasted, isStopped};
-use opening::Returned;
 use report::Written;
+use update::Returned;
 
 // What the line buffer took of a piece: the place behind it, the bytes held then, and whether the line ended.
 pub struct Gathered {

@@ -32,10 +32,10 @@ use Rattle.outcome.specs.declared.Outcome.{Outcome}
 use Rattle.outcome.specs.declared.Outcome.the-variants.{Accepted}
 use Rattle.admission.proofs.Theorems.{linked-after, linked-is}
 use Rattle.insertion.specs.Figured.{changeAs, Figured, figured, figuredBy, IsFigurable}
-use Rattle.opening.specs.UpdateCall.{changeOf, updateRefusal, networkAfter, updatedBy, UpdateLeft, updateGiven}
-use Rattle.opening.specs.Steps.{noticeOf}
-use Rattle.opening.proofs.Memories.{depots-few}
-use Rattle.opening.proofs.Grants.{granted-long, granted-net, granted-figures, admitted, held-after, number-after}
+use Rattle.update.specs.UpdateCall.{changeOf, updateRefusal, networkAfter, updatedBy, UpdateLeft, updateGiven}
+use Rattle.graph.specs.Opening.{noticeOf}
+use Rattle.update.proofs.Memories.{depots-few}
+use Rattle.update.proofs.Grants.{granted-long, granted-net, granted-figures, admitted, held-after, number-after}
 use Rattle.graph.proofs.Opened.{delivers-old}
 use Rattle.graph.specs.Updates.{opens, applied, steps}
 use Rattle.graph.specs.Distance.{vertices}

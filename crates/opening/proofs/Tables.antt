@@ -30,11 +30,11 @@ use Rattle.reckon.proofs.Skips.{skip-bound, closed-at, waiting-at}
 use Rattle.outcome.specs.declared.Change.{Change}
 use Rattle.outcome.specs.declared.Change.the-variants.{Grew, Kept, Shrank}
 use Rattle.outcome.specs.declared.Outcome.the-variants.{Accepted}
-use Rattle.opening.specs.UpdateCall.{changeOf, updateRefusal, networkAfter, updatedBy, updateGiven, updateCall, referencesBy, referencesOf}
+use Rattle.update.specs.UpdateCall.{changeOf, updateRefusal, networkAfter, updatedBy, updateGiven, updateCall, referencesBy, referencesOf}
 use Rattle.opening.specs.Tables.{AreTables, LeavesTables}
-use Rattle.opening.proofs.Memories.{IsHeld, open-below}
-use Rattle.opening.proofs.Grants.{granted-long, granted-net, granted-notice, granted-room, granted-chain, held-after}
-use Rattle.opening.proofs.Marks.{opened-searched, changed-shrank}
+use Rattle.update.proofs.Memories.{IsHeld, open-below}
+use Rattle.update.proofs.Grants.{granted-long, granted-net, granted-notice, granted-room, granted-chain, held-after}
+use Rattle.update.proofs.Marks.{opened-searched, changed-shrank}
 use Rattle.graph.specs.Updates.{opens, updateFaults, applied, steps}
 
 shrank-changed : (o : Opened) → o .change ≡ shrank → changeOf (o .change) ≡ Accepted Shrank

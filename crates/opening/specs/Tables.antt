@@ -22,7 +22,7 @@ use Rattle.map.specs.Room.{Lent, sizesOf}
 use Rattle.outcome.specs.declared.Change.{Change}
 use Rattle.outcome.specs.declared.Change.the-variants.{Shrank}
 use Rattle.outcome.specs.declared.Outcome.the-variants.{Accepted}
-use Rattle.opening.specs.UpdateCall.{updateRefusal, networkAfter, UpdateLeft, referencesOf, Step}
+use Rattle.update.specs.UpdateCall.{updateRefusal, networkAfter, UpdateLeft, referencesOf, Step}
 
 -- the place of v holds neither a reference nor a bound: 257 and 65,535
 abbrev pub IsBlank : Shape → UpdateLeft → ℕ → Type 0

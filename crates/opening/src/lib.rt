@@ -10,54 +10,13 @@ ghost use Rattle.graph.specs.Updates.{opens};
 ghost use Rattle.map.specs.Memory.{base};
 ghost use Rattle.map.specs.Room.{sizes};
 ghost use Rattle.map.specs.Slices.{lentBefore, lentAfter, sizesAt};
-ghost use Rattle.opening.specs.UpdateCall.{updateRefusal, updateLeft, updateGiven, updateCall};
-ghost use Rattle.opening.specs.Steps.{mapRefusal, noticeOf, refusedWith};
+ghost use Rattle.update.specs.UpdateCall.{updateRefusal, updateLeft, updateGiven, updateCall};
+ghost use Rattle.graph.specs.Opening.{noticeOf};
+ghost use Rattle.update.specs.Steps.{mapRefusal};
 use map::Record;
 use outcome::Outcome;
-
-// The report of an opening: its outcome, and the number of searches.
-pub struct Report {
-    pub outcome: Outcome,
-    pub searches: u16,
-}
-
-// What an opening leaves beside the lent tables: its report and the record.
-pub struct Returned {
-    pub report: Report,
-    pub after: Record,
-}
-
-// ---- refusals
-
-// The first refusal of the lent memory, whatever the notice; 0 for none. It only reads.
-pub fn map_refusal(
-    rec: Record,
-    links: &[u64],
-    pairs: &[u64],
-    hops: usize,
-    bounds: usize,
-    skips: usize,
-    even: usize,
-    odd: usize,
-) -> u8
-    ensures { λ r.
-        let long = sizes (length (now (links .entry))) (length (now (pairs .entry))) hops bounds skips even odd in
-        ⌜ r ≡ mapRefusal base rec (now (links .entry)) (now (pairs .entry)) long ⌝ }
-{
-    let long = map::are_long(links.len(), pairs.len(), hops, bounds, skips, even, odd);
-    lent_map::map_refusal(rec, links, pairs, long, true)
-}
-
-// What a refused opening answers.
-fn refused(rec: Record, number: u8) -> Returned
-    ensures { λ r. ⌜ r ≡ refusedWith number rec ⌝ }
-{
-    let report = Report {
-        outcome: Outcome::Refused(number),
-        searches: 0,
-    };
-    Returned { report, after: rec }
-}
+use update::Report;
+use update::Returned;
 
 // ---- the opening
 
@@ -149,7 +108,7 @@ pub fn open_sound(
     let members = rec.members;
     let refusal = admission::notice_refusal(&members, map::WORDS, code, neighbours);
     if refusal != 0 {
-        return refused(rec, refusal);
+        return update::refused(rec, refusal);
     }
     open_map(
         rec,
@@ -185,7 +144,7 @@ pub fn open_step(
         let asked = opens (noticeOf code (now (neighbours .entry))) in
         ⌜ updateLeft r (now (links .exit)) after ≡ updateCall base rec (now (links .entry)) before asked ⌝ }
 {
-    let refusal = map_refusal(
+    let refusal = update::map_refusal(
         rec,
         &*links,
         &*pairs,
@@ -196,7 +155,7 @@ pub fn open_step(
         odd.len(),
     );
     if refusal != 0 {
-        return refused(rec, refusal);
+        return update::refused(rec, refusal);
     }
     open_sound(
         rec,

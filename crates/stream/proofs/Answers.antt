@@ -19,9 +19,10 @@ use Rattle.notice.specs.declared.Reading.the-variants.{Frame, Refused as NoRead
 use Rattle.notice.proofs.Tests.{frame-parts}
 use Rattle.lists.proofs.Scans.{all-at}
 use Rattle.notice.proofs.Theorems.{read-frame}
-use Rattle.opening.specs.UpdateCall.{UpdateLeft, updateLeft, updateCall}
-use Rattle.opening.specs.Steps.{noticeOf, refusedWith}
-use Rattle.opening.specs.declared.Returned.{Returned}
+use Rattle.update.specs.UpdateCall.{UpdateLeft, updateLeft, updateCall}
+use Rattle.graph.specs.Opening.{noticeOf}
+use Rattle.update.specs.Steps.{refusedWith}
+use Rattle.update.specs.declared.Returned.{Returned}
 use Rattle.transcript.specs.Transcript.{updateIn}
 use Rattle.stream.specs.Feeding.{answerTo}
 use Rattle.graph.specs.Updates.{opens}

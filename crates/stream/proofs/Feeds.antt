@@ -18,8 +18,8 @@ use Rattle.hexadecimal.specs.Hex.{isByte}
 use Rattle.notice.proofs.Tests.{frame-parts}
 use Rattle.lists.proofs.Scans.{all-at}
 use Rattle.notice.proofs.Theorems.{read-frame}
-use Rattle.opening.specs.Steps.{mapRefusal}
-use Rattle.opening.proofs.Keeps.{map-kept}
+use Rattle.update.specs.Steps.{mapRefusal}
+use Rattle.update.proofs.Keeps.{map-kept}
 use Rattle.transcript.specs.Transcript.{updateIn}
 use Rattle.line_buffer.specs.Lines.{Holding, holding, holdByte, PartLeft, partFrom}
 use Rattle.stream.specs.Feeding.{IsReady, answerTo, Feeding, feeding, progressOf, fedOf, stopped, tookLine, heldByte, takeByte, feedBytes, feedCall}

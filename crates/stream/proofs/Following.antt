@@ -25,16 +25,16 @@ use Rattle.notice.specs.Lines.{Line, garbled, frame, readLine}
 use Rattle.notice.proofs.Tests.{frame-parts}
 use Rattle.lists.proofs.Scans.{all-at}
 use Rattle.notice.proofs.Theorems.{read-frame}
-use Rattle.opening.specs.UpdateCall.{updateRefusal, networkAfter, updatedBy, UpdateLeft, updateGiven, updateCall, IsWithin}
-use Rattle.opening.specs.Steps.{mapRefusal}
+use Rattle.update.specs.UpdateCall.{updateRefusal, networkAfter, updatedBy, UpdateLeft, updateGiven, updateCall, IsWithin}
+use Rattle.update.specs.Steps.{mapRefusal}
 use Rattle.plain_list.specs.PlainList.{moved, plainAnswer, plainNext}
-use Rattle.opening.specs.Memory.{Memory, emptyMemory}
-use Rattle.opening.proofs.Memories.{IsHeld, Says, writeMap, written-says, memoryFor, memory-written}
-use Rattle.opening.proofs.Grants.{after-is, held-after, figures-are-sound, links-pass, figures-pass, connected-pass, refused-alike}
-use Rattle.opening.proofs.Openings.{given-searches, opened-moved, opened-writes, says-true}
-use Rattle.opening.proofs.Refuses.{refused-never}
-use Rattle.opening.proofs.Keeps.{sizes-kept}
-use Rattle.opening.proofs.Empties.{empty-held, empty-memory}
+use Rattle.update.specs.Memory.{Memory, emptyMemory}
+use Rattle.update.proofs.Memories.{IsHeld, Says, writeMap, written-says, memoryFor, memory-written}
+use Rattle.update.proofs.Grants.{after-is, held-after, figures-are-sound, links-pass, figures-pass, connected-pass, refused-alike}
+use Rattle.update.proofs.Openings.{given-searches, opened-moved, opened-writes, says-true}
+use Rattle.update.proofs.Refuses.{refused-never}
+use Rattle.update.proofs.Keeps.{sizes-kept}
+use Rattle.update.proofs.Empties.{empty-held, empty-memory}
 use Rattle.transcript.specs.Transcript.{updateIn, Followed, searchesBy, followBy, followLine, reportOn}
 use Rattle.line_buffer.specs.Lines.{reportOf}
 use Rattle.stream.specs.Feeding.{answerTo}

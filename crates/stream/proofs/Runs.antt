@@ -16,7 +16,7 @@ use Rattle.map.specs.Memory.{base}
 use Rattle.map.specs.Room.{sizesOf, longEnough}
 use Rattle.notice.specs.Lines.{lineEnd, readLine}
 use Rattle.report.specs.Line.{bufferLimit, reportLine}
-use Rattle.opening.proofs.Memories.{IsHeld, Says}
+use Rattle.update.proofs.Memories.{IsHeld, Says}
 use Rattle.transcript.specs.Transcript.{linesLimit, linesOf, followLine, reportOn, reportsFrom}
 use Rattle.line_buffer.specs.Lines.{holding, pasted}
 use Rattle.stream.specs.Feeding.{Feeding, stopped, tookLine, heldByte, takeByte, feedBytes}

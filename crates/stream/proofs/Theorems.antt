@@ -13,8 +13,8 @@ use Rattle.map.specs.Memory.{base, places, tableWords}
 use Rattle.map.specs.Room.{Lent, sizesOf, longEnough}
 use Rattle.notice.specs.Lines.{lineLimit}
 use Rattle.report.specs.Line.{bufferLimit}
-use Rattle.opening.proofs.Memories.{Says}
-use Rattle.opening.proofs.Empties.{empty-held}
+use Rattle.update.proofs.Memories.{Says}
+use Rattle.update.proofs.Empties.{empty-held}
 use Rattle.transcript.specs.Transcript.{linesLimit, transcript}
 use Rattle.stream.specs.Feeding.{StreamBegun, streamBegun, beginCall, IsReady, Feeding, stopped, feedBytes}
 use Rattle.stream.specs.Pieces.{Standing, Turn, turnLeft, standsAfter, usedBy, writtenBy, lastWritten, HasBegun}

@@ -10,8 +10,8 @@ use Rattle.lists.proofs.Tests.{or-right}
 use Rattle.map.specs.Room.{Lent}
 use Rattle.notice.specs.Lines.{readLine}
 use Rattle.report.specs.Line.{reportLine}
-use Rattle.opening.specs.UpdateCall.{updateLeft}
-use Rattle.opening.specs.declared.Returned.{Returned}
+use Rattle.update.specs.UpdateCall.{updateLeft}
+use Rattle.update.specs.declared.Returned.{Returned}
 use Rattle.line_buffer.specs.Lines.{reportOf, pasted}
 use Rattle.stream.specs.Feeding.{answerTo, Feeding, feeding, progressOf, fedOf, stopped, tookLine, finishCall}
 use Rattle.stream.specs.declared.Progress.{Progress}

@@ -12,8 +12,8 @@ use Rattle.map.specs.Empty.{zeros, emptyRecord}
 use Rattle.map.specs.declared.Record.{Record}
 use Rattle.map.specs.Room.{Lent, sizesOf}
 use Rattle.outcome.specs.Numbers.{garbledLine}
-use Rattle.opening.specs.UpdateCall.{UpdateLeft, leftOf, updateCall}
-use Rattle.opening.specs.Steps.{mapRefusal, refusedWith}
+use Rattle.update.specs.UpdateCall.{UpdateLeft, leftOf, updateCall}
+use Rattle.update.specs.Steps.{mapRefusal, refusedWith}
 use Rattle.notice.specs.Lines.{lineLimit, lineEnd, Line, garbled, frame, readLine}
 use Rattle.report.specs.Line.{reportLine}
 use Rattle.transcript.specs.Transcript.{updateIn}

@@ -6,15 +6,15 @@ ghost use Rattle.map.specs.Memory.{base, tableWords};
 ghost use Rattle.map.specs.Slices.{lentAt, lentBefore, lentAfter, sizesAt};
 ghost use Rattle.notice.specs.Lines.{readLine};
 ghost use Rattle.report.specs.Line.{bufferLimit};
-ghost use Rattle.opening.specs.UpdateCall.{updateLeft};
-ghost use Rattle.opening.specs.Steps.{mapRefusal, refusedWith};
+ghost use Rattle.update.specs.UpdateCall.{updateLeft};
+ghost use Rattle.update.specs.Steps.{mapRefusal, refusedWith};
 ghost use Rattle.transcript.specs.Transcript.{linesLimit};
 ghost use Rattle.stream.specs.Feeding.{streamBegun, beginCall, answerTo, IsReady, feeding, tookLine, feedCall, finishCall};
 use map::Record;
 use notice::Reading;
-use opening::Report;
-use opening::Returned;
 use outcome::Outcome;
+use update::Report;
+use update::Returned;
 
 // How far a stream has come: the map's record, the lines answered, and the bytes that the line buffer holds of the next one.
 pub struct Progress {

@@ -28,8 +28,8 @@ use Rattle.reckon.proofs.Reckons.{granted-tests}
 use Rattle.outcome.specs.Outcome.{letterOf}
 use Rattle.outcome.specs.declared.Change.{Change}
 use Rattle.outcome.specs.declared.Outcome.the-variants.{Accepted, Refused}
-use Rattle.opening.specs.UpdateCall.{UpdateLeft, updateLeft, updateRefusal, updateGiven, updateCall}
-use Rattle.opening.specs.declared.Returned.{Returned}
+use Rattle.update.specs.UpdateCall.{UpdateLeft, updateLeft, updateRefusal, updateGiven, updateCall}
+use Rattle.update.specs.declared.Returned.{Returned}
 use Rattle.c_values.specs.Words.{recordWords, recordOf, wordsOf, clampedOf}
 use Rattle.zorpedi.specs.Outs.{EmptyOut, emptiedOut, emptyFrom, emptyOut, SearchOut, searchedOut, searchFrom, searchOut, ReckonOut, reckonedOut, reckonFrom, reckonOut, OpenOut, openedOut, openFrom, openOut}
 use Rattle.c_values.proofs.Clamps.{links-clamp, figures-clamp, number-fits, figures-fit}

@@ -9,7 +9,7 @@ use Rattle.lists.specs.Lists.{overwrite}
 use Rattle.map.specs.Room.{tables, Lent, lent, sizes, sizesOf}
 use Rattle.map.specs.Memory.{base}
 use Rattle.map.specs.declared.Record.{Record}
-use Rattle.opening.specs.Steps.{mapRefusal}
+use Rattle.update.specs.Steps.{mapRefusal}
 use Rattle.line_buffer.specs.Lines.{isStopped}
 use Rattle.stream.specs.Feeding.{Feeding, feeding, progressOf, fedOf, IsReady, tookLine, feedCall, finishCall}
 use Rattle.stream.specs.declared.Progress.{Progress}

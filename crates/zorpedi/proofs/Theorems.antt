@@ -12,7 +12,7 @@ use Rattle.rows.specs.Rows.{encodeRow}
 use Rattle.rows.proofs.Written.{encode-row-length}
 use Rattle.map.specs.Memory.{base}
 use Rattle.map.specs.Room.{Lent, sizesOf}
-use Rattle.opening.specs.UpdateCall.{changeOf, updateRefusal, networkAfter, updatedBy, UpdateLeft, updateGiven, updateCall}
+use Rattle.update.specs.UpdateCall.{changeOf, updateRefusal, networkAfter, updatedBy, UpdateLeft, updateGiven, updateCall}
 use Rattle.c_values.specs.Words.{recordWords, recordOf}
 use Rattle.c_values.proofs.Theorems.{words-read}
 use Rattle.zorpedi.specs.Outs.{OpenOut, openFrom, openOut}

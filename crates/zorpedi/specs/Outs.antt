@@ -22,7 +22,7 @@ use Rattle.outcome.specs.Numbers.{shortBuffer}
 use Rattle.outcome.specs.Outcome.{letterOf}
 use Rattle.outcome.specs.declared.Outcome.{Outcome}
 use Rattle.outcome.specs.declared.Outcome.the-variants.{Accepted, Refused}
-use Rattle.opening.specs.UpdateCall.{UpdateLeft, updateCall}
+use Rattle.update.specs.UpdateCall.{UpdateLeft, updateCall}
 use Rattle.c_values.specs.Words.{recordWords, recordOf, wordsOf}
 
 -- ---- emptying

@@ -2,7 +2,7 @@
 ghost use mathlib.Core.Path.{_≡_};
 ghost use Rattle.map.specs.Slices.{tablesBefore, tablesAfter, lentBefore, lentAfter};
 ghost use Rattle.graph.specs.Updates.{opens};
-ghost use Rattle.opening.specs.Steps.{noticeOf};
+ghost use Rattle.graph.specs.Opening.{noticeOf};
 ghost use Rattle.zorpedi.specs.Outs.{emptyOut, emptiedOut, searchOut, searchedOut, reckonOut, reckonedOut, openOut, openedOut};
 use map::Emptying;
 use outcome::Outcome;

@@ -46,19 +46,19 @@ use denote.Triple.Walked.{says, Stays, stay-ref, stay-none, stay-none-slice, gav
 use denote.Triple.Walked.{goes-gave-slice, Walks, ends-at, walked, walk-meets}
 use denote.Signature.{plain, typesAt}
 use Rattle.map.specs.declared.Record.{Record}
-use Rattle.opening.specs.declared.Returned.{Returned}
+use Rattle.update.specs.declared.Returned.{Returned}
 use Rattle.graph.specs.Updates.{opens as opensDepot}
 use Rattle.map.specs.Room.{tables, lent}
 use Rattle.map.specs.Memory.{base as baseShape}
-use Rattle.opening.specs.UpdateCall.{updateLeft, updateCall}
-use Rattle.opening.specs.Steps.{noticeOf}
+use Rattle.update.specs.UpdateCall.{updateLeft, updateCall}
+use Rattle.graph.specs.Opening.{noticeOf}
 use Rattle.lent_opening.proofs.Records.{R, vals, report-val}
 use Rattle.map.proofs.Record as RT
 use Rattle.map.proofs.Record.Laws as RL
-use Rattle.opening.proofs.Returned as OT
-use Rattle.opening.proofs.Returned.Laws as OL
-use Rattle.opening.proofs.Report as VT
-use Rattle.opening.proofs.Report.Laws as VL
+use Rattle.update.proofs.Returned as OT
+use Rattle.update.proofs.Returned.Laws as OL
+use Rattle.update.proofs.Report as VT
+use Rattle.update.proofs.Report.Laws as VL
 use Rattle.opening.proofs.open_step as callee
 use Rattle.opening.proofs.open_step.Symbol as callee-def
 use Rattle.opening.proofs.open_step.Symbol.{name as #opening·open-step}

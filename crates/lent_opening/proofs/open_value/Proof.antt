@@ -47,19 +47,19 @@ use denote.Triple.Walked.{says, Stays, stay-none, stay-none-slice, gave-slice, w
 use denote.Triple.Walked.{goes-gave-slice, Walks, ends-at, walked, walk-meets}
 use denote.Signature.{plain, typesAt}
 use Rattle.map.specs.declared.Record.{Record}
-use Rattle.opening.specs.declared.Report.{Report}
+use Rattle.update.specs.declared.Report.{Report}
 use Rattle.graph.specs.Updates.{opens as opensDepot}
 use Rattle.map.specs.Room.{tables, lent}
 use Rattle.map.specs.Memory.{base as baseShape}
-use Rattle.opening.specs.UpdateCall.{leftOf, updateCall}
-use Rattle.opening.specs.Steps.{noticeOf}
+use Rattle.update.specs.UpdateCall.{leftOf, updateCall}
+use Rattle.graph.specs.Opening.{noticeOf}
 use Rattle.lent_opening.proofs.Records.{R, rec-val, vals, report-val, opened, opened-val, lie, unlie}
 use Rattle.map.proofs.Record as RT
 use Rattle.map.proofs.Record.Laws as RL
-use Rattle.opening.proofs.Returned as OT
-use Rattle.opening.proofs.Returned.Laws as OL
-use Rattle.opening.proofs.Report as VT
-use Rattle.opening.proofs.Report.Laws as VL
+use Rattle.update.proofs.Returned as OT
+use Rattle.update.proofs.Returned.Laws as OL
+use Rattle.update.proofs.Report as VT
+use Rattle.update.proofs.Report.Laws as VL
 use Rattle.lent_opening.proofs.open as callee
 use Rattle.lent_opening.proofs.open.Symbol as callee-def
 use Rattle.lent_opening.proofs.open.Symbol.{name as #lent-opening·open}

@@ -5,7 +5,7 @@ use native.Mathlib.Omega.{arith}
 use Rattle.lists.specs.Lists.{firstOf}
 use Rattle.map.specs.Memory.{base}
 use Rattle.admission.proofs.Theorems.{faults-any-links}
-use Rattle.opening.proofs.Refuses.{refused-by-notice, refused-call, accepted-call}
+use Rattle.update.proofs.Refuses.{refused-by-notice, refused-call, accepted-call}
 use borrow.Author.Needs.{needs}
 use Rattle.opening.proofs.open_sound.Statement.{statement}
 use Rattle.opening.proofs.open_sound.Tie as tie

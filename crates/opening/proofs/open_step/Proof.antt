@@ -1,5 +1,5 @@
 -- `opening::open_step` meets its contract: a refusal of the memory comes before one of the notice. Assumes nothing.
-use Rattle.opening.proofs.Refuses.{refused-by-map, refused-call}
+use Rattle.update.proofs.Refuses.{refused-by-map, refused-call}
 use borrow.Author.Needs.{needs}
 use Rattle.opening.proofs.open_step.Statement.{statement}
 use Rattle.opening.proofs.open_step.Tie as tie

@@ -19,8 +19,8 @@ use Rattle.rounds.specs.Leaves.{roundsLeave}
 use Rattle.outcome.specs.declared.Change.the-variants.{Grew, Kept, Shrank}
 use Rattle.outcome.specs.declared.Outcome.{Outcome}
 use Rattle.outcome.specs.declared.Outcome.the-variants.{Accepted, Refused}
-use Rattle.opening.specs.declared.Report.{Report}
-use Rattle.opening.specs.declared.Returned.{Returned}
+use Rattle.update.specs.declared.Report.{Report}
+use Rattle.update.specs.declared.Returned.{Returned}
 use Rattle.lent_map.specs.Faults.{lentFaults}
 
 -- the answer's case for each way in which the chain moves

@@ -11,7 +11,7 @@ use Rattle.map.specs.declared.Record.{Record}
 use Rattle.map.specs.Room.{Lent, roundsBuffers}
 use Rattle.outcome.specs.Outcome.{refusalOf}
 use Rattle.outcome.specs.declared.Outcome.the-variants.{Refused}
-use Rattle.opening.specs.UpdateCall.{UpdateLeft, leftOf}
+use Rattle.update.specs.UpdateCall.{UpdateLeft, leftOf}
 use Rattle.lent_map.specs.Faults.{lentConditions}
 use mathlib.Core.Bool.{true}
 

@@ -1,12 +1,12 @@
--- `opening::map_refusal` meets its contract: it is what refuses the lent map.
+-- `update::map_refusal` meets its contract: it is what refuses the lent map.
 -- Assumes nothing.
 use mathlib.Core.Path.{sym, _∙_}
 use Rattle.map.specs.Memory.{base}
 use Rattle.map.proofs.Longs.{are-long}
-use Rattle.opening.proofs.Refuses.{refused-map}
+use Rattle.update.proofs.Refuses.{refused-map}
 use borrow.Author.Needs.{needs}
-use Rattle.opening.proofs.map_refusal.Statement.{statement}
-use Rattle.opening.proofs.map_refusal.Tie as tie
+use Rattle.update.proofs.map_refusal.Statement.{statement}
+use Rattle.update.proofs.map_refusal.Tie as tie
 
 map-refusal-requires : tie.Need-map-refusal-requires
 map-refusal-requires c κs =

@@ -26,12 +26,12 @@ use Rattle.map.specs.declared.Record.{Record}
 use Rattle.map.proofs.Theorems.{network-linked-below}
 use Rattle.rounds.specs.Leaves.{searchAfter, roundsLeave}
 use Rattle.map.proofs.Longs.{are-long}
-use Rattle.opening.specs.UpdateCall.{updateRefusal, networkAfter, updatedBy, updateGiven, updateCall, IsWithin}
-use Rattle.opening.specs.Steps.{mapRefusal}
-use Rattle.opening.proofs.Memories.{IsHeld, Stores, depots-few, network-read, pairs-read}
-use Rattle.opening.proofs.Grants.{granted-long, granted-figures, granted-lawful, held-after, links-pass, figures-pass, connected-pass}
-use Rattle.opening.proofs.Openings.{given-number, given-chain, given-members, given-count, given-links, given-pairs}
-use Rattle.opening.proofs.Refuses.{refused-never}
+use Rattle.update.specs.UpdateCall.{updateRefusal, networkAfter, updatedBy, updateGiven, updateCall, IsWithin}
+use Rattle.update.specs.Steps.{mapRefusal}
+use Rattle.update.proofs.Memories.{IsHeld, Stores, depots-few, network-read, pairs-read}
+use Rattle.update.proofs.Grants.{granted-long, granted-figures, granted-lawful, held-after, links-pass, figures-pass, connected-pass}
+use Rattle.update.proofs.Openings.{given-number, given-chain, given-members, given-count, given-links, given-pairs}
+use Rattle.update.proofs.Refuses.{refused-never}
 use Rattle.graph.specs.Updates.{Update}
 
 -- ---- SIZES STAY

@@ -16,9 +16,9 @@ use Rattle.map.specs.Room.{tables, Lent, lent, Sizes, sizes, sizesOf, longEnoug
 use Rattle.map.specs.Memory.{Shape, places, mapNetwork}
 use Rattle.checks.specs.Sound.{soundLinks, soundFigures}
 use Rattle.map.specs.declared.Record.{Record}
-use Rattle.opening.specs.UpdateCall.{updateRefusal, UpdateLeft, updateLeft, updateGiven, updateCall}
-use Rattle.opening.specs.Steps.{mapRefusal, refusedWith}
-use Rattle.opening.specs.declared.Returned.{Returned}
+use Rattle.update.specs.UpdateCall.{updateRefusal, UpdateLeft, updateLeft, updateGiven, updateCall}
+use Rattle.update.specs.Steps.{mapRefusal, refusedWith}
+use Rattle.update.specs.declared.Returned.{Returned}
 use Rattle.lent_map.specs.Faults.{lentFaults, lentRefusal}
 
 module _ (K : Shape) (rec : Record) (links pairs : List ℕ) (z : Sizes) where

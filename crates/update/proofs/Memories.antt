@@ -23,8 +23,8 @@ use Rattle.graph.proofs.Distances.{vertices-in}
 use Rattle.graph.proofs.Theorems.{diameter-is, farthest-is}
 use Rattle.map.specs.Memory.{Shape, places, tableWords, networkOf, mapNetwork}
 use Rattle.map.specs.declared.Record.{Record}
-use Rattle.opening.specs.Memory.{Memory}
-use Rattle.opening.specs.Represents.{Represents}
+use Rattle.update.specs.Memory.{Memory}
+use Rattle.update.specs.Represents.{Represents}
 use Rattle.lists.proofs.Buffers.{overwrite-all}
 use Rattle.graph.proofs.Delivers.{delivers-open}
 

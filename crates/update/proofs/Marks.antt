@@ -26,11 +26,11 @@ use Rattle.map.specs.declared.Record.{Record}
 use Rattle.map.specs.Room.{Lent, sizesOf}
 use Rattle.outcome.specs.declared.Change.the-variants.{Shrank}
 use Rattle.outcome.specs.declared.Outcome.the-variants.{Accepted, Refused}
-use Rattle.opening.specs.UpdateCall.{changeOf, updateRefusal, networkAfter, updatedBy, updateGiven, referencesBy, IsWithin}
-use Rattle.opening.specs.Represents.{IsMarked}
-use Rattle.opening.proofs.Memories.{IsHeld, open-below}
-use Rattle.opening.proofs.Grants.{granted-lawful, granted-chain, held-after}
-use Rattle.opening.proofs.Openings.{given-outcome, given-searches, given-number, given-chain, given-skips, given-references}
+use Rattle.update.specs.UpdateCall.{changeOf, updateRefusal, networkAfter, updatedBy, updateGiven, referencesBy, IsWithin}
+use Rattle.update.specs.Represents.{IsMarked}
+use Rattle.update.proofs.Memories.{IsHeld, open-below}
+use Rattle.update.proofs.Grants.{granted-lawful, granted-chain, held-after}
+use Rattle.update.proofs.Openings.{given-outcome, given-searches, given-number, given-chain, given-skips, given-references}
 use Rattle.graph.specs.Updates.{Update}
 
 -- ---- the skip table's number at a place tells the searched depots

@@ -23,8 +23,8 @@ use Rattle.map.specs.Memory.{Shape, IsShape, places}
 use Rattle.map.specs.Empty.{zeros, emptyRecord}
 use Rattle.map.proofs.Empties.{none-zeros}
 use Rattle.rounds.proofs.Finish.{count-no-pairs}
-use Rattle.opening.specs.Memory.{emptyMemory}
-use Rattle.opening.proofs.Memories.{IsHeld, record-path, memory-path, memoryFor, number-is}
+use Rattle.update.specs.Memory.{emptyMemory}
+use Rattle.update.proofs.Memories.{IsHeld, record-path, memory-path, memoryFor, number-is}
 use Rattle.graph.proofs.Delivers.{delivers-open}
 
 -- a table without a bit is zeros

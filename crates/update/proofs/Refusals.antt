@@ -12,8 +12,8 @@ use Rattle.map.proofs.Theorems.{network-listed}
 use Rattle.map.specs.Room.{roundsBuffers}
 use Rattle.map.proofs.Longs.{long-is}
 use Rattle.outcome.specs.Outcome.{refusalOf}
-use Rattle.opening.specs.UpdateCall.{changeOf, updatedBy, updateRefusal, updateGiven, updateCall}
-use Rattle.opening.specs.Refusals.{updateConditions, UpdateDemand1}
+use Rattle.update.specs.UpdateCall.{changeOf, updatedBy, updateRefusal, updateGiven, updateCall}
+use Rattle.update.specs.Refusals.{updateConditions, UpdateDemand1}
 use Rattle.lent_map.proofs.Refuses.{lent-tells}
 use Rattle.map.specs.Room.{sizesOf, longEnough}
 

@@ -20,11 +20,11 @@ use Rattle.map.specs.Memory.{Shape, IsShape, places, mapNetwork}
 use Rattle.map.specs.declared.Record.{Record}
 use Rattle.map.specs.Room.{Lent, sizesOf}
 use Rattle.rounds.specs.Leaves.{roundsLeave}
-use Rattle.opening.specs.UpdateCall.{changeOf, updateRefusal, networkAfter, updatedBy, updateGiven, referencesBy, IsWithin}
+use Rattle.update.specs.UpdateCall.{changeOf, updateRefusal, networkAfter, updatedBy, updateGiven, referencesBy, IsWithin}
 use Rattle.plain_list.specs.PlainList.{moved}
-use Rattle.opening.specs.Demand2.{mapAfter}
-use Rattle.opening.proofs.Memories.{IsHeld, Says, record-path, memory-path, writeMap}
-use Rattle.opening.proofs.Grants.{granted-lawful, held-after}
+use Rattle.update.specs.Demand2.{mapAfter}
+use Rattle.update.proofs.Memories.{IsHeld, Says, record-path, memory-path, writeMap}
+use Rattle.update.proofs.Grants.{granted-lawful, held-after}
 use Rattle.graph.specs.Updates.{Update}
 use Rattle.graph.specs.Distance.{vertices}
 

@@ -10,9 +10,9 @@ use Rattle.rows.specs.Rows.{tableBit}
 use Rattle.map.specs.Memory.{Shape, mapNetwork}
 use Rattle.map.specs.declared.Record.{Record}
 use Rattle.map.specs.Room.{Lent, sizesOf}
-use Rattle.opening.specs.UpdateCall.{updateRefusal, networkAfter, referencesOf, UpdateLeft, IsWithin, Step}
-use Rattle.opening.specs.Memory.{Memory}
-use Rattle.opening.specs.Represents.{Represents, IsMarked}
+use Rattle.update.specs.UpdateCall.{updateRefusal, networkAfter, referencesOf, UpdateLeft, IsWithin, Step}
+use Rattle.update.specs.Memory.{Memory}
+use Rattle.update.specs.Represents.{Represents, IsMarked}
 
 -- the map among what a call leaves
 abbrev pub mapAfter : UpdateLeft → Memory

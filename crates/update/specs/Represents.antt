@@ -17,8 +17,8 @@ use Rattle.map.specs.Memory.{Shape, places}
 use Rattle.outcome.specs.declared.Change.{Change}
 use Rattle.outcome.specs.declared.Change.the-variants.{Shrank}
 use Rattle.outcome.specs.declared.Outcome.the-variants.{Accepted, Refused}
-use Rattle.opening.specs.UpdateCall.{UpdateLeft}
-use Rattle.opening.specs.Memory.{Memory}
+use Rattle.update.specs.UpdateCall.{UpdateLeft}
+use Rattle.update.specs.Memory.{Memory}
 
 -- the map M is that of the network G (rule 9.5)
 pub record Represents (K : Shape) (M : Memory) (G : Network) : Type 0 where

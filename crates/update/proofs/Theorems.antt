@@ -7,14 +7,14 @@ use Rattle.graph.specs.Network.{AreTrue, delivers}
 use Rattle.map.specs.Memory.{Shape, IsShape, base, mapNetwork}
 use Rattle.map.specs.declared.Record.{Record}
 use Rattle.map.specs.Room.{Lent, sizesOf}
-use Rattle.opening.specs.UpdateCall.{updateRefusal, networkAfter, updateGiven, updateCall, referencesBy, referencesOf, IsWithin}
-use Rattle.opening.specs.Memory.{Memory}
-use Rattle.opening.specs.Represents.{Represents, IsMarked}
-use Rattle.opening.specs.Demand2.{mapAfter, UpdateDemand2}
-use Rattle.opening.proofs.Memories.{written-represents}
-use Rattle.opening.proofs.Grants.{held-after}
-use Rattle.opening.proofs.Openings.{opened-writes}
-use Rattle.opening.proofs.Marks.{opened-marked}
+use Rattle.update.specs.UpdateCall.{updateRefusal, networkAfter, updateGiven, updateCall, referencesBy, referencesOf, IsWithin}
+use Rattle.update.specs.Memory.{Memory}
+use Rattle.update.specs.Represents.{Represents, IsMarked}
+use Rattle.update.specs.Demand2.{mapAfter, UpdateDemand2}
+use Rattle.update.proofs.Memories.{written-represents}
+use Rattle.update.proofs.Grants.{held-after}
+use Rattle.update.proofs.Openings.{opened-writes}
+use Rattle.update.proofs.Marks.{opened-marked}
 use Rattle.map.proofs.Theorems.{base-shape}
 use Rattle.graph.specs.Updates.{Update}
 

@@ -29,8 +29,8 @@ use Rattle.map.specs.declared.Record.{Record}
 use Rattle.map.proofs.Theorems.{network-most}
 use Rattle.checks.proofs.Theorems.{sound-links-iff, sound-figures-iff}
 use Rattle.map.specs.Room.{Sizes, longEnough}
-use Rattle.opening.specs.UpdateCall.{updateRefusal, networkAfter, IsWithin}
-use Rattle.opening.proofs.Memories.{IsHeld, Stores, number-is, depots-few}
+use Rattle.update.specs.UpdateCall.{updateRefusal, networkAfter, IsWithin}
+use Rattle.update.proofs.Memories.{IsHeld, Stores, number-is, depots-few}
 use Rattle.graph.proofs.Delivers.{delivers-open}
 use Rattle.graph.specs.Updates.{Update, opens, updateFaults, applied, IsLawful}
 use Rattle.graph.proofs.Updates.{update-lawful}
