@@ -6,20 +6,23 @@ use mathlib.Core.List.{List, [], _∷_, List·Memᴰ·head, List·Memᴰ·tail}
 use Prim.Native.Nat.{ℕ, zero, suc, _<_}
 use native.Mathlib.Omega.{arith}
 use lib.ListN.{length}
+use Rattle.outcome.specs.declared.Outcome.the-variants.{Accepted}
 use Rattle.lists.specs.Lists.{range, filterb, firstOf}
 use Rattle.lists.proofs.Tests.{t→true, true→t}
 use Rattle.graph.specs.Network.{Network}
 use Rattle.graph.specs.Distance.{vertices, unreached}
 use Rattle.graph.specs.Chart.{chart, Pairs, diameter, farthest, countPairs}
-use Rattle.graph.specs.Opening.{Change, grew, kept, shrank, Opened}
+use Rattle.graph.specs.Opening.{Opened}
+use Rattle.outcome.specs.declared.Change.{Change}
+use Rattle.outcome.specs.declared.Change.the-variants.{Grew, Kept, Shrank}
 use Rattle.graph.specs.Updates.{Update, updateFaults, applied, steps}
-use Rattle.graph.specs.Cases.{pairList, AnswerLine, caseLetter, PlainMap, lineFor, followOne, followAll}
+use Rattle.graph.specs.Cases.{pairList, AnswerLine, PlainMap, lineFor, followOne, followAll}
 use Rattle.graph.proofs.Theorems.{figures-are, true-chain, true-pairs, farthest-is}
 use Rattle.map.specs.Memory.{base}
 use Rattle.map.specs.declared.Record.{Record}
 use Rattle.map.specs.Room.{Lent, sizesOf, longEnough}
 use Rattle.outcome.specs.Outcome as Outcome
-use Rattle.update.specs.UpdateCall.{changeOf, updateRefusal, networkAfter, updatedBy, UpdateLeft, updateGiven, updateCall}
+use Rattle.update.specs.UpdateCall.{updateRefusal, networkAfter, updatedBy, UpdateLeft, updateGiven, updateCall}
 use Rattle.history.specs.PlainRun.{plainRefusal}
 use Rattle.plain_list.specs.PlainList.{plainNext}
 use Rattle.update.specs.Memory.{Memory}
@@ -52,7 +55,7 @@ abbrev figuredBy : Network → Opened → PlainMap
 figuredBy N x = record { net = N; chain = x .final .candidate; pairs = x .final .pairs }
 
 abbrev lineBy : Network → Opened → AnswerLine
-lineBy N x = lineFor (caseLetter (x .change)) 0 (length (x .final .references)) (figuredBy N x)
+lineBy N x = lineFor (Outcome.letterOf (Accepted (x .change))) 0 (length (x .final .references)) (figuredBy N x)
 
 accepted-is : (M : PlainMap) (o : Update)
     → followOne zero M o ≡ (
@@ -95,18 +98,9 @@ line-read N D P depots ends l s =
     listed : pairList (range 256) P ≡ pairList (vertices N) P
     listed = sym (pairs-open P (N .isOpen) ends (range 256)) ∙ ap (λ (vs : List ℕ). pairList vs P) (sym depots)
 
--- the letters of specs and graph are one
-letter-same : (c : Change) → Outcome.letterOf (changeOf c) ≡ caseLetter c
-unfolding Outcome.letterOf changeOf caseLetter
-letter-same grew = refl
-letter-same kept = refl
-letter-same shrank = refl
-
-accepted-none : (c : Change) → Outcome.refusalOf (changeOf c) ≡ 0
-unfolding Outcome.refusalOf changeOf
-accepted-none grew = refl
-accepted-none kept = refl
-accepted-none shrank = refl
+accepted-none : (c : Change) → Outcome.refusalOf (Accepted c) ≡ 0
+unfolding Outcome.refusalOf
+accepted-none c = refl
 
 -- an opening on memory that stores a network with figures is the network's
 opened-is : (G : Network) (D : ℕ) (P : Pairs) (rec : Record) (links stored : List ℕ) (o : Update) → Stores base G D P rec links stored
@@ -159,7 +153,7 @@ module _ (G : Network) (held : IsHeld base G) (c : Call) (call : IsCall base c) 
 
     given-line : lineFor (Outcome.letterOf (l .report .outcome)) (Outcome.refusalOf (l .report .outcome)) (l .report .searches) (figuredBy H x) ≡ lineBy H x
     unfolding updateGiven
-    given-line = rw (letter-same (x .change), accepted-none (x .change))
+    given-line = rw (accepted-none (x .change))
 
     accepted-line : answerOf (updateGiven zero base R L B o) ≡ followOne zero (figuredFor G) o .1
     accepted-line =

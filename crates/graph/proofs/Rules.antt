@@ -15,7 +15,8 @@ use Rattle.lists.proofs.Distinct.{memb-range, distinct-range, count-either}
 use Rattle.graph.specs.Network.{Network, IsSound}
 use Rattle.graph.specs.Distance.{vertices}
 use Rattle.graph.specs.Chart.{Chart, chart, ecc, Pairs}
-use Rattle.graph.specs.Opening.{shrank, via, stayingPairs, anyPair, shrunkCandidate, openCase, opening}
+use Rattle.graph.specs.Opening.{via, stayingPairs, anyPair, shrunkCandidate, openCase, opening}
+use Rattle.outcome.specs.declared.Change.the-variants.{Shrank}
 
 -- rule 1.7: the degree is that of the whole row, with all neighbours, those that were searched or skipped included
 -- (n is a number above every open depot)
@@ -39,27 +40,27 @@ any-out p xs e x m = go (look (p x))
     go (inr f) = f
 
 module _ (C : Chart) (a D : ℕ) (P : Pairs) where
-  none-stays : opening C a D P .change ≡ shrank → anyPair (C .depots) (stayingPairs (via C a) D P) ≡ false
+  none-stays : opening C a D P .change ≡ Shrank → anyPair (C .depots) (stayingPairs (via C a) D P) ≡ false
   unfolding opening openCase
   none-stays = go (ltb D (ecc C a)) (eqb (ecc C a) D) (anyPair (C .depots) (stayingPairs (via C a) D P))
     where
       never : {A : Type 0} → _≡_ {A = ℕ} 0 1 → A
       never z = absurd (lt-irrefl 0 (omega arith))
 
-      go : (b s k : Bool) → openCase b s k C a D P .change ≡ shrank → k ≡ false
+      go : (b s k : Bool) → openCase b s k C a D P .change ≡ Shrank → k ≡ false
       go true s k q = never (cc)
       go false true k q = never (cc)
       go false false true q = never (cc)
       go false false false q = refl
 
-  dropped : opening C a D P .change ≡ shrank → (u v : ℕ) → List·Memᴰ u (C .depots) → List·Memᴰ v (C .depots) → P u v ≡ true → via C a u v < D
+  dropped : opening C a D P .change ≡ Shrank → (u v : ℕ) → List·Memᴰ u (C .depots) → List·Memᴰ v (C .depots) → P u v ≡ true → via C a u v < D
   unfolding anyPair stayingPairs
   dropped q u v mu mv h =
       let z = any-out (λ v. stayingPairs (via C a) D P u v) (C .depots) (any-out (λ u. anyb (λ v. stayingPairs (via C a) D P u v) (C .depots)) (C .depots) (none-stays q) u mu) v mv in
       ltb-true (via C a u v) D (not-false (ltb (via C a u v) D) (rw h at z))
 
   -- rule 4.4: in a shrink every stored pair's way through a is below D, so that it is the lesser of the two
-  pub smaller-idle : opening C a D P .change ≡ shrank → shrunkCandidate (C .depots) (via C a) D P ≡ maxOf (λ u. maxOf (λ v. cond (P u v) (via C a u v) 0) (C .depots)) (C .depots)
+  pub smaller-idle : opening C a D P .change ≡ Shrank → shrunkCandidate (C .depots) (via C a) D P ≡ maxOf (λ u. maxOf (λ v. cond (P u v) (via C a u v) 0) (C .depots)) (C .depots)
   unfolding shrunkCandidate
   smaller-idle q = max-ext _ _ (C .depots) (λ u mu. max-ext _ _ (C .depots) (λ v mv. go u v (P u v) (dropped q u v mu mv)))
     where

@@ -14,7 +14,8 @@ use Rattle.lists.proofs.Distinct.{IsCounted, counted-nil, counted-snoc}
 use Rattle.graph.specs.Distance.{unreached}
 use Rattle.graph.specs.Chart.{Chart, ecc, Pairs, ownPairs}
 use Rattle.graph.specs.Rounds.{Status, waiting, skipped, searched, isWaiting, State, round, rounds, start, reckon}
-use Rattle.graph.specs.Opening.{shrank, via, stayingPairs, anyPair, shrunkCandidate, searchedOnce, openCase, opening}
+use Rattle.graph.specs.Opening.{via, stayingPairs, anyPair, shrunkCandidate, searchedOnce, openCase, opening}
+use Rattle.outcome.specs.declared.Change.the-variants.{Shrank}
 use Rattle.graph.proofs.Metric.{IsMetric, ecc-small}
 use Rattle.graph.proofs.Round.{Fine, Invariant, round-keeps}
 use Rattle.graph.proofs.Rounds.{waitingCount, rounds-right, final-cover, start-fine}
@@ -132,19 +133,19 @@ module _ (C : Chart) (metric : IsMetric C) where
         go false false false = settled-references shrunk (shrunk-settled .0)
 
     -- after a shrink the rounds have ended
-    pub opening-settled : opening C a D P .change ≡ shrank → Invariant C metric unreached (opening C a D P .final) × (waitingCount C metric (opening C a D P .final) ≡ 0)
+    pub opening-settled : opening C a D P .change ≡ Shrank → Invariant C metric unreached (opening C a D P .final) × (waitingCount C metric (opening C a D P .final) ≡ 0)
     unfolding opening openCase shrunk
     opening-settled = go (ltb D (ecc C a)) (eqb (ecc C a) D) (anyPair (C .depots) (stayingPairs (via C a) D P))
       where
         never : {A : Type 0} → _≡_ {A = ℕ} 0 1 → A
         never z = absurd (lt-irrefl 0 (omega arith))
 
-        go : (b s k : Bool) → openCase b s k C a D P .change ≡ shrank
+        go : (b s k : Bool) → openCase b s k C a D P .change ≡ Shrank
             → Invariant C metric unreached (openCase b s k C a D P .final) × (waitingCount C metric (openCase b s k C a D P .final) ≡ 0)
         go true s k q = never (cc)
         go false true k q = never (cc)
         go false false true q = never (cc)
         go false false false q = shrunk-settled
 
-    pub opening-cover : opening C a D P .change ≡ shrank → CoveredIn C (opening C a D P .final)
+    pub opening-cover : opening C a D P .change ≡ Shrank → CoveredIn C (opening C a D P .final)
     opening-cover q = let s = opening-settled q in settled-cover (opening C a D P .final) (s .0) (s .1)

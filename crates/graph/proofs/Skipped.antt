@@ -16,7 +16,8 @@ use Rattle.graph.specs.Network.{Network}
 use Rattle.graph.specs.Distance.{vertices, unreached}
 use Rattle.graph.specs.Chart.{Chart, chart, ecc, Pairs, ownPairs}
 use Rattle.graph.specs.Rounds.{Status, waiting, skipped, searched, isWaiting, State, round, pick, remaining, orStop, rounds, start, reckon}
-use Rattle.graph.specs.Opening.{Notice, byCode, withDepot, openFaults, shrank, stayingPairs, anyPair, shrunkCandidate, searchedOnce, openCase, opening, via}
+use Rattle.graph.specs.Opening.{Notice, byCode, withDepot, openFaults, stayingPairs, anyPair, shrunkCandidate, searchedOnce, openCase, opening, via}
+use Rattle.outcome.specs.declared.Change.the-variants.{Shrank}
 use Rattle.graph.specs.Correct.{IsNet, IsSkipped, AllSkipped, IsOneSearch, IsSettled}
 use Rattle.graph.proofs.Round.{Fine, Invariant}
 use Rattle.graph.proofs.Rounds.{waitingCount}
@@ -88,11 +89,11 @@ module _ (C : Chart) where
     unfolding searchedOnce
     once c Q = record { only = refl; others = λ v n. rw (ne-eqb v a n) tt }
 
-    opening-once : (opening C a D P .change ≡ shrank → ⊥) → IsOneSearch a (opening C a D P .final)
+    opening-once : (opening C a D P .change ≡ Shrank → ⊥) → IsOneSearch a (opening C a D P .final)
     unfolding opening openCase
     opening-once = go (ltb D (ecc C a)) (eqb (ecc C a) D) (anyPair (C .depots) (stayingPairs (via C a) D P))
       where
-        go : (b s k : Bool) → (openCase b s k C a D P .change ≡ shrank → ⊥) → IsOneSearch a (openCase b s k C a D P .final)
+        go : (b s k : Bool) → (openCase b s k C a D P .change ≡ Shrank → ⊥) → IsOneSearch a (openCase b s k C a D P .final)
         go true s k n = once (ecc C a) (ownPairs C a (ecc C a))
         go false true k n = once D (λ u v. stayingPairs (via C a) D P u v || ownPairs C a D u v)
         go false false true n = once D (stayingPairs (via C a) D P)

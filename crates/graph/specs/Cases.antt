@@ -7,11 +7,13 @@ use Prim.Native.Nat.{ℕ, zero, suc}
 use lib.Dec.{eqb, ltb}
 use lib.ListN.{length, getD}
 use Rattle.lists.specs.Lists.{range, mapl, firstOf}
+use Rattle.outcome.specs.Outcome.{letterOf}
+use Rattle.outcome.specs.declared.Outcome.the-variants.{Accepted}
 use Rattle.graph.specs.Network.{Network}
 use Rattle.graph.specs.Distance.{vertices}
 use Rattle.graph.specs.Chart.{chart, Pairs, countPairs}
 use Rattle.graph.specs.Rounds.{markOf, boundOf, reckon}
-use Rattle.graph.specs.Opening.{emptyNetwork, addDepot, Change, grew, kept, shrank}
+use Rattle.graph.specs.Opening.{emptyNetwork, addDepot}
 use Rattle.graph.specs.Updates.{Update, opens, updateFaults, applied, steps}
 
 -- the depot u with each of the depots that P pairs it with
@@ -84,11 +86,6 @@ pub record AnswerLine : Type 0 where
   pub searches : ℕ
   pub pairs : List (ℕ × ℕ)
 
-unfoldable pub caseLetter : Change → ℕ
-caseLetter grew = 71
-caseLetter kept = 75
-caseLetter shrank = 83
-
 -- a map without words: the network with its figures
 pub record PlainMap : Type 0 where
   pub net : Network
@@ -103,12 +100,12 @@ lineFor l k s M =
 
 -- the map after an update, with its line; k is its refusal, 0 if it is accepted
 unfoldable pub followOne : ℕ → PlainMap → Update → PlainMap × AnswerLine
-unfolding applied chart steps lineFor caseLetter
+unfolding applied chart steps lineFor letterOf
 followOne zero M o =
     let H = applied (M .net) o in
     let x = steps (chart H) o (M .chain) (M .pairs) in
     let N : PlainMap = record { net = H; chain = x .final .candidate; pairs = x .final .pairs } in
-    (N, lineFor (caseLetter (x .change)) 0 (length (x .final .references)) N)
+    (N, lineFor (letterOf (Accepted (x .change))) 0 (length (x .final .references)) N)
 followOne (suc k) M o = (M, lineFor 82 (suc k) 0 M)
 
 unfoldable pub followAll : PlainMap → List Update → List AnswerLine

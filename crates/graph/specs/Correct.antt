@@ -13,7 +13,9 @@ use Rattle.graph.specs.Network.{Network, IsSound, IsConnected, IsDist, d
 use Rattle.graph.specs.Distance.{vertices, unreached}
 use Rattle.graph.specs.Chart.{Pairs}
 use Rattle.graph.specs.Rounds.{Status, waiting, skipped, searched, isWaiting, State}
-use Rattle.graph.specs.Opening.{Change, grew, kept, shrank, Opened}
+use Rattle.graph.specs.Opening.{Opened}
+use Rattle.outcome.specs.declared.Change.{Change}
+use Rattle.outcome.specs.declared.Change.the-variants.{Grew, Kept, Shrank}
 
 -- A network that a map can hold. It has so few depots that every distance is below the mark of a closed code.
 pub record IsNet (G : Network) : Type 0 where
@@ -77,20 +79,20 @@ pub record IsReckoned (G : Network) (S : State) : Type 0 where
 
 -- how the letter says that the chain moved from D to E
 abbrev pub Moved : Change → ℕ → ℕ → Type 0
-Moved grew D E = D < E
-Moved kept D E = D ≡ E
-Moved shrank D E = E < D
+Moved Grew D E = D < E
+Moved Kept D E = D ≡ E
+Moved Shrank D E = E < D
 
 -- an update, H being the network after it: its references, and the cover after a shrink (whatever figures were stored)
 pub record IsSearched (H : Network) (o : Opened) : Type 0 where
   pub references : AreReferences H (o .final)
-  pub cover : o .change ≡ shrank → AllCovered H (o .final)
+  pub cover : o .change ≡ Shrank → AllCovered H (o .final)
 
 -- what an opening of a says of each depot, whatever figures were stored: the search from a is the first, and the only one unless the chain shrank
 pub record IsSettled (H : Network) (a : ℕ) (o : Opened) : Type 0 where
   pub first : (rs : List ℕ) × (o .final .references ≡ a ∷ rs)
-  pub once : (o .change ≡ shrank → ⊥) → IsOneSearch a (o .final)
-  pub skipped : o .change ≡ shrank → AllSkipped H (o .final)
+  pub once : (o .change ≡ Shrank → ⊥) → IsOneSearch a (o .final)
+  pub skipped : o .change ≡ Shrank → AllSkipped H (o .final)
 
 -- an update of a map whose chain D was true
 pub record IsOpened (H : Network) (D : ℕ) (o : Opened) : Type 0 where

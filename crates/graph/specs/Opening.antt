@@ -7,6 +7,8 @@ use lib.Dec.{eqb, ltb}
 use lib.ListN.{length}
 use Rattle.lists.specs.Lists.{anyb, allb, maxOf, memb, insertBy}
 use Rattle.outcome.specs.Numbers.{takenCode, lonelyDepot, unsortedNeighbours, unknownNeighbour}
+use Rattle.outcome.specs.declared.Change.{Change}
+use Rattle.outcome.specs.declared.Change.the-variants.{Grew, Kept, Shrank}
 use Rattle.graph.specs.Network.{Network}
 use Rattle.graph.specs.Distance.{vertices, unreached}
 use Rattle.graph.specs.Chart.{Chart, ecc, Pairs, ownPairs}
@@ -68,10 +70,6 @@ openFaults G o = noticeFaults (G .isOpen) (length (vertices G)) o
 
 -- ---- what an accepted opening does
 
--- how the chain moved
-pub data Change : Type 0 where
-  grew kept shrank : Change
-
 -- what an opening leaves: how the chain moved, and the rounds' state (chain, pairs, marks, references)
 pub record Opened : Type 0 where
   pub change : Change
@@ -107,10 +105,10 @@ searchedOnce C a c Q = record {
 -- by the three tests of rules 4.2 and 4.3: e(a) > D; e(a) = D; a stored pair stays
 unfoldable pub openCase : Bool → Bool → Bool → Chart → ℕ → ℕ → Pairs → Opened
 unfolding ecc ownPairs via stayingPairs shrunkCandidate searchedOnce round rounds start
-openCase true same stays C a D P = record { change = grew; final = searchedOnce C a (ecc C a) (ownPairs C a (ecc C a)) }
-openCase false true stays C a D P = record { change = kept; final = searchedOnce C a D (λ u v. stayingPairs (via C a) D P u v || ownPairs C a D u v) }
-openCase false false true C a D P = record { change = kept; final = searchedOnce C a D (stayingPairs (via C a) D P) }
-openCase false false false C a D P = record { change = shrank; final = rounds C (length (C .depots)) (round C a (start (shrunkCandidate (C .depots) (via C a) D P))) }
+openCase true same stays C a D P = record { change = Grew; final = searchedOnce C a (ecc C a) (ownPairs C a (ecc C a)) }
+openCase false true stays C a D P = record { change = Kept; final = searchedOnce C a D (λ u v. stayingPairs (via C a) D P u v || ownPairs C a D u v) }
+openCase false false true C a D P = record { change = Kept; final = searchedOnce C a D (stayingPairs (via C a) D P) }
+openCase false false false C a D P = record { change = Shrank; final = rounds C (length (C .depots)) (round C a (start (shrunkCandidate (C .depots) (via C a) D P))) }
 
 -- Opening a: C is the chart with a in place, D and P the chain and the pairs that were stored.
 unfoldable pub opening : Chart → ℕ → ℕ → Pairs → Opened

@@ -6,12 +6,14 @@ use mathlib.Core.List.{List, [], _∷_}
 use Prim.Native.Nat.{ℕ}
 use lib.Dec.{eqb}
 use Rattle.lists.specs.Lists.{anyb, memb, mapl}
+use Rattle.outcome.specs.Outcome.{letterOf}
+use Rattle.outcome.specs.declared.Outcome.the-variants.{Accepted}
 use Rattle.graph.specs.Network.{Network}
 use Rattle.graph.specs.Distance.{vertices}
 use Rattle.graph.specs.Chart.{chart, Pairs}
 use Rattle.graph.specs.Rounds.{State, markOf, boundOf}
 use Rattle.graph.specs.Opening.{withDepot, opening}
-use Rattle.graph.specs.Cases.{pairList, path, ReckoningCase, reckoning, caseLetter}
+use Rattle.graph.specs.Cases.{pairList, path, ReckoningCase, reckoning}
 
 -- the pairs of a list
 unfoldable pub listed : List (ℕ × ℕ) → Pairs
@@ -43,11 +45,11 @@ pub record Opening : Type 0 where
 
 -- a opened beside ns in G, with the stored chain D and the stored pairs ps
 unfoldable pub opened : Network → ℕ → List ℕ → ℕ → List (ℕ × ℕ) → Opening
-unfolding withDepot chart listed opening caseLetter readState
+unfolding withDepot chart listed opening letterOf readState
 opened G a ns D ps =
     let H = withDepot G (record { code = a; neighbours = ns }) in
     let x = opening (chart H) a D (listed ps) in
-    record { letter = caseLetter (x .change); final = readState H (x .final) }
+    record { letter = letterOf (Accepted (x .change)); final = readState H (x .final) }
 
 -- ---- THE TABLE
 

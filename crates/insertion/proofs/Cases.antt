@@ -32,7 +32,7 @@ use Rattle.rounds.specs.Leaves.{Ran, ran, ranBy, roundsLeave}
 use Rattle.rounds.specs.Workspace.{lastRow}
 use Rattle.rounds.proofs.Holding.{leaves-over}
 use Rattle.rounds.proofs.Pairing.{own-pairs, settle-is}
-use Rattle.insertion.specs.Figured.{Figured, figured, figuredBy, changeAs, IsFigurable}
+use Rattle.insertion.specs.Figured.{Figured, figured, figuredBy, IsFigurable}
 use Rattle.bounds.specs.Once.{Marked, marking}
 use Rattle.insertion.specs.Steps.{markOnceIn, Joined, joined, joinOf, HoldsSearch, IsWhole}
 use Rattle.insertion.proofs.Once.{once-leaves}
@@ -142,7 +142,7 @@ module _ (members links : List ℕ) (B : Lent) (a e D : ℕ) (I : HoldsSearch ba
   below = network-open-below 4 members links
 
   by-tests : (x y z : Bool) → ltb D (ecc (chart G) a) ≡ x → eqb (ecc (chart G) a) D ≡ y → anyPair (chart G .depots) Left ≡ z
-      → figured (changeAs (openCase x y z (chart G) a D P .change)) (ranBy base G (openCase x y z (chart G) a D P .final) B) ≡ figuredBy base G a D B
+      → figured (openCase x y z (chart G) a D P .change) (ranBy base G (openCase x y z (chart G) a D P .final) B) ≡ figuredBy base G a D B
   unfolding figuredBy opening
   by-tests x y z p q r = rw (p, q, r)
 
@@ -157,7 +157,7 @@ module _ (members links : List ℕ) (B : Lent) (a e D : ℕ) (I : HoldsSearch ba
   pub grew-is : D < e → (count : ℕ) (p : List ℕ) (n : ℕ) (m : Marked)
       → joined (tally p n) m ≡ joinOf base a e D (tables [] (B .searched .even) (B .searched .odd)) (joined (tally (B .pairs) count) (marking (B .bounds) (B .skips)))
       → figured Grew (ran (lent p (B .searched) (m .bounds) (m .skips)) e n 1) ≡ figuredBy base G a D B
-  unfolding joinOf changeAs openCase settleOf
+  unfolding joinOf openCase settleOf
   grew-is l count p n m h =
       ap (λ (x : ℕ). figured Grew (ran (lent p (B .searched) (m .bounds) (m .skips)) x n 1)) (I .depth)
       ∙ ap (figured Grew) (once-leaves base G a (I .present) (ecc (chart G) a) (ownPairs (chart G) a (ecc (chart G) a)) B p n m own (marks-are m (marking (B .bounds) (B .skips)) (ap (λ (J : Joined). J .marked) h)) (I .stands))
@@ -192,7 +192,7 @@ module _ (members links : List ℕ) (B : Lent) (a e D : ℕ) (I : HoldsSearch ba
     pub equal-is : e ≡ D → (p : List ℕ) (n : ℕ) (m : Marked)
         → joined (tally p n) m ≡ joinOf base a e D (tables [] (B .searched .even) (B .searched .odd)) (joined (tally t k) (marking (B .bounds) (B .skips)))
         → figured Kept (ran (lent p (B .searched) (m .bounds) (m .skips)) D n 1) ≡ figuredBy base G a D B
-    unfolding joinOf changeAs openCase tallyOf
+    unfolding joinOf openCase tallyOf
     equal-is q p n m h =
         ap (figured Kept) (once-leaves base G a (I .present) D (λ u v. Left u v || ownPairs (chart G) a D u v) B p n m both (marks-are m (marking (B .bounds) (B .skips)) (ap (λ (J : Joined). J .marked) h)) (I .stands))
         ∙ by-tests false true (anyPair (chart G .depots) Left) not-above (eq-eqb (ecc (chart G) a) D (sym (I .depth) ∙ q)) refl
@@ -208,7 +208,7 @@ module _ (members links : List ℕ) (B : Lent) (a e D : ℕ) (I : HoldsSearch ba
     -- e(a) < D, and a pair is left: KEPT
     pub kept-is : (e ≡ D → ⊥) → (k ≡ 0 → ⊥) → (m : Marked) → m ≡ markOnceIn base a e (marking (B .bounds) (B .skips))
         → figured Kept (ran (lent t (B .searched) (m .bounds) (m .skips)) D k 1) ≡ figuredBy base G a D B
-    unfolding changeAs openCase
+    unfolding openCase
     kept-is ne some m h =
         ap (figured Kept) (once-leaves base G a (I .present) D Left B t k m tally-left (marks-are m (marking (B .bounds) (B .skips)) h) (I .stands))
         ∙ by-tests false false true not-above (ne-eqb (ecc (chart G) a) D (λ q. ne (I .depth ∙ q))) (some-left 4 G (I .net) below a (B .searched) D (B .pairs) ends drops-by some)
@@ -217,7 +217,7 @@ module _ (members links : List ℕ) (B : Lent) (a e D : ℕ) (I : HoldsSearch ba
     pub shrank-is : (e ≡ D → ⊥) → k ≡ 0 → (R : Ran)
         → R ≡ ranBy base G (rounds (chart G) (length (chart G .depots)) (round (chart G) a (start w))) (lent t (B .searched) (B .bounds) (B .skips))
         → figured Shrank R ≡ figuredBy base G a D B
-    unfolding changeAs openCase ranBy roundsLeave
+    unfolding openCase ranBy roundsLeave
     shrank-is ne z R h =
         ap (figured Shrank) (h ∙ over (rounds (chart G) (length (chart G .depots)) (round (chart G) a (start w)))
         ∙ ap (λ (c : ℕ). ranBy base G (rounds (chart G) (length (chart G .depots)) (round (chart G) a (start c))) B) (candidate-is 4 G (I .net) below a (B .searched) D (B .pairs) ends drops-by))

@@ -25,7 +25,7 @@ use Rattle.rounds.proofs.Holding.{Origin, Holds, leaves-over, after-snoc}
 use Rattle.rounds.proofs.Simulation.{Running, running-round, absorb}
 use Rattle.rounds.proofs.Finish.{start-holds, start-running, run-leaves, run-figures}
 use Rattle.pairs.proofs.Settling.{settle-counted}
-use Rattle.insertion.specs.Figured.{figured, figuredBy, changeAs}
+use Rattle.insertion.specs.Figured.{figured, figuredBy}
 use Rattle.insertion.specs.Steps.{HoldsSearch}
 use Rattle.map.proofs.Theorems.{base-shape}
 
@@ -136,5 +136,5 @@ module _ (K : Shape) (G : Network) (a : ℕ) (T : Tables) (p b s : List ℕ) whe
   pub figured-over : (D : ℕ) → figuredBy K G a D (lent p (searchLeaves (K .words) G a T) b s) ≡ figuredBy K G a D (lent p T b s)
   unfolding figuredBy opening
   figured-over D =
-      ap (figured (changeAs (opening (chart G) a D (tableBit (K .words) p) .change)))
+      ap (figured (opening (chart G) a D (tableBit (K .words) p) .change))
       (case-over (ltb D (ecc (chart G) a)) (eqb (ecc (chart G) a) D) (anyPair (chart G .depots) (stayingPairs (via (chart G) a) D (tableBit (K .words) p))) D (tableBit (K .words) p))

@@ -8,21 +8,13 @@ use lib.ListN.{length}
 use Rattle.graph.specs.Network.{Network, delivers}
 use Rattle.lists.specs.Lists.{range}
 use Rattle.graph.specs.Chart.{chart, countPairs}
-use Rattle.graph.specs.Opening as Steps
-use Rattle.graph.specs.Opening.{opening, grew, kept, shrank}
+use Rattle.graph.specs.Opening.{opening}
 use Rattle.graph.specs.Correct.{IsNet}
 use Rattle.rows.specs.Rows.{tableBit}
 use Rattle.map.specs.Memory.{Shape, places, tableWords, networkOf}
 use Rattle.map.specs.Room.{Lent}
 use Rattle.rounds.specs.Leaves.{Ran, ranBy}
 use Rattle.outcome.specs.declared.Change.{Change}
-use Rattle.outcome.specs.declared.Change.the-variants.{Grew, Kept, Shrank}
-
--- the answer's case for each way in which the chain moves
-unfoldable pub changeAs : Steps.Change → Change
-changeAs grew = Grew
-changeAs kept = Kept
-changeAs shrank = Shrank
 
 pub record Figured : Type 0 where
   pub change : Change
@@ -35,7 +27,7 @@ figured c r = record { change = c; ran = r }
 unfoldable pub figuredBy : Shape → Network → ℕ → ℕ → Lent → Figured
 figuredBy K H a D B =
     let x = opening (chart H) a D (tableBit (K .words) (B .pairs)) in
-    figured (changeAs (x .change)) (ranBy K H (x .final) B)
+    figured (x .change) (ranBy K H (x .final) B)
 
 -- what the step asks: whole tables; a sound, connected network with the open depot a; stored pairs that join open codes, as many as the count
 pub record IsFigurable (K : Shape) (members links : List ℕ) (B : Lent) (a D count : ℕ) : Type 0 where

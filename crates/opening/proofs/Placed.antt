@@ -13,7 +13,8 @@ use Rattle.lists.specs.Lists.{memb, overwrite}
 use Rattle.lists.proofs.Tests.{look, or-left, true→t}
 use Rattle.graph.specs.Network.{Network, delivers}
 use Rattle.graph.specs.Chart.{chart}
-use Rattle.graph.specs.Opening.{Notice, byCode, withDepot, opening, grew, kept, shrank}
+use Rattle.graph.specs.Opening.{Notice, byCode, withDepot, opening}
+use Rattle.outcome.specs.declared.Change.the-variants.{Grew, Kept, Shrank}
 use Rattle.graph.specs.Opening as Graph
 use Rattle.graph.specs.Correct.{IsNet}
 use Rattle.rows.specs.Rows.{rowBit, tableBit, encodeRow, encodeTable, putBit}
@@ -31,8 +32,8 @@ use Rattle.outcome.specs.declared.Change.{Change}
 use Rattle.outcome.specs.declared.Outcome.{Outcome}
 use Rattle.outcome.specs.declared.Outcome.the-variants.{Accepted}
 use Rattle.admission.proofs.Theorems.{linked-after, linked-is}
-use Rattle.insertion.specs.Figured.{changeAs, Figured, figured, figuredBy, IsFigurable}
-use Rattle.update.specs.UpdateCall.{changeOf, updateRefusal, networkAfter, updatedBy, UpdateLeft, updateGiven}
+use Rattle.insertion.specs.Figured.{Figured, figured, figuredBy, IsFigurable}
+use Rattle.update.specs.UpdateCall.{updateRefusal, networkAfter, updatedBy, UpdateLeft, updateGiven}
 use Rattle.graph.specs.Opening.{noticeOf}
 use Rattle.update.proofs.Memories.{depots-few}
 use Rattle.update.proofs.Grants.{granted-long, granted-net, granted-figures, admitted, held-after, number-after}
@@ -52,12 +53,6 @@ code-put W code members l n fits =
     ap (putBit W 0 code true) (row-whole W members n fits)
     ∙ put-row W code true (rowBit W members) members l
     ∙ ap (λ (r : List ℕ). overwrite r members) (encode-row-ext W (λ v. cond (eqb v code) true (rowBit W members v)) (λ v. eqb v code || rowBit W members v) (λ v h. or-cond (eqb v code) (rowBit W members v)))
-
-change-is : (c : Graph.Change) → changeOf c ≡ Accepted (changeAs c)
-unfolding changeOf changeAs
-change-is grew = refl
-change-is kept = refl
-change-is shrank = refl
 
 -- ---- the parts, put together
 
@@ -172,6 +167,5 @@ module _ (rec : Record) (links p h b s x y : List ℕ) (code : ℕ) (ns : List �
         let R : Ran = ranBy base H (xo .final) B in
         ap (λ (n : ℕ). leftWith n (Accepted c) after left r) (number-after base base-shape rec links p z o ok byte)
         ∙ ap (λ (f : Figured). leftWith opened (Accepted (f .change)) after left (f .ran)) q
-        ∙ ap (λ (oc : Outcome). leftWith opened oc after left R) (sym (change-is (xo .change)))
-        ∙ ap (λ (cs : List ℕ). leftWith opened (changeOf (xo .change)) cs left R) (put ∙ ap (λ (f : ℕ → Bool). overwrite (encodeRow 4 f) (rec .members)) (sym open-is))
-        ∙ ap (λ (ls : List ℕ). leftWith opened (changeOf (xo .change)) (overwrite (encodeRow 4 (H .isOpen)) (rec .members)) ls R) (linked ∙ ap (λ (f : ℕ → ℕ → Bool). overwrite (encodeTable 4 f) links) (sym links-are))
+        ∙ ap (λ (cs : List ℕ). leftWith opened (Accepted (xo .change)) cs left R) (put ∙ ap (λ (f : ℕ → Bool). overwrite (encodeRow 4 f) (rec .members)) (sym open-is))
+        ∙ ap (λ (ls : List ℕ). leftWith opened (Accepted (xo .change)) (overwrite (encodeRow 4 (H .isOpen)) (rec .members)) ls R) (linked ∙ ap (λ (f : ℕ → ℕ → Bool). overwrite (encodeTable 4 f) links) (sym links-are))

@@ -11,7 +11,7 @@ use Rattle.graph.specs.Network.{Network}
 use Rattle.graph.specs.Chart.{chart, ecc}
 use Rattle.graph.specs.Rounds.{State}
 use Rattle.graph.specs.Opening as Graph
-use Rattle.graph.specs.Opening.{Notice, Opened, shrank}
+use Rattle.graph.specs.Opening.{Notice, Opened}
 use Rattle.graph.specs.Correct.{AreReferences, IsSettled}
 use Rattle.graph.proofs.Skipped.{opening-says}
 use Rattle.rows.specs.Rows.{tableBit}
@@ -30,22 +30,12 @@ use Rattle.reckon.proofs.Skips.{skip-bound, closed-at, waiting-at}
 use Rattle.outcome.specs.declared.Change.{Change}
 use Rattle.outcome.specs.declared.Change.the-variants.{Grew, Kept, Shrank}
 use Rattle.outcome.specs.declared.Outcome.the-variants.{Accepted}
-use Rattle.update.specs.UpdateCall.{changeOf, updateRefusal, networkAfter, updatedBy, updateGiven, updateCall, referencesBy, referencesOf}
+use Rattle.update.specs.UpdateCall.{updateRefusal, networkAfter, updatedBy, updateGiven, updateCall, referencesBy, referencesOf}
 use Rattle.opening.specs.Tables.{AreTables, LeavesTables}
 use Rattle.update.proofs.Memories.{IsHeld, open-below}
 use Rattle.update.proofs.Grants.{granted-long, granted-net, granted-notice, granted-room, granted-chain, held-after}
 use Rattle.update.proofs.Marks.{opened-searched, changed-shrank}
 use Rattle.graph.specs.Updates.{opens, updateFaults, applied, steps}
-
-shrank-changed : (o : Opened) → o .change ≡ shrank → changeOf (o .change) ≡ Accepted Shrank
-unfolding changeOf
-shrank-changed o q = ap changeOf q
-
-changed-accepted : (c : Graph.Change) → (d : Change) × (changeOf c ≡ Accepted d)
-unfolding changeOf
-changed-accepted Graph.grew = (Grew, refl)
-changed-accepted Graph.kept = (Kept, refl)
-changed-accepted Graph.shrank = (Shrank, refl)
 
 module _ (K : Shape) (shape : IsShape K) (rec : Record) (links : List ℕ) (B : Lent) (o : Notice)
     (ok : updateRefusal K rec links (B .pairs) (sizesOf links B) (opens o) ≡ 0) (low : o .code < places K) where
@@ -90,14 +80,14 @@ module _ (K : Shape) (shape : IsShape K) (rec : Record) (links : List ℕ) (B : 
   given-tables : AreTables K H (o .code) (S .references) links B (updateGiven zero K rec links B (opens o))
   unfolding updateGiven roundsLeave sizesOf
   given-tables = record {
-    change = changed-accepted (x .change) .0;
-    accepted = changed-accepted (x .change) .1;
+    change = x .change;
+    accepted = refl;
     later = says .first .0;
     first = says .first .1;
-    once = λ n. ap (drop 1) (sym (says .first .1) ∙ says .once (λ q. n (shrank-changed x q)) .only);
+    once = λ n. ap (drop 1) (sym (says .first .1) ∙ says .once (λ q. n (ap Accepted q)) .only);
     eccentricity = bound-ecc K H (held .net .sound) below shape S references (B .bounds);
     skipped = λ q v ov. skip-bound K H S (B .skips) (B .bounds) (says .skipped (changed-shrank (x .change) q)) v (below v ov) ov;
-    others = λ n v l d. waiting-at K H S (B .skips) (B .bounds) v l (says .once (λ q. n (shrank-changed x q)) .others v d);
+    others = λ n v l d. waiting-at K H S (B .skips) (B .bounds) v l (says .once (λ q. n (ap Accepted q)) .others v d);
     closed = closed-at K H S (B .skips) (B .bounds);
     searched = last-search (says .first .0) (says .first .1);
     linksKept = over-keeps _ _ links (encode-table-length (K .words) (H .linked)) (long .links-fit);

@@ -19,14 +19,15 @@ use Rattle.rows.specs.Rows.{tableBit}
 use Rattle.graph.specs.Network.{Network}
 use Rattle.graph.specs.Distance.{vertices}
 use Rattle.graph.specs.Rounds.{Status, waiting, skipped, searched, State, markOf}
-use Rattle.graph.specs.Opening.{Change, grew, kept, shrank, Opened}
+use Rattle.graph.specs.Opening.{Opened}
+use Rattle.outcome.specs.declared.Change.{Change}
 use Rattle.graph.specs.Correct.{IsCovered, Stands, AreReferences, IsSearched}
 use Rattle.map.specs.Memory.{Shape, IsShape, places}
 use Rattle.map.specs.declared.Record.{Record}
 use Rattle.map.specs.Room.{Lent, sizesOf}
-use Rattle.outcome.specs.declared.Change.the-variants.{Shrank}
+use Rattle.outcome.specs.declared.Change.the-variants.{Shrank, Grew, Kept}
 use Rattle.outcome.specs.declared.Outcome.the-variants.{Accepted, Refused}
-use Rattle.update.specs.UpdateCall.{changeOf, updateRefusal, networkAfter, updatedBy, updateGiven, referencesBy, IsWithin}
+use Rattle.update.specs.UpdateCall.{updateRefusal, networkAfter, updatedBy, updateGiven, referencesBy, IsWithin}
 use Rattle.update.specs.Represents.{IsMarked}
 use Rattle.update.proofs.Memories.{IsHeld, open-below}
 use Rattle.update.proofs.Grants.{granted-lawful, granted-chain, held-after}
@@ -97,17 +98,11 @@ refused-marked k K H rec links B o = record {
 
 -- ---- AN UPDATE THAT IS NOT REFUSED
 
-changed-not : (c : Change) (k : ℕ) → changeOf c ≡ Refused k → ⊥
-unfolding changeOf
-changed-not grew k p = let z : _≡_ {A = ℕ} 0 1 = cc in lt-irrefl 0 (omega arith)
-changed-not kept k p = let z : _≡_ {A = ℕ} 0 1 = cc in lt-irrefl 0 (omega arith)
-changed-not shrank k p = let z : _≡_ {A = ℕ} 0 1 = cc in lt-irrefl 0 (omega arith)
+changed-not : (c : Change) (k : ℕ) → Accepted c ≡ Refused k → ⊥
+changed-not c k p = let z : _≡_ {A = ℕ} 0 1 = cc in lt-irrefl 0 (omega arith)
 
-pub changed-shrank : (c : Change) → changeOf c ≡ Accepted Shrank → c ≡ shrank
-unfolding changeOf
-changed-shrank grew p = absurd (let z : _≡_ {A = ℕ} 0 1 = cc in lt-irrefl 0 (omega arith))
-changed-shrank kept p = absurd (let z : _≡_ {A = ℕ} 0 1 = cc in lt-irrefl 0 (omega arith))
-changed-shrank shrank p = refl
+pub changed-shrank : (c : Change) → Accepted c ≡ Accepted Shrank → c ≡ Shrank
+changed-shrank c p = cc
 
 module _ (K : Shape) (shape : IsShape K) (rec : Record) (links : List ℕ) (B : Lent) (o : Update) (ok : updateRefusal K rec links (B .pairs) (sizesOf links B) o ≡ 0) (low : IsWithin K o) where
   abbrev H : Network

@@ -8,19 +8,22 @@ use native.Mathlib.Nat.{lt-irrefl}
 use native.Mathlib.Omega.{arith}
 use lib.ListN.{length}
 use borrow.Author.Tests.{lt-ltb, le-ltb, eq-eqb, ne-eqb}
+use Rattle.outcome.specs.declared.Outcome.the-variants.{Accepted}
 use Rattle.lists.specs.Lists.{range, mapl, overwrite}
 use Rattle.rows.specs.Rows.{tableBit, encodeRow, encodeTable}
 use Rattle.graph.specs.Network.{Network, AreTrue, delivers}
 use Rattle.graph.specs.Rounds.{markOf}
 use Rattle.graph.specs.Chart.{Pairs, diameter, farthest, countPairs}
-use Rattle.graph.specs.Opening.{Change, grew, kept, shrank, Opened}
+use Rattle.graph.specs.Opening.{Opened}
+use Rattle.outcome.specs.declared.Change.{Change}
+use Rattle.outcome.specs.declared.Change.the-variants.{Grew, Kept, Shrank}
 use Rattle.graph.specs.Correct.{Moved, IsOpened}
 use Rattle.graph.proofs.Theorems.{true-chain, true-pairs, figures-are}
 use Rattle.map.specs.Memory.{Shape, IsShape, places, mapNetwork}
 use Rattle.map.specs.declared.Record.{Record}
 use Rattle.map.specs.Room.{Lent, sizesOf}
 use Rattle.rounds.specs.Leaves.{roundsLeave}
-use Rattle.update.specs.UpdateCall.{changeOf, updateRefusal, networkAfter, updatedBy, updateGiven, referencesBy, IsWithin}
+use Rattle.update.specs.UpdateCall.{updateRefusal, networkAfter, updatedBy, updateGiven, referencesBy, IsWithin}
 use Rattle.plain_list.specs.PlainList.{moved}
 use Rattle.update.specs.Demand2.{mapAfter}
 use Rattle.update.proofs.Memories.{IsHeld, Says, record-path, memory-path, writeMap}
@@ -37,7 +40,7 @@ module _ (K : Shape) (rec : Record) (links : List ℕ) (B : Lent) (o : Update) w
   abbrev x : Opened
   x = updatedBy K rec links (B .pairs) o
 
-  pub given-outcome : updateGiven zero K rec links B o .report .outcome ≡ changeOf (x .change)
+  pub given-outcome : updateGiven zero K rec links B o .report .outcome ≡ Accepted (x .change)
   unfolding updateGiven
   given-outcome = refl
 
@@ -80,11 +83,11 @@ module _ (K : Shape) (rec : Record) (links : List ℕ) (B : Lent) (o : Update) w
 
 -- ---- how the chain moved
 
-moved-is : (c : Change) (D E : ℕ) → Moved c D E → changeOf c ≡ moved D E
-unfolding moved changeOf
-moved-is grew D E l = rw (lt-ltb D E l)
-moved-is kept D E l = rw (le-ltb D E (omega arith), eq-eqb D E l)
-moved-is shrank D E l = rw (le-ltb D E (omega arith), ne-eqb D E (λ q. lt-irrefl D (omega arith)))
+moved-is : (c : Change) (D E : ℕ) → Moved c D E → Accepted c ≡ moved D E
+unfolding moved
+moved-is Grew D E l = rw (lt-ltb D E l)
+moved-is Kept D E l = rw (le-ltb D E (omega arith), eq-eqb D E l)
+moved-is Shrank D E l = rw (le-ltb D E (omega arith), ne-eqb D E (λ q. lt-irrefl D (omega arith)))
 
 -- ---- AN UPDATE THAT IS NOT REFUSED, on true stored figures
 

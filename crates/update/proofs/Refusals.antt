@@ -2,8 +2,10 @@
 use mathlib.Core.Bool.{true}
 use mathlib.Core.Path.{_≡_, refl}
 use Prim.Native.Nat.{ℕ, zero, suc}
+use Rattle.outcome.specs.declared.Outcome.the-variants.{Accepted}
 use Rattle.lists.proofs.Conditions.{decides-short, refuses-by}
-use Rattle.graph.specs.Opening.{Change, grew, kept, shrank}
+use Rattle.outcome.specs.declared.Change.{Change}
+use Rattle.outcome.specs.declared.Change.the-variants.{Grew, Kept, Shrank}
 use Rattle.graph.specs.Updates.{updateFaults}
 use Rattle.graph.specs.Refusals.{ownConditions}
 use Rattle.graph.proofs.Refusals.{update-tells}
@@ -12,17 +14,15 @@ use Rattle.map.proofs.Theorems.{network-listed}
 use Rattle.map.specs.Room.{roundsBuffers}
 use Rattle.map.proofs.Longs.{long-is}
 use Rattle.outcome.specs.Outcome.{refusalOf}
-use Rattle.update.specs.UpdateCall.{changeOf, updatedBy, updateRefusal, updateGiven, updateCall}
+use Rattle.update.specs.UpdateCall.{updatedBy, updateRefusal, updateGiven, updateCall}
 use Rattle.update.specs.Refusals.{updateConditions, UpdateDemand1}
 use Rattle.lent_map.proofs.Refuses.{lent-tells}
 use Rattle.map.specs.Room.{sizesOf, longEnough}
 
 -- an accepted call has no number
-accepted-number : (c : Change) → refusalOf (changeOf c) ≡ 0
-unfolding changeOf refusalOf
-accepted-number grew = refl
-accepted-number kept = refl
-accepted-number shrank = refl
+accepted-number : (c : Change) → refusalOf (Accepted c) ≡ 0
+unfolding refusalOf
+accepted-number c = refl
 
 pub update-refusals : (K : Shape) → IsShape K → UpdateDemand1 K (updateCall K)
 unfolding updateCall updateRefusal updateGiven refusalOf

@@ -9,25 +9,17 @@ use Rattle.lists.specs.Lists.{range, overwrite, firstOf}
 use Rattle.graph.specs.Network.{Network}
 use Rattle.graph.specs.Distance.{vertices}
 use Rattle.graph.specs.Chart.{chart, countPairs}
-use Rattle.graph.specs.Opening.{Change, grew, kept, shrank, Opened}
+use Rattle.graph.specs.Opening.{Opened}
 use Rattle.graph.specs.Updates.{Update, opens, updateFaults, applied, steps}
 use Rattle.rows.specs.Rows.{tableBit, encodeRow, encodeTable}
 use Rattle.map.specs.Memory.{Shape, places, mapNetwork}
 use Rattle.map.specs.declared.Record.{Record}
 use Rattle.map.specs.Room.{Lent, Sizes, sizesOf, longEnough}
 use Rattle.rounds.specs.Leaves.{roundsLeave}
-use Rattle.outcome.specs.declared.Change.the-variants.{Grew, Kept, Shrank}
-use Rattle.outcome.specs.declared.Outcome.{Outcome}
 use Rattle.outcome.specs.declared.Outcome.the-variants.{Accepted, Refused}
 use Rattle.update.specs.declared.Report.{Report}
 use Rattle.update.specs.declared.Returned.{Returned}
 use Rattle.lent_map.specs.Faults.{lentFaults}
-
--- the answer's case for each way in which the chain moves
-unfoldable pub changeOf : Change → Outcome
-changeOf grew = Accepted Grew
-changeOf kept = Accepted Kept
-changeOf shrank = Accepted Shrank
 
 -- the first refusal that holds: 1 short, 2 spoilt (links or figures), 3 apart, then the update's own; 0: none
 unfoldable pub updateRefusal : Shape → Record → List ℕ → List ℕ → Sizes → Update → ℕ
@@ -59,7 +51,7 @@ updateGiven zero K rec links B o =
     let x = updatedBy K rec links (B .pairs) o in
     let S = x .final in
     record {
-      report = record { outcome = changeOf (x .change); searches = length (S .references) };
+      report = record { outcome = Accepted (x .change); searches = length (S .references) };
       after = record {
         members = overwrite (encodeRow (K .words) (H .isOpen)) (rec .members);
         number = length (vertices H);

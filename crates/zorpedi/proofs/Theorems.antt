@@ -6,13 +6,15 @@ use Prim.Native.Nat.{ℕ, zero, suc, _≤_}
 use native.Mathlib.Omega.{arith}
 use lib.ListN.{length, length-take}
 use borrow.Author.Tests.{le-ltb}
+use Rattle.outcome.specs.declared.Outcome.the-variants.{Accepted}
 use Rattle.lists.proofs.Fills.{overwrite-length}
-use Rattle.graph.specs.Opening.{Change, grew, kept, shrank}
+use Rattle.outcome.specs.declared.Change.{Change}
+use Rattle.outcome.specs.declared.Change.the-variants.{Grew, Kept, Shrank}
 use Rattle.rows.specs.Rows.{encodeRow}
 use Rattle.rows.proofs.Written.{encode-row-length}
 use Rattle.map.specs.Memory.{base}
 use Rattle.map.specs.Room.{Lent, sizesOf}
-use Rattle.update.specs.UpdateCall.{changeOf, updateRefusal, networkAfter, updatedBy, UpdateLeft, updateGiven, updateCall}
+use Rattle.update.specs.UpdateCall.{updateRefusal, networkAfter, updatedBy, UpdateLeft, updateGiven, updateCall}
 use Rattle.c_values.specs.Words.{recordWords, recordOf}
 use Rattle.c_values.proofs.Theorems.{words-read}
 use Rattle.zorpedi.specs.Outs.{OpenOut, openFrom, openOut}
@@ -24,11 +26,9 @@ use Rattle.graph.specs.Updates.{Update}
 abbrev Holds : OpenOut → UpdateLeft → Type 0
 Holds y x = (recordOf (y .words) ≡ x .after) × (y .links ≡ x .links) × (y .lent ≡ x .lent)
 
-holds-accepted : (x : UpdateLeft) (l : List ℕ) (old : ℕ) (c : Change) → length (x .after .members) ≡ 4 → Holds (openFrom (changeOf c) x l old) x
-unfolding openFrom changeOf
-holds-accepted x l old grew e = (words-read (x .after) l e, refl, refl)
-holds-accepted x l old kept e = (words-read (x .after) l e, refl, refl)
-holds-accepted x l old shrank e = (words-read (x .after) l e, refl, refl)
+holds-accepted : (x : UpdateLeft) (l : List ℕ) (old : ℕ) (c : Change) → length (x .after .members) ≡ 4 → Holds (openFrom (Accepted c) x l old) x
+unfolding openFrom
+holds-accepted x l old c e = (words-read (x .after) l e, refl, refl)
 
 module _ (l links : List ℕ) (B : Lent) (o : Update) (old : ℕ) (h : recordWords ≤ length l) where
   members-four : length (recordOf l .members) ≡ 4
