@@ -60,12 +60,7 @@ fn open_beside(m: Map, code: u8, near: u8) -> Taken {
 
 // The map after the depots 0, 1 and 2 have opened in a path.
 fn begin() -> Map {
-    let rec = Record {
-        members: [0u64; map::WORDS],
-        number: 0,
-        chain: 0,
-        count: 0,
-    };
+    let rec = map::empty_record();
     let links = [0u64; map::TABLE];
     let pairs = [0u64; map::TABLE];
     let one = open(Map { links, pairs, rec }, 0, b"");

@@ -49,7 +49,7 @@ table-zeros W old u v =
 -- ---- what the code leaves
 
 -- the record of zeros, as the code writes it
-none-record : record { members = 0 ∷ 0 ∷ 0 ∷ 0 ∷ []; number = 0; chain = 0; count = 0 } ≡ emptyRecord (base .words)
+pub none-record : record { members = 0 ∷ 0 ∷ 0 ∷ 0 ∷ []; number = 0; chain = 0; count = 0 } ≡ emptyRecord (base .words)
 unfolding emptyRecord zeros mapl range from
 none-record = refl
 
@@ -62,8 +62,8 @@ module _ (rec : Record) (links pairs : List ℕ) where
   unfolding emptyCall emptyGiven emptyRefusal firstOf
   short-pairs h = simp (lt-leb 1024 (length pairs) h, and-false)
 
-  pub both-cleared : {l p : List ℕ} → 1024 ≤ length links → 1024 ≤ length pairs
+  pub both-cleared : {none : Record} {l p : List ℕ} → 1024 ≤ length links → 1024 ≤ length pairs → none ≡ emptyRecord (base .words)
       → l ≡ overwrite (encodeRow 1024 (λ v. false)) links → p ≡ overwrite (encodeRow 1024 (λ v. false)) pairs
-      → record { answer = Done; after = record { members = 0 ∷ 0 ∷ 0 ∷ 0 ∷ []; number = 0; chain = 0; count = 0 }; links = l; pairs = p } ≡ emptyCall base rec links pairs
+      → record { answer = Done; after = none; links = l; pairs = p } ≡ emptyCall base rec links pairs
   unfolding emptyCall emptyGiven emptyRefusal firstOf
-  both-cleared h k e f = rw (le-leb 1024 (length links) h, le-leb 1024 (length pairs) k, e, f, none-zeros 1024, none-record)
+  both-cleared h k n e f = rw (le-leb 1024 (length links) h, le-leb 1024 (length pairs) k, n, e, f, none-zeros 1024)

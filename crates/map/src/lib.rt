@@ -7,7 +7,7 @@ ghost use Rattle.rows.specs.Rows.{rowBit};
 ghost use Rattle.map.specs.Memory.{base, networkOf};
 ghost use Rattle.map.specs.Room.{sizes, longEnough};
 ghost use Rattle.map.specs.Bits.{IsLent, soundLink, soundPair};
-ghost use Rattle.map.specs.Empty.{emptyLeft, emptyCall};
+ghost use Rattle.map.specs.Empty.{emptyRecord, emptyLeft, emptyCall};
 
 // ---- the shape of a map, in specifications `base` (specs/Memory)
 
@@ -116,6 +116,18 @@ pub struct Record {
     pub count: u32,
 }
 
+// The record of an empty map.
+pub fn empty_record() -> Record
+    ensures { λ r. ⌜ r ≡ emptyRecord (base .words) ⌝ }
+{
+    Record {
+        members: [0u64; WORDS],
+        number: 0,
+        chain: 0,
+        count: 0,
+    }
+}
+
 // The answer of emptying: done, or the refusal's number.
 pub enum Emptying {
     Done,
@@ -147,12 +159,7 @@ pub fn empty_map(rec: Record, links: &mut [u64], pairs: &mut [u64]) -> Emptied
     }
     rows::clear(links, TABLE);
     rows::clear(pairs, TABLE);
-    let none = Record {
-        members: [0u64; WORDS],
-        number: 0,
-        chain: 0,
-        count: 0,
-    };
+    let none = empty_record();
     Emptied {
         answer: Emptying::Done,
         after: none,

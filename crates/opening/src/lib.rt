@@ -67,12 +67,11 @@ fn open_map(
         rec.chain,
         rec.count,
     );
-    let after = Record {
-        members: members,
-        number: rec.number + 1,
-        chain: got.chain,
-        count: got.count,
-    };
+    let mut after = rec;
+    after.members = members;
+    after.number = rec.number + 1;
+    after.chain = got.chain;
+    after.count = got.count;
     let change = got.change;
     let report = Report {
         outcome: Outcome::Accepted(change),

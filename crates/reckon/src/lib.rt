@@ -137,12 +137,9 @@ pub fn reckon_all(
     }
     let members = rec.members;
     let got = reckon_map(&members, links, pairs, hops, bounds, skips, even, odd);
-    let after = Record {
-        members: members,
-        number: rec.number,
-        chain: got.candidate,
-        count: got.count,
-    };
+    let mut after = rec;
+    after.chain = got.candidate;
+    after.count = got.count;
     Reckoned {
         answer: Reckoning::Searches(got.searches),
         after: after,

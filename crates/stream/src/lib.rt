@@ -7,13 +7,11 @@ ghost use Rattle.map.specs.Slices.{lentAt, lentBefore, lentAfter, sizesAt};
 ghost use Rattle.notice.specs.Lines.{readLine};
 ghost use Rattle.report.specs.Line.{bufferLimit};
 ghost use Rattle.update.specs.UpdateCall.{updateLeft};
-ghost use Rattle.update.specs.Steps.{mapRefusal, refusedWith};
+ghost use Rattle.update.specs.Steps.{mapRefusal};
 ghost use Rattle.transcript.specs.Transcript.{linesLimit};
 ghost use Rattle.stream.specs.Feeding.{streamBegun, beginCall, answerTo, IsReady, feeding, tookLine, feedCall, finishCall};
 use map::Record;
 use notice::Reading;
-use outcome::Outcome;
-use update::Report;
 use update::Returned;
 
 // How far a stream has come: the map's record, the lines answered, and the bytes that the line buffer holds of the next one.
@@ -35,12 +33,7 @@ pub fn begin(links: &mut [u64], pairs: &mut [u64]) -> Progress
     requires { ⌜ (tableWords base ≤ length (now links)) × (tableWords base ≤ length (now pairs)) ⌝ }
     ensures { λ r. ⌜ streamBegun r (now (links .exit)) (now (pairs .exit)) ≡ beginCall (now (links .entry)) (now (pairs .entry)) ⌝ }
 {
-    let none = Record {
-        members: [0u64; map::WORDS],
-        number: 0,
-        chain: 0,
-        count: 0,
-    };
+    let none = map::empty_record();
     let got = map::empty_map(none, links, pairs);
     let rec = got.after;
     Progress {
@@ -51,17 +44,6 @@ pub fn begin(links: &mut [u64], pairs: &mut [u64]) -> Progress
 }
 
 // ---- a line's answer
-
-// What a garbled line is answered.
-fn garbled(rec: Record, number: u8) -> Returned
-    ensures { λ r. ⌜ r ≡ refusedWith number rec ⌝ }
-{
-    let report = Report {
-        outcome: Outcome::Refused(number),
-        searches: 0,
-    };
-    Returned { report, after: rec }
-}
 
 // Answers a line: the reader's refusal, or the opening of its frame.
 fn answer_line(
@@ -100,7 +82,7 @@ fn answer_line(
                 &frame[3..n],
             )
         }
-        Reading::Refused(k) => garbled(rec, k),
+        Reading::Refused(k) => update::refused(rec, k),
     }
 }
 

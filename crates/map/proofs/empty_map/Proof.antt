@@ -14,9 +14,10 @@ returns-2 c = short-pairs _ _ _ (c .if2 .taken)
 
 returns-3 : tie.Need-returns-3
 returns-3 c =
+    let after-empty-record : tie.After-empty-record = search in
     let after-clear2 : tie.After-clear2 = search in
     let after-clear : tie.After-clear = search in
-    both-cleared _ _ _ (omega arith) (omega arith) (after-clear .clear .ensures) (after-clear2 .clear2 .ensures)
+    both-cleared _ _ _ (omega arith) (omega arith) (after-empty-record .empty-record .ensures) (after-clear .clear .ensures) (after-clear2 .clear2 .ensures)
 
 pub empty-map-spec : {M : Type 1} → statement M
 empty-map-spec =
@@ -24,5 +25,6 @@ empty-map-spec =
     (tie.spec
     returns
     returns-2
-    (λ c. search needs) (λ c. search needs) (λ c. search needs) (λ c. search needs)  -- clear-requires, clear-requires-2, same-length, same-length-2
+    (λ c. search needs) (λ c. search needs) (λ c. search needs)  -- clear-requires, clear-requires-2, empty-record-requires
+    (λ c. search needs) (λ c. search needs)  -- same-length, same-length-2
     returns-3)

@@ -52,8 +52,8 @@ refigure-requires c κs =
       search needs,
     )
 
-add-t39 : tie.Need-add-t39
-add-t39 c =
+add-after : tie.Need-add-after
+add-after c =
     let after-shared-slice-known : tie.After-shared-slice-known = search back in
     let start : tie.Start = search back in
     let small =
@@ -82,7 +82,7 @@ open-map-spec =
     put-code-requires
     slice-aggregate-refigure
     refigure-requires
-    add-t39
+    add-after
     (λ c. search needs) (λ c. search needs) (λ c. search needs) (λ c. search needs)  -- same-length, same-length-2, same-length-3, same-length-4
     (λ c. search needs) (λ c. search needs) (λ c. search needs)  -- same-length-5, same-length-6, same-length-7
     returns)

@@ -67,7 +67,7 @@ returns-2 c =
     let after-frame : tie.After-frame = search back in
     answered-garbled _ _ _ _
     (garbled-read _ _ (omega (arith, slice-aggregate-read-notice after-frame)) (after-got2 .got2 .given .1)
-    (after-read-notice .read-notice .ensures)) (c .garbled .ensures)
+    (after-read-notice .read-notice .ensures)) (c .refused .ensures)
 
 pub answer-line-spec : {M : Type 1} → statement M
 answer-line-spec =
@@ -78,7 +78,7 @@ answer-line-spec =
     sub-open-sound
     part-open-sound-start
     part-open-sound-end
-    (λ c. search needs) (λ c. search needs) (λ c. search needs)  -- open-sound-requires, enum-known-got-2, garbled-requires
+    (λ c. search needs) (λ c. search needs) (λ c. search needs)  -- open-sound-requires, enum-known-got-2, refused-requires
     (λ c. search needs) (λ c. search needs) (λ c. search needs) (λ c. search needs)  -- same-length, same-length-2, same-length-3, same-length-4
     (λ c. search needs) (λ c. search needs) (λ c. search needs)  -- same-length-5, same-length-6, same-length-7
     returns
