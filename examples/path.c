@@ -57,7 +57,7 @@ int main(void)
     const uint8_t frame[] = {1, 5, 3, 0, 2, 4};
     uint8_t line[ZORPEDI_LINE_SIZE];
     size_t length = 0;
-    expect("writing refused", zorpedi_write_notice(frame, sizeof frame, line, sizeof line, &length), ZORPEDI_DONE);
+    expect("writing refused", zorpedi_write_notice(line, sizeof line, &length, frame, sizeof frame), ZORPEDI_DONE);
     printf("%.*s", (int)length, (const char *)line);
     if (length != 13 || memcmp(line, "010503000204\n", 13) != 0) {
         puts("  expected 010503000204");

@@ -41,7 +41,7 @@ static int follow_line(uint32_t number, const char *text, const char *expected)
     uint8_t frame[ZORPEDI_FRAME_SIZE], line[ZORPEDI_REPORT_SIZE];
     size_t length = 0, used = 0;
     zorpedi_opened opened = {0, 0};
-    opened.answer = zorpedi_read_notice((const uint8_t *)text, strlen(text), frame, sizeof frame, &length, &used);
+    opened.answer = zorpedi_read_notice(frame, sizeof frame, &length, &used, (const uint8_t *)text, strlen(text));
     if (opened.answer == ZORPEDI_DONE) {
         opened = zorpedi_map_opened(&map, frame[1], frame + 3, length - 3);
     }

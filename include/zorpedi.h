@@ -18,7 +18,8 @@
  * HOW MEMORY IS LENT
  * A buffer is a pointer and its length in elements, in this order. Most buffers have a named size. A longer one is allowed: only its first part
  * is used, and the rest keeps its value. A shorter one is refused with 1, even where the call would not have filled it. `neighbours`, `input`,
- * `piece` and the frame that is written as a line have no named size; the `out` of a stream is used as far as it goes.
+ * `piece` and the frame that is written as a line have no named size; the `out` of a stream is used as far as it goes. Every function takes what it
+ * is lent in one order: record, links, pairs, hops, bounds, skips, even, odd, then buffers of lines, then single numbers; then what it is asked.
  *
  * REFUSALS
  * A refused call answers a number from 1 to 9: the first of its own that applies, in rising order. It changes nothing that was lent, scratch
@@ -46,7 +47,7 @@ extern "C" {
 
 /* ---- the version of the interface */
 
-#define ZORPEDI_VERSION_MAJOR 1
+#define ZORPEDI_VERSION_MAJOR 2
 #define ZORPEDI_VERSION_MINOR 0
 #define ZORPEDI_VERSION (ZORPEDI_VERSION_MAJOR * 1000 + ZORPEDI_VERSION_MINOR)
 
@@ -159,8 +160,8 @@ uint8_t zorpedi_empty(uint64_t *record, size_t record_size, uint64_t *links, siz
  * depot. Of the two layer rows, `even` if the eccentricity is even, else `odd`, is the set of depots at that distance; the other is the set at
  * the distance before it, and is zero if the eccentricity is 0 (section 3 of the rules).
  * Refused: 1 (record below 7, links below 1,024, hops below 256, even or odd below 4), 2 (links only), 3, 4. */
-uint8_t zorpedi_search(uint16_t *hops, size_t hops_size, uint64_t *even, size_t even_size, uint64_t *odd, size_t odd_size,
-                       uint16_t *eccentricity, const uint64_t *record, size_t record_size, const uint64_t *links, size_t links_size,
+uint8_t zorpedi_search(const uint64_t *record, size_t record_size, const uint64_t *links, size_t links_size, uint16_t *hops,
+                       size_t hops_size, uint64_t *even, size_t even_size, uint64_t *odd, size_t odd_size, uint16_t *eccentricity,
                        uint8_t code);
 
 /* Reckons longest chain and farthest pairs afresh from the links; chain, pair count and pair table may hold anything before.
@@ -173,9 +174,9 @@ uint8_t zorpedi_search(uint16_t *hops, size_t hops_size, uint64_t *even, size_t 
  * bounds[c] is that bound, the eccentricity if c was searched, else 65,535. hops, even and odd are as the last search leaves them (see
  * zorpedi_search), and unchanged if no depot is open.
  * Refused: 1 (record below 7, links or pairs below 1,024, hops, bounds or skips below 256, even or odd below 4), 2 (links only), 3. */
-uint8_t zorpedi_reckon(uint64_t *record, size_t record_size, uint64_t *pairs, size_t pairs_size, uint16_t *hops, size_t hops_size,
-                       uint16_t *bounds, size_t bounds_size, uint16_t *skips, size_t skips_size, uint64_t *even, size_t even_size,
-                       uint64_t *odd, size_t odd_size, uint16_t *searches, const uint64_t *links, size_t links_size);
+uint8_t zorpedi_reckon(uint64_t *record, size_t record_size, const uint64_t *links, size_t links_size, uint64_t *pairs, size_t pairs_size,
+                       uint16_t *hops, size_t hops_size, uint16_t *bounds, size_t bounds_size, uint16_t *skips, size_t skips_size,
+                       uint64_t *even, size_t even_size, uint64_t *odd, size_t odd_size, uint16_t *searches);
 
 /* Opens the depot `code` beside `neighbours`.
  * 71 'G', 75 'K' or 83 'S': the code joins the open set, the links to its neighbours join the link table, and the new depot a is searched
@@ -202,12 +203,12 @@ uint8_t zorpedi_open(uint64_t *record, size_t record_size, uint64_t *links, size
 /* Reads the notice line at the start of `input`.
  * 0: the first *length bytes of `frame` are the frame; *used is the number of bytes that the line has, 0A included.
  * Refused: 1 (frame below 258), 9. The neighbours may stand in any order: that is for the opening to judge. */
-uint8_t zorpedi_read_notice(const uint8_t *input, size_t input_size, uint8_t *frame, size_t frame_size, size_t *length, size_t *used);
+uint8_t zorpedi_read_notice(uint8_t *frame, size_t frame_size, size_t *length, size_t *used, const uint8_t *input, size_t input_size);
 
 /* Writes the notice line of a frame; the frame is the whole of `frame`, three bytes more than its count.
  * 0: the first *length bytes of `line` are the line, 0A included.
  * Refused: 1 (line below 517), 9. */
-uint8_t zorpedi_write_notice(const uint8_t *frame, size_t frame_size, uint8_t *line, size_t line_size, size_t *length);
+uint8_t zorpedi_write_notice(uint8_t *line, size_t line_size, size_t *length, const uint8_t *frame, size_t frame_size);
 
 /* Writes a report line (rule 10.2): number, answer, depots, chain, pairs, searches, as decimals with a space between, and 0A. The answer is the
  * number that zorpedi_open or zorpedi_read_notice gave: 71, 75 and 83 are written G, K and S, any other n is written R and n.
@@ -295,15 +296,15 @@ static inline zorpedi_opened zorpedi_map_opened(zorpedi_map *map, uint8_t code, 
 
 static inline uint8_t zorpedi_map_search(zorpedi_map *map, uint8_t code, uint16_t *eccentricity)
 {
-    return zorpedi_search(map->hops, ZORPEDI_CODES_SIZE, map->even, ZORPEDI_ROW_SIZE, map->odd, ZORPEDI_ROW_SIZE, eccentricity, map->record,
-                          ZORPEDI_RECORD_SIZE, map->links, ZORPEDI_TABLE_SIZE, code);
+    return zorpedi_search(map->record, ZORPEDI_RECORD_SIZE, map->links, ZORPEDI_TABLE_SIZE, map->hops, ZORPEDI_CODES_SIZE, map->even,
+                          ZORPEDI_ROW_SIZE, map->odd, ZORPEDI_ROW_SIZE, eccentricity, code);
 }
 
 static inline uint8_t zorpedi_map_reckon(zorpedi_map *map, uint16_t *searches)
 {
-    return zorpedi_reckon(map->record, ZORPEDI_RECORD_SIZE, map->pairs, ZORPEDI_TABLE_SIZE, map->hops, ZORPEDI_CODES_SIZE, map->bounds,
-                          ZORPEDI_CODES_SIZE, map->skips, ZORPEDI_CODES_SIZE, map->even, ZORPEDI_ROW_SIZE, map->odd, ZORPEDI_ROW_SIZE,
-                          searches, map->links, ZORPEDI_TABLE_SIZE);
+    return zorpedi_reckon(map->record, ZORPEDI_RECORD_SIZE, map->links, ZORPEDI_TABLE_SIZE, map->pairs, ZORPEDI_TABLE_SIZE, map->hops,
+                          ZORPEDI_CODES_SIZE, map->bounds, ZORPEDI_CODES_SIZE, map->skips, ZORPEDI_CODES_SIZE, map->even, ZORPEDI_ROW_SIZE,
+                          map->odd, ZORPEDI_ROW_SIZE, searches);
 }
 
 /* The report line of a call on this map: `answer` and `searches` as the call gave them, 0 searches if it was refused. */

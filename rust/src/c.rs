@@ -4,13 +4,13 @@ extern "C" {
     pub fn zorpedi_version() -> u32;
     pub fn zorpedi_empty(record: *mut u64, _: usize, links: *mut u64, _: usize, pairs: *mut u64, _: usize) -> u8;
     pub fn zorpedi_search(
-        hops: *mut u16, _: usize, even: *mut u64, _: usize, odd: *mut u64, _: usize, eccentricity: *mut u16,
-        record: *const u64, _: usize, links: *const u64, _: usize, code: u8,
+        record: *const u64, _: usize, links: *const u64, _: usize, hops: *mut u16, _: usize, even: *mut u64, _: usize,
+        odd: *mut u64, _: usize, eccentricity: *mut u16, code: u8,
     ) -> u8;
     pub fn zorpedi_reckon(
-        record: *mut u64, _: usize, pairs: *mut u64, _: usize, hops: *mut u16, _: usize, bounds: *mut u16, _: usize,
-        skips: *mut u16, _: usize, even: *mut u64, _: usize, odd: *mut u64, _: usize, searches: *mut u16,
-        links: *const u64, _: usize,
+        record: *mut u64, _: usize, links: *const u64, _: usize, pairs: *mut u64, _: usize, hops: *mut u16, _: usize,
+        bounds: *mut u16, _: usize, skips: *mut u16, _: usize, even: *mut u64, _: usize, odd: *mut u64, _: usize,
+        searches: *mut u16,
     ) -> u8;
     pub fn zorpedi_open(
         record: *mut u64, _: usize, links: *mut u64, _: usize, pairs: *mut u64, _: usize, hops: *mut u16, _: usize,
@@ -18,9 +18,9 @@ extern "C" {
         searches: *mut u16, code: u8, neighbours: *const u8, _: usize,
     ) -> u8;
     pub fn zorpedi_read_notice(
-        input: *const u8, _: usize, frame: *mut u8, _: usize, length: *mut usize, used: *mut usize,
+        frame: *mut u8, _: usize, length: *mut usize, used: *mut usize, input: *const u8, _: usize,
     ) -> u8;
-    pub fn zorpedi_write_notice(frame: *const u8, _: usize, line: *mut u8, _: usize, length: *mut usize) -> u8;
+    pub fn zorpedi_write_notice(line: *mut u8, _: usize, length: *mut usize, frame: *const u8, _: usize) -> u8;
     pub fn zorpedi_report(
         line: *mut u8, _: usize, length: *mut usize, number: u32, answer: u8, depots: u16, chain: u16, pairs: u32,
         searches: u16,

@@ -22,10 +22,14 @@ pub fn empty(m: &mut Memory) -> u8 {
 }
 
 pub fn search(m: &Memory, found: &mut Search, code: u8) -> u8 {
-    let (h, e, o, r, l) = (&mut found.hops, &mut found.even, &mut found.odd, &m.record, &m.links);
+    let (r, l, h, e, o) = (&m.record, &m.links, &mut found.hops, &mut found.even, &mut found.odd);
     // SAFETY: whole arrays of two structs, those that are written each borrowed once, and one number beside them.
     unsafe {
         c::zorpedi_search(
+            r.as_ptr(),
+            r.len(),
+            l.as_ptr(),
+            l.len(),
             h.as_mut_ptr(),
             h.len(),
             e.as_mut_ptr(),
@@ -33,10 +37,6 @@ pub fn search(m: &Memory, found: &mut Search, code: u8) -> u8 {
             o.as_mut_ptr(),
             o.len(),
             &mut found.eccentricity,
-            r.as_ptr(),
-            r.len(),
-            l.as_ptr(),
-            l.len(),
             code,
         )
     }
@@ -48,6 +48,8 @@ pub fn reckon(m: &mut Memory, searches: &mut u16) -> u8 {
         c::zorpedi_reckon(
             m.record.as_mut_ptr(),
             m.record.len(),
+            m.links.as_ptr(),
+            m.links.len(),
             m.pairs.as_mut_ptr(),
             m.pairs.len(),
             m.hops.as_mut_ptr(),
@@ -61,8 +63,6 @@ pub fn reckon(m: &mut Memory, searches: &mut u16) -> u8 {
             m.odd.as_mut_ptr(),
             m.odd.len(),
             searches,
-            m.links.as_ptr(),
-            m.links.len(),
         )
     }
 }
@@ -95,14 +95,14 @@ pub fn open(m: &mut Memory, searches: &mut u16, code: u8, neighbours: &[u8]) -> 
     }
 }
 
-pub fn read_notice(input: &[u8], frame: &mut [u8], length: &mut usize, used: &mut usize) -> u8 {
+pub fn read_notice(frame: &mut [u8], length: &mut usize, used: &mut usize, input: &[u8]) -> u8 {
     // SAFETY: two slices and two numbers, by their references.
-    unsafe { c::zorpedi_read_notice(input.as_ptr(), input.len(), frame.as_mut_ptr(), frame.len(), length, used) }
+    unsafe { c::zorpedi_read_notice(frame.as_mut_ptr(), frame.len(), length, used, input.as_ptr(), input.len()) }
 }
 
-pub fn write_notice(frame: &[u8], line: &mut [u8], length: &mut usize) -> u8 {
+pub fn write_notice(line: &mut [u8], length: &mut usize, frame: &[u8]) -> u8 {
     // SAFETY: two slices and a number, by their references.
-    unsafe { c::zorpedi_write_notice(frame.as_ptr(), frame.len(), line.as_mut_ptr(), line.len(), length) }
+    unsafe { c::zorpedi_write_notice(line.as_mut_ptr(), line.len(), length, frame.as_ptr(), frame.len()) }
 }
 
 /// What a report line says, in the numbers of the C function.

@@ -60,7 +60,7 @@ pub fn read(input: &[u8]) -> Result<(Notice, usize), Refusal> {
     version::require();
     let mut notice = Notice { frame: [0; FRAME_LIMIT], length: 0 };
     let mut used = 0;
-    Refusal::check(ffi::read_notice(input, &mut notice.frame, &mut notice.length, &mut used))?;
+    Refusal::check(ffi::read_notice(&mut notice.frame, &mut notice.length, &mut used, input))?;
     Ok((notice, used))
 }
 
@@ -83,7 +83,7 @@ pub fn write(frame: &[u8]) -> Result<Vec<u8>, Refusal> {
     version::require();
     let mut line = vec![0; LINE_LIMIT];
     let mut length = 0;
-    Refusal::check(ffi::write_notice(frame, &mut line, &mut length))?;
+    Refusal::check(ffi::write_notice(&mut line, &mut length, frame))?;
     line.truncate(length);
     Ok(line)
 }

@@ -23,7 +23,7 @@ mod ffi {
     use std::cell::Cell;
 
     thread_local! {
-        pub static VERSION: Cell<u32> = const { Cell::new(1000) };
+        pub static VERSION: Cell<u32> = const { Cell::new(2000) };
         pub static ANSWER: Cell<u8> = const { Cell::new(0) };
     }
 
@@ -62,11 +62,11 @@ mod ffi {
         ANSWER.get()
     }
 
-    pub fn read_notice(_: &[u8], _: &mut [u8], _: &mut usize, _: &mut usize) -> u8 {
+    pub fn read_notice(_: &mut [u8], _: &mut usize, _: &mut usize, _: &[u8]) -> u8 {
         ANSWER.get()
     }
 
-    pub fn write_notice(_: &[u8], _: &mut [u8], _: &mut usize) -> u8 {
+    pub fn write_notice(_: &mut [u8], _: &mut usize, _: &[u8]) -> u8 {
         ANSWER.get()
     }
 
@@ -136,7 +136,7 @@ fn archives_of_other_versions() {
     let ways: [fn(); 4] =
         [|| drop(Map::new()), || drop(Stream::new()), || drop(notice::read(b"010000\n")), || drop(notice::write(&[1, 0, 0]))];
     for (version, serves) in
-        [(1000, true), (1001, true), (1999, true), (0, false), (999, false), (2000, false), (2001, false), (u32::MAX, false)]
+        [(2000, true), (2001, true), (2999, true), (0, false), (1000, false), (1999, false), (3000, false), (3001, false), (u32::MAX, false)]
     {
         ffi::VERSION.set(version);
         assert_eq!(Version::of_archive().serves(), serves, "{version}");
@@ -144,8 +144,8 @@ fn archives_of_other_versions() {
             assert_eq!(catch_unwind(way).is_ok(), serves, "{version}");
         }
     }
-    ffi::VERSION.set(2003);
+    ffi::VERSION.set(3003);
     let said = catch_unwind(Map::new).expect_err("it does not serve");
     let text = said.downcast_ref::<String>().expect("a text");
-    assert_eq!(text, "libzorpedi.a has version 2.3, this crate was written for 1.0");
+    assert_eq!(text, "libzorpedi.a has version 3.3, this crate was written for 2.0");
 }

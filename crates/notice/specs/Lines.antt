@@ -32,6 +32,21 @@ endOf (c ∷ cs) = cond (eqb c lineEnd) 0 (suc (endOf cs))
 unfoldable pub spellsFrame : List ℕ → Bool
 spellsFrame ds = allb isDigit ds && (eqb (length ds % 2) 0 && isFrame (bytesOf ds))
 
+-- ---- the lines of an input, each with its ending
+
+-- a byte before the first of some lines; a line of its own where there is none
+unfoldable pub onto : ℕ → List (List ℕ) → List (List ℕ)
+onto b [] = (b ∷ []) ∷ []
+onto b (l ∷ ls) = (b ∷ l) ∷ ls
+
+-- 0A ends a line; what is left behind the last 0A is a line too, unless nothing is left (rule 10.3)
+unfoldable pub linesOf : List ℕ → List (List ℕ)
+unfolding onto
+linesOf [] = []
+linesOf (b ∷ bs) = let ls = linesOf bs in cond (eqb b lineEnd) ((b ∷ []) ∷ ls) (onto b ls)
+
+-- ---- a line read
+
 -- what stands at the start of the input: a frame with the number of bytes that its line takes, or nothing that reads
 pub data Line : Type 0 where
   garbled : Line

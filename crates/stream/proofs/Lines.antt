@@ -12,8 +12,7 @@ use lib.Seq.{take-all, take-take, take-append-le, take-suc-set}
 use borrow.Author.Tests.{lt-ltb, le-ltb, not-true}
 use Rattle.lists.specs.Lists.{allb}
 use Rattle.lists.proofs.Tests.{and-true, and-intro, lt-or-ge}
-use Rattle.notice.specs.Lines.{lineLimit, lineEnd, readHead, readLine}
-use Rattle.transcript.specs.Transcript.{onto, linesOf}
+use Rattle.notice.specs.Lines.{lineLimit, lineEnd, readHead, readLine, onto, linesOf}
 use Rattle.line_buffer.specs.Lines.{Holding, holdByte}
 
 -- no byte ends the line

@@ -14,10 +14,10 @@ use Rattle.lists.proofs.Tests.{look}
 use Rattle.graph.specs.Network.{Network}
 use Rattle.map.specs.Memory.{base}
 use Rattle.map.specs.Room.{sizesOf, longEnough}
-use Rattle.notice.specs.Lines.{lineEnd, readLine}
+use Rattle.notice.specs.Lines.{lineEnd, readLine, linesOf}
 use Rattle.report.specs.Line.{bufferLimit, reportLine}
 use Rattle.update.proofs.Memories.{IsHeld, Says}
-use Rattle.transcript.specs.Transcript.{linesLimit, linesOf, followLine, reportOn, reportsFrom}
+use Rattle.transcript.specs.Transcript.{linesLimit, followLine, reportOn, reportsFrom}
 use Rattle.line_buffer.specs.Lines.{holding, pasted}
 use Rattle.stream.specs.Feeding.{Feeding, stopped, tookLine, heldByte, takeByte, feedBytes}
 use Rattle.line_buffer.proofs.Stops.{going}

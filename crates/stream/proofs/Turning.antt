@@ -12,9 +12,9 @@ use lib.Seq.{take-nil}
 use borrow.Author.Tests.{eq-eqb, ne-eqb, leb-true}
 use Rattle.lists.proofs.Tests.{look, or-left}
 use Rattle.graph.specs.Network.{Network}
-use Rattle.notice.specs.Lines.{readLine}
+use Rattle.notice.specs.Lines.{readLine, linesOf}
 use Rattle.report.specs.Line.{bufferLimit}
-use Rattle.transcript.specs.Transcript.{linesLimit, linesOf, followLine, reportsFrom}
+use Rattle.transcript.specs.Transcript.{linesLimit, followLine, reportsFrom}
 use Rattle.stream.specs.Feeding.{Feeding, feeding, fedOf, stopped, tookLine, feedBytes, feedCall, finishCall}
 use Rattle.stream.specs.Pieces.{Standing, Turn, turnLeft, standingAfter, standsAfter, usedBy, writtenBy, lastWritten}
 use Rattle.line_buffer.proofs.Stops.{going, stopped-lines}

@@ -1,10 +1,8 @@
 -- THE TRANSCRIPT: what a whole input of the stream gives as whole output (section 10 of the rules), over bytes and networks. No word and no table is
 -- in it.
 -- Assumes nothing.
-use mathlib.Core.Bool.{cond}
 use mathlib.Core.List.{List, [], _∷_, _++_}
 use Prim.Native.Nat.{ℕ, zero, suc, _+_}
-use lib.Dec.{eqb}
 use lib.ListN.{length, getD, take, drop}
 use Rattle.lists.specs.Lists.{firstOf}
 use Rattle.graph.specs.Network.{Network}
@@ -16,26 +14,13 @@ use Rattle.outcome.specs.Numbers.{garbledLine}
 use Rattle.outcome.specs.declared.Outcome.{Outcome}
 use Rattle.outcome.specs.declared.Outcome.the-variants.{Refused}
 use Rattle.plain_list.specs.PlainList.{plainAnswer, plainNext}
-use Rattle.notice.specs.Lines.{lineEnd, Line, garbled, frame, readLine}
+use Rattle.notice.specs.Lines.{linesOf, Line, garbled, frame, readLine}
 use Rattle.report.specs.Line.{reportLine}
 use Rattle.report.specs.declared.ReportFields.{ReportFields}
 
 -- the most lines that are read
 abbrev pub linesLimit : ℕ
 linesLimit = 1000000
-
--- ---- the lines of an input, each with its ending
-
--- a byte before the first of some lines; a line of its own where there is none
-unfoldable pub onto : ℕ → List (List ℕ) → List (List ℕ)
-onto b [] = (b ∷ []) ∷ []
-onto b (l ∷ ls) = (b ∷ l) ∷ ls
-
--- 0A ends a line; what is left behind the last 0A is a line too, unless nothing is left (rule 10.3)
-unfoldable pub linesOf : List ℕ → List (List ℕ)
-unfolding onto
-linesOf [] = []
-linesOf (b ∷ bs) = let ls = linesOf bs in cond (eqb b lineEnd) ((b ∷ []) ∷ ls) (onto b ls)
 
 -- ---- a line's answer
 

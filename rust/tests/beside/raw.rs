@@ -22,8 +22,8 @@ pub fn empty(m: &mut Lent) -> u8 {
 pub fn search(m: &mut Lent, code: u8) -> u8 {
     unsafe {
         c::zorpedi_search(
-            m.hops.pointer(), m.hops.lent, m.even.pointer(), m.even.lent, m.odd.pointer(), m.odd.lent, &mut m.eccentricity,
-            m.record.pointer(), m.record.lent, m.links.pointer(), m.links.lent, code,
+            m.record.pointer(), m.record.lent, m.links.pointer(), m.links.lent, m.hops.pointer(), m.hops.lent,
+            m.even.pointer(), m.even.lent, m.odd.pointer(), m.odd.lent, &mut m.eccentricity, code,
         )
     }
 }
@@ -32,9 +32,9 @@ pub fn search(m: &mut Lent, code: u8) -> u8 {
 pub fn reckon(m: &mut Lent) -> u8 {
     unsafe {
         c::zorpedi_reckon(
-            m.record.pointer(), m.record.lent, m.pairs.pointer(), m.pairs.lent, m.hops.pointer(), m.hops.lent,
-            m.bounds.pointer(), m.bounds.lent, m.skips.pointer(), m.skips.lent, m.even.pointer(), m.even.lent,
-            m.odd.pointer(), m.odd.lent, &mut m.searches, m.links.pointer(), m.links.lent,
+            m.record.pointer(), m.record.lent, m.links.pointer(), m.links.lent, m.pairs.pointer(), m.pairs.lent,
+            m.hops.pointer(), m.hops.lent, m.bounds.pointer(), m.bounds.lent, m.skips.pointer(), m.skips.lent,
+            m.even.pointer(), m.even.lent, m.odd.pointer(), m.odd.lent, &mut m.searches,
         )
     }
 }
@@ -55,13 +55,13 @@ pub fn open(m: &mut Lent, code: u8) -> u8 {
 pub fn read_notice(m: &mut Lent) -> u8 {
     unsafe {
         c::zorpedi_read_notice(
-            m.input.pointer(), m.input.lent, m.frame.pointer(), m.frame.lent, &mut m.length, &mut m.used,
+            m.frame.pointer(), m.frame.lent, &mut m.length, &mut m.used, m.input.pointer(), m.input.lent,
         )
     }
 }
 
 pub fn write_notice(m: &mut Lent) -> u8 {
-    unsafe { c::zorpedi_write_notice(m.input.pointer(), m.input.lent, m.line.pointer(), m.line.lent, &mut m.length) }
+    unsafe { c::zorpedi_write_notice(m.line.pointer(), m.line.lent, &mut m.length, m.input.pointer(), m.input.lent) }
 }
 
 #[rustfmt::skip]

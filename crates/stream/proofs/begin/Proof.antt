@@ -8,5 +8,6 @@ pub begin-spec : {M : Type 1} → statement M
 begin-spec =
     tie.close
     (tie.spec
-    (λ c. search needs) (λ c. search needs) (λ c. search needs)  -- empty-map-requires, same-length, same-length-2
+    (λ c. search needs) (λ c. search needs) (λ c. search needs)  -- empty-record-requires, empty-map-requires, same-length
+    (λ c. search needs)  -- same-length-2
     (λ c. search begins))  -- returns
