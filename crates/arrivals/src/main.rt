@@ -5,7 +5,7 @@ mod maps;
 use maps::Map;
 use maps::first_answer;
 use maps::line;
-use plain_search::same_words;
+use plain_search::tables::same_words;
 
 fn print_order(a_first: bool) {
     if a_first {

@@ -5,10 +5,10 @@ use map::Record;
 use outcome::Change;
 use outcome::Outcome;
 use plain_search::Sheet;
-use plain_search::bits_are;
 use plain_search::read;
-use plain_search::same_numbers;
-use plain_search::same_words;
+use plain_search::tables::bits_are;
+use plain_search::tables::same_numbers;
+use plain_search::tables::same_words;
 use reckon::Reckoning;
 use search::Found;
 
@@ -229,9 +229,9 @@ pub fn is_accepted(got: Answer, letter: u8, sheet: &Sheet) -> bool {
     let left = got.left;
     let skips = left.skips;
     let rec = left.rec;
-    let counted = got.number == plain_search::searched(&skips);
+    let counted = got.number == plain_search::marks::searched(&skips);
     let covered = match letter {
-        b'S' | b'D' => plain_search::are_covered(&skips, sheet, rec.chain),
+        b'S' | b'D' => plain_search::marks::are_covered(&skips, sheet, rec.chain),
         _ => true,
     };
     both(got.word == letter, both(counted, covered))
@@ -255,7 +255,7 @@ fn hands_back(m: Lent, s: u8, sheet: &Sheet, row: usize, e: u16) -> bool {
         &mut ecc,
         s,
     );
-    let farthest = plain_search::layer_is(rows[0], sheet, row, e);
+    let farthest = plain_search::tables::layer_is(rows[0], sheet, row, e);
     both(farthest, both(refusal == 0, ecc == e))
 }
 
@@ -267,7 +267,7 @@ fn is_last(
     row: usize,
     e: u16,
 ) -> bool {
-    plain_search::layer_is(search::last_layer(&even, &odd, e), sheet, row, e)
+    plain_search::tables::layer_is(search::last_layer(&even, &odd, e), sheet, row, e)
 }
 
 // Whether a search of the code s found the distances, the eccentricity and the farthest depots of the plain search.
@@ -280,7 +280,7 @@ pub fn is_found(got: Answer, s: u8, sheet: &Sheet) -> bool {
     let row = plain_search::row(plain_search::DISTANCES, own);
     let e = read(sheet, plain_search::ECCENTRICITIES, own);
     let reached = both(got.word == b'D', got.number == e);
-    let hopped = plain_search::numbers_are(&hops, sheet, row);
+    let hopped = plain_search::tables::numbers_are(&hops, sheet, row);
     let last = is_last(even, odd, sheet, row, e);
     let handed = hands_back(left, s, sheet, row, e);
     both(both(reached, hopped), both(last, handed))

@@ -18,7 +18,7 @@ fn claim(pairs: &mut [u64; map::TABLE], claimed: usize, low: usize, high: usize)
     if claimed % 2 == 0 {
         return 0;
     }
-    plain_search::flip(pairs, place(low, code(high)));
+    plain_search::tables::flip(pairs, place(low, code(high)));
     1
 }
 

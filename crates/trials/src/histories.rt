@@ -61,7 +61,7 @@ fn bend(m: Lent, bent: usize, j: usize) -> Lent {
         }
     }
     if bent == 3 {
-        plain_search::flip(&mut members, plain_search::wide(code(j)));
+        plain_search::tables::flip(&mut members, plain_search::wide(code(j)));
         rec.members = members;
         rec.number = rec.number % 1024 + 1;
     }

@@ -16,7 +16,7 @@ fn is_line(fields: ReportFields, text: &[u8]) -> bool {
     let mut line = [b'x'; 48];
     let parts = report::report_line(&mut line, fields);
     let whole = parts[1];
-    let written = plain_search::same_text(parts[0], text);
+    let written = plain_search::tables::same_text(parts[0], text);
     both(written, both(whole.len() == 48, byte_at(whole, 47) == b'x'))
 }
 
@@ -25,7 +25,7 @@ fn is_refused(fields: ReportFields) -> bool {
     let mut line = [b'x'; 47];
     let parts = report::report_line(&mut line, fields);
     let whole = parts[1];
-    let none = plain_search::same_text(parts[0], b"");
+    let none = plain_search::tables::same_text(parts[0], b"");
     both(none, both(whole.len() == 47, byte_at(whole, 0) == b'x'))
 }
 

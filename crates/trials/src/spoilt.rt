@@ -13,7 +13,7 @@ use crate::tally::both;
 // Whether the opening of a fifth depot, a reckoning and a search are refused with bit v of depot i's row turned over.
 fn are_refused(m: Lent, i: usize, v: u8) -> bool {
     let mut links = m.links;
-    plain_search::flip(&mut links, notices::place(i, v));
+    plain_search::tables::flip(&mut links, notices::place(i, v));
     let mut lent = m;
     lent.links = links;
     let opening = is_refused(calls::open(lent, notices::write(Kind::Path, 4, 0)), lent, 2);

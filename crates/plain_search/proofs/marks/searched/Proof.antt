@@ -1,9 +1,9 @@
--- `plain_search::searched` is safe and ends: 256 turns.
+-- `plain_search::marks::searched` is safe and ends: 256 turns.
 -- Assumes nothing.
 use Prim.Native.Nat.{_≤_, _-_}
 use borrow.Author.Needs.{needs}
-use Rattle.plain_search.proofs.searched.Statement.{statement}
-use Rattle.plain_search.proofs.searched.Tie as tie
+use Rattle.plain_search.proofs.marks.searched.Statement.{statement}
+use Rattle.plain_search.proofs.marks.searched.Tie as tie
 
 abbrev Inv-loop : tie.InvT-loop
 Inv-loop skips n₀ v₀ n v = v ≤ 256

@@ -1,9 +1,9 @@
--- `plain_search::numbers_are` is safe and ends: 256 turns at most.
+-- `plain_search::tables::numbers_are` is safe and ends: 256 turns at most.
 -- Assumes nothing.
 use Prim.Native.Nat.{_≤_, _-_}
 use borrow.Author.Needs.{needs}
-use Rattle.plain_search.proofs.numbers_are.Statement.{statement}
-use Rattle.plain_search.proofs.numbers_are.Tie as tie
+use Rattle.plain_search.proofs.tables.numbers_are.Statement.{statement}
+use Rattle.plain_search.proofs.tables.numbers_are.Tie as tie
 
 abbrev Inv-loop : tie.InvT-loop
 Inv-loop table sheet row v₀ v = v ≤ 256

@@ -1,9 +1,9 @@
--- `plain_search::same_numbers` is safe and ends: 256 turns at most.
+-- `plain_search::tables::same_numbers` is safe and ends: 256 turns at most.
 -- Assumes nothing.
 use Prim.Native.Nat.{_≤_, _-_}
 use borrow.Author.Needs.{needs}
-use Rattle.plain_search.proofs.same_numbers.Statement.{statement}
-use Rattle.plain_search.proofs.same_numbers.Tie as tie
+use Rattle.plain_search.proofs.tables.same_numbers.Statement.{statement}
+use Rattle.plain_search.proofs.tables.same_numbers.Tie as tie
 
 abbrev Inv-loop : tie.InvT-loop
 Inv-loop a b v₀ v = v ≤ 256

@@ -1,9 +1,9 @@
--- `plain_search::layer_is` is safe and ends: 256 turns at most.
+-- `plain_search::tables::layer_is` is safe and ends: 256 turns at most.
 -- Assumes nothing.
 use Prim.Native.Nat.{_≤_, _-_}
 use borrow.Author.Needs.{needs}
-use Rattle.plain_search.proofs.layer_is.Statement.{statement}
-use Rattle.plain_search.proofs.layer_is.Tie as tie
+use Rattle.plain_search.proofs.tables.layer_is.Statement.{statement}
+use Rattle.plain_search.proofs.tables.layer_is.Tie as tie
 
 abbrev Inv-loop : tie.InvT-loop
 Inv-loop layer sheet row e v₀ v = v ≤ 256

@@ -1,10 +1,10 @@
--- `plain_search::same_text` is safe and ends: a turn for each byte.
+-- `plain_search::tables::same_text` is safe and ends: a turn for each byte.
 -- Assumes nothing.
 use Prim.Native.Nat.{_≤_, _-_}
 use lib.ListN.{length}
 use borrow.Author.Needs.{needs}
-use Rattle.plain_search.proofs.same_text.Statement.{statement}
-use Rattle.plain_search.proofs.same_text.Tie as tie
+use Rattle.plain_search.proofs.tables.same_text.Statement.{statement}
+use Rattle.plain_search.proofs.tables.same_text.Tie as tie
 
 abbrev Inv-loop : tie.InvT-loop
 Inv-loop a b i₀ i = i ≤ length a

@@ -1,9 +1,9 @@
--- `plain_search::bits_are` is safe and ends: n turns at most.
+-- `plain_search::tables::bits_are` is safe and ends: n turns at most.
 -- Assumes nothing.
 use Prim.Native.Nat.{_≤_, _-_}
 use borrow.Author.Needs.{needs}
-use Rattle.plain_search.proofs.bits_are.Statement.{statement}
-use Rattle.plain_search.proofs.bits_are.Tie as tie
+use Rattle.plain_search.proofs.tables.bits_are.Statement.{statement}
+use Rattle.plain_search.proofs.tables.bits_are.Tie as tie
 
 abbrev Inv-loop : tie.InvT-loop
 Inv-loop words sheet part n i₀ i = i ≤ n

@@ -1,9 +1,9 @@
--- `plain_search::are_covered` is safe and ends: 256 turns at most.
+-- `plain_search::marks::are_covered` is safe and ends: 256 turns at most.
 -- Assumes nothing.
 use Prim.Native.Nat.{_≤_, _-_}
 use borrow.Author.Needs.{needs}
-use Rattle.plain_search.proofs.are_covered.Statement.{statement}
-use Rattle.plain_search.proofs.are_covered.Tie as tie
+use Rattle.plain_search.proofs.marks.are_covered.Statement.{statement}
+use Rattle.plain_search.proofs.marks.are_covered.Tie as tie
 
 abbrev Inv-loop : tie.InvT-loop
 Inv-loop skips sheet chain v₀ v = v ≤ 256

@@ -1,9 +1,9 @@
--- `plain_search::is_covered` is safe and ends: 256 turns at most.
+-- `plain_search::marks::is_covered` is safe and ends: 256 turns at most.
 -- Assumes nothing.
 use Prim.Native.Nat.{_≤_, _-_}
 use borrow.Author.Needs.{needs}
-use Rattle.plain_search.proofs.is_covered.Statement.{statement}
-use Rattle.plain_search.proofs.is_covered.Tie as tie
+use Rattle.plain_search.proofs.marks.is_covered.Statement.{statement}
+use Rattle.plain_search.proofs.marks.is_covered.Tie as tie
 
 abbrev Inv-loop : tie.InvT-loop
 Inv-loop skips sheet v chain r₀ r = r ≤ 256

@@ -1,9 +1,9 @@
--- `plain_search::same_words` is safe and ends: n turns at most.
+-- `plain_search::tables::same_words` is safe and ends: n turns at most.
 -- Assumes nothing.
 use Prim.Native.Nat.{_≤_, _-_}
 use borrow.Author.Needs.{needs}
-use Rattle.plain_search.proofs.same_words.Statement.{statement}
-use Rattle.plain_search.proofs.same_words.Tie as tie
+use Rattle.plain_search.proofs.tables.same_words.Statement.{statement}
+use Rattle.plain_search.proofs.tables.same_words.Tie as tie
 
 abbrev Inv-loop : tie.InvT-loop
 Inv-loop a b n i₀ i = i ≤ n
