@@ -17,7 +17,7 @@ use Rattle.graph.specs.Correct.{IsNet}
 use Rattle.graph.specs.Cases.{path}
 use Rattle.graph.proofs.Walks.{append, reverse}
 use Rattle.map.specs.Memory.{base}
-use Rattle.ranks.proofs.Picking.{filter-skip}
+use Rattle.lists.proofs.Filters.{filter-skip}
 use Rattle.update.proofs.Memories.{IsHeld}
 
 -- ---- its links

@@ -25,7 +25,8 @@ use Rattle.graph.proofs.Layers.{hops-range}
 use Rattle.graph.proofs.Connected.{hop-open, hop-closed}
 use Rattle.rows.specs.Rows.{rowBit, tableBit, encodeRow}
 use Rattle.rows.proofs.Written.{row-at}
-use Rattle.layers.specs.Layers.{tableNetwork, depthFrom, searchLeaves}
+use Rattle.layers.specs.Layers.{depthFrom, searchLeaves}
+use Rattle.map.specs.Memory.{tableNetwork}
 use Rattle.map.specs.Room.{Tables}
 use Rattle.layers.proofs.Turning.{table-vertices, table-dist}
 

@@ -17,7 +17,8 @@ use Rattle.graph.specs.Distance.{vertices, unreached, hops, dist}
 use Rattle.graph.proofs.Layers.{hops-range}
 use Rattle.rows.specs.Rows.{tableBit, encodeRow}
 use Rattle.rows.proofs.Wholes.{encode-row-ext, row-over}
-use Rattle.layers.specs.Layers.{tableNetwork, depthFrom, layerBit, searchLeaves, searched, searchTable}
+use Rattle.layers.specs.Layers.{depthFrom, layerBit, searchLeaves, searched, searchTable}
+use Rattle.map.specs.Memory.{tableNetwork}
 use Rattle.map.specs.Room.{Tables, tables}
 use Rattle.frontier.specs.Steps.{stepped, stepOf}
 use Rattle.layers.specs.Begin.{SearchBegun, searchBegun, searchBeginOf}

@@ -8,11 +8,8 @@ use Rattle.lists.specs.Lists.{range, mapl, maxOf, overwrite}
 use Rattle.graph.specs.Network.{Network}
 use Rattle.graph.specs.Distance.{vertices, unreached, dist}
 use Rattle.rows.specs.Rows.{tableBit, encodeRow}
+use Rattle.map.specs.Memory.{tableNetwork}
 use Rattle.map.specs.Room.{Tables}
-
--- the links of a table alone, every code open: what a search walks over
-unfoldable pub tableNetwork : ℕ → List ℕ → Network
-tableNetwork W links = record { depots = range (64 * W); isOpen = λ v. ltb v (64 * W); linked = tableBit W links }
 
 -- the distance of the last layer: the greatest that a walk from s reaches
 unfoldable pub depthFrom : Network → ℕ → ℕ

@@ -19,7 +19,8 @@ use Rattle.graph.proofs.Walks.{append, reverse}
 use Rattle.graph.proofs.Distances.{dist-is, dist-reached, dist-below}
 use Rattle.graph.proofs.Connected.{connected-iff}
 use Rattle.rows.specs.Rows.{rowBit, tableBit}
-use Rattle.layers.specs.Layers.{tableNetwork, Searched, searched, searchLeaves, searchTable}
+use Rattle.layers.specs.Layers.{Searched, searched, searchLeaves, searchTable}
+use Rattle.map.specs.Memory.{tableNetwork}
 use Rattle.map.specs.Room.{Tables, tables}
 use Rattle.layers.proofs.Theorems.{table-search}
 use Rattle.map.specs.Memory.{networkOf}

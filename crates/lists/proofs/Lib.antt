@@ -12,6 +12,8 @@ pub mod Distinct
 pub mod RangeCounts
 -- sums, counts and greatest values over the numbers below n, a number at a time
 pub mod Ranges
+-- those of the numbers below n that pass a test, a number at a time
+pub mod Filters
 -- a loop that stores one element a turn
 pub mod Fills
 -- buffers whose first places are filled

@@ -1,5 +1,5 @@
 -- The memory of one map. Order of reading:
--- 1. the shape of a map, and what its words mean
+-- 1. the shape of a map, and what its words mean. Nobody has to believe `tableNetwork`
 pub mod Memory
 -- 2. the room that calls are lent: tables and sizes. Nobody has to believe `sizes`
 pub mod Room

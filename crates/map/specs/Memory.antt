@@ -4,6 +4,7 @@
 use mathlib.Core.Path.{_≡_}
 use mathlib.Core.List.{List}
 use Prim.Native.Nat.{ℕ, _*_, _≤_, _<_}
+use lib.Dec.{ltb}
 use Rattle.lists.specs.Lists.{range, filterb}
 use Rattle.graph.specs.Network.{Network}
 use Rattle.rows.specs.Rows.{rowBit, tableBit}
@@ -42,3 +43,7 @@ networkOf W members links = record { depots = filterb (rowBit W members) (range 
 -- what a record and a link table mean as a network
 abbrev pub mapNetwork : Shape → Record → List ℕ → Network
 mapNetwork K rec links = networkOf (K .words) (rec .members) links
+
+-- the links of a table alone, every code open: what a search walks over
+unfoldable pub tableNetwork : ℕ → List ℕ → Network
+tableNetwork W links = record { depots = range (64 * W); isOpen = λ v. ltb v (64 * W); linked = tableBit W links }

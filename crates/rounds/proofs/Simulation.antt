@@ -26,7 +26,8 @@ use Rattle.graph.proofs.Rounds.{pick-in}
 use Rattle.graph.proofs.Charts.{chart-metric, depot-out}
 use Rattle.rows.specs.Rows.{rowBit, tableBit, encodeTable}
 use Rattle.rows.proofs.Written.{row-at}
-use Rattle.layers.specs.Layers.{tableNetwork, searchLeaves, searchTable}
+use Rattle.layers.specs.Layers.{searchLeaves, searchTable}
+use Rattle.map.specs.Memory.{tableNetwork}
 use Rattle.map.specs.Room.{Tables}
 use Rattle.layers.proofs.Theorems.{table-depth, table-leaves, depth-is}
 use Rattle.map.specs.Memory.{networkOf}

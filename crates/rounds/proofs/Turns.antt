@@ -19,7 +19,8 @@ use Rattle.graph.proofs.Rounds.{pick-in}
 use Rattle.rows.specs.Rows.{rowBit, encodeRow, putBit, InTable}
 use Rattle.rows.proofs.Written.{row-at, table-zero}
 use Rattle.rows.proofs.Puts.{put-here, put-rest}
-use Rattle.layers.specs.Layers.{tableNetwork, Searched, searched, searchTable}
+use Rattle.layers.specs.Layers.{Searched, searched, searchTable}
+use Rattle.map.specs.Memory.{tableNetwork}
 use Rattle.map.specs.Room.{Tables, tables}
 use Rattle.pairs.proofs.Settling.{settle-counted}
 use Rattle.pairs.specs.Pairs.{Tally, tally, tallyOf, settleOf, Counted}
