@@ -25,7 +25,8 @@ use Rattle.rounds.specs.Leaves.{roundsLeave}
 use Rattle.reckon.specs.ReckonCall.{reckonRefusal, figuredBy, ReckonLeft, reckonGiven, reckonCall}
 use Rattle.reckon.specs.declared.Reckoning.the-variants.{Searches}
 use Rattle.lent_map.proofs.Refuses.{refused-never}
-use Rattle.update.proofs.Memories.{IsHeld, pairs-read}
+use Rattle.update.proofs.Memories.{IsHeld, open-below}
+use Rattle.rounds.proofs.Reading.{pairs-read}
 use Rattle.cases.specs.Results.{pairsIn, IsMapOf, Result, resultOf}
 use Rattle.cases.proofs.Listings.{pairs-open, count-open}
 use Rattle.cases.proofs.Paths.{path-held}
@@ -99,7 +100,7 @@ module _ (k number : ℕ) (low : k ≤ 256) (counts : number ≡ countb (path k 
   pairs-are : pairsIn (overwrite (encodeTable 4 (S .pairs)) (B .pairs)) ≡ pairList (vertices (path k)) (S .pairs)
   unfolding pairsIn
   pairs-are =
-      ap (pairList (range 256)) (pairs-read base (path k) held (S .pairs) ends (B .pairs))
+      ap (pairList (range 256)) (pairs-read base (path k) (open-below base (path k) held) (S .pairs) ends (B .pairs))
       ∙ sym (pairs-open (S .pairs) (path k .isOpen) tests (range 256))
       ∙ ap (λ (vs : List ℕ). pairList vs (S .pairs)) (sym (held .depots))
 

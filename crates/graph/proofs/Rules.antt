@@ -2,13 +2,14 @@
 use mathlib.Core.Path.{_≡_, refl, sym, _∙_}
 use mathlib.Core.Logic.{_⊎_, inl, inr}
 use mathlib.Core.Bool.{Bool, true, false, cond}
-use mathlib.Core.List.{List, [], _∷_, List·Memᴰ, List·Memᴰ·head, List·Memᴰ·tail}
+use mathlib.Core.List.{List, List·Memᴰ}
 use Prim.Native.Nat.{ℕ, _<_, min}
 use native.Mathlib.Nat.{lt-irrefl}
 use native.Mathlib.Omega.{arith}
 use lib.Dec.{T, eqb, ltb}
 use borrow.Author.Tests.{ltb-true, lt-ltb, not-false}
 use Rattle.lists.specs.Lists.{range, anyb, countb, maxOf}
+use Rattle.lists.proofs.Counts.{max-ext}
 use Rattle.lists.proofs.Tests.{look, clash, t→true, true→t}
 use Rattle.lists.proofs.Members.{any-intro}
 use Rattle.lists.proofs.Distinct.{memb-range, distinct-range, count-either}
@@ -26,11 +27,6 @@ degree-is G sound n below u =
     count-either (G .linked u) (vertices G) (range n) (sound .once) (distinct-range n)
     (λ v h. sym (sound .listed v) ∙ t→true (G .isOpen v) (sound .ends u v (true→t h)))
     (λ v h. memb-range n v ∙ lt-ltb v n (below v (sound .ends u v (true→t h))))
-
-max-ext : (f g : ℕ → ℕ) (xs : List ℕ) → ((x : ℕ) → List·Memᴰ x xs → f x ≡ g x) → maxOf f xs ≡ maxOf g xs
-unfolding maxOf
-max-ext f g [] h = refl
-max-ext f g (x ∷ xs) h = rw (h x (List·Memᴰ·head refl), max-ext f g xs (λ y m. h y (List·Memᴰ·tail m)))
 
 any-out : (p : ℕ → Bool) (xs : List ℕ) → anyb p xs ≡ false → (x : ℕ) → List·Memᴰ x xs → p x ≡ false
 any-out p xs e x m = go (look (p x))

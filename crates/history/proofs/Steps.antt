@@ -69,7 +69,7 @@ module _ (K : Shape) (shape : IsShape K) (G : Network) (held : IsHeld K G) (c : 
 
   tables-whole : longEnough K (feedOf K c .sizes) ≡ true → (tableWords K ≤ lentSize (tableWords K) (c .links)) × (tableWords K ≤ lentSize (tableWords K) (c .pairs))
   unfolding feedOf
-  tables-whole long = let fit = are-long K (feedOf K c .sizes) long in (fit .links-fit, fit .pairs-fit)
+  tables-whole long = let fit = are-long K (feedOf K c .sizes) long in (fit .links, fit .pairs)
 
   lent-written : longEnough K (feedOf K c .sizes) ≡ true → lentMap M c ≡ writeMap K G (lentMap M c)
   unfolding writeMap memoryFor

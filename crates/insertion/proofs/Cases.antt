@@ -6,7 +6,7 @@ use mathlib.Core.List.{List, []}
 use Prim.Native.Nat.{ℕ, _≤_, _<_}
 use native.Mathlib.Nat.{le-refl, lt-irrefl}
 use native.Mathlib.Omega.{arith}
-use lib.Dec.{T, eqb, ltb, lit<}
+use lib.Dec.{T, eqb, ltb}
 use lib.ListN.{length}
 use borrow.Author.Tests.{eqb-true, eq-eqb, ne-eqb, ltb-true, lt-ltb, le-ltb}
 use Rattle.lists.specs.Lists.{overwrite}
@@ -20,21 +20,21 @@ use Rattle.graph.specs.Correct.{IsNet}
 use Rattle.graph.proofs.Charts.{chart-metric, depot-in}
 use Rattle.rows.specs.Rows.{tableBit, encodeTable}
 use Rattle.map.specs.Room.{tables, Tables, Lent, lent}
-use Rattle.layers.specs.Layers.{Searched, searched, searchLeaves, searchTable}
-use Rattle.layers.proofs.Theorems.{table-depth, table-leaves, depth-is}
-use Rattle.map.specs.Memory.{base, networkOf}
+use Rattle.layers.specs.Layers.{searched, searchLeaves, searchTable}
+use Rattle.map.specs.Memory.{Shape, IsShape, places, networkOf}
 use Rattle.map.proofs.Theorems.{network-open-below}
 use Rattle.outcome.specs.declared.Change.the-variants.{Grew, Kept, Shrank}
 use Rattle.pairs.specs.Pairs.{Tally, tally, tallyOf, pairsWith, settleOf}
 use Rattle.stale_pairs.specs.Stale.{dropped, wayBy, dropOf}
 use Rattle.pairs.proofs.Tallies.{tally-ext, table-over}
+use Rattle.search.proofs.Accepts.{search-is}
 use Rattle.rounds.specs.Leaves.{Ran, ran, ranBy, roundsLeave}
 use Rattle.rounds.specs.Workspace.{lastRow}
 use Rattle.rounds.proofs.Holding.{leaves-over}
 use Rattle.rounds.proofs.Pairing.{own-pairs, settle-is}
-use Rattle.insertion.specs.Figured.{Figured, figured, figuredBy, IsFigurable}
+use Rattle.insertion.specs.Figured.{Figured, figured, figuredBy}
 use Rattle.bounds.specs.Once.{Marked, marking}
-use Rattle.insertion.specs.Steps.{markOnceIn, Joined, joined, joinOf, HoldsSearch, IsWhole}
+use Rattle.insertion.specs.Steps.{markOnceIn, Joined, joined, joinOf, HoldsSearch}
 use Rattle.insertion.proofs.Once.{once-leaves}
 use Rattle.insertion.proofs.Dropping.{left-is, candidate-is, none-left, some-left}
 use Rattle.insertion.proofs.Shrinking.{figured-over}
@@ -42,44 +42,20 @@ use Rattle.insertion.proofs.Shrinking.{figured-over}
 -- ---- the search
 
 -- over the tables T₀ it leaves T₁
-module _ (members links : List ℕ) (p b s : List ℕ) (a e : ℕ) (T₀ T₁ : Tables) where
+module _ (K : Shape) (shape : IsShape K) (members links : List ℕ) (p b s : List ℕ) (a e : ℕ) (T₀ T₁ : Tables) where
   abbrev H : Network
-  H = networkOf 4 members links
+  H = networkOf (K .words) members links
 
-  left-search : IsNet H → T (H .isOpen a) → searched e T₁ ≡ searchTable 4 links a T₀ → T₁ ≡ searchLeaves 4 H a T₀
-  unfolding searchTable networkOf
-  left-search net o q = ap (λ (X : Searched). X .left) q ∙ table-leaves H (net .sound) 256 (network-open-below 4 members links) (lit< tt) a o 4 links T₀ refl refl
-
-  -- the search over the table is the network's, and stands in the tables
-  pub search-stands : IsNet H → T (H .isOpen a) → searched e T₁ ≡ searchTable 4 links a T₀ → HoldsSearch base members links (lent p T₁ b s) a e
-  unfolding searchTable networkOf
-  search-stands net o q = record {
-    net = net;
-    present = o;
-    depth =
-        ap (λ (X : Searched). X .depth) q
-        ∙ table-depth H (net .sound) 256 (network-open-below 4 members links) (lit< tt) a o 4 links refl refl
-        ∙ depth-is H net a o;
-    stands = left-search net o q ∙ sym (ap (searchLeaves 4 H a) (left-search net o q) ∙ leaves-over 4 H a a T₀);
-  }
+  -- it stands in the tables
+  pub search-stands : IsNet H → T (H .isOpen a) → searched e T₁ ≡ searchTable (K .words) links a T₀ → HoldsSearch K members links (lent p T₁ b s) a e
+  search-stands net o q =
+      let is = search-is K shape members links net a o T₀ e T₁ q in
+      record { net = net; present = o; depth = is .0; stands = is .1 ∙ sym (ap (searchLeaves (K .words) H a) (is .1) ∙ leaves-over (K .words) H a a T₀) }
 
   -- what is answered by those tables is answered by the tables before
-  pub figured-first : (D : ℕ) (X : Figured) → IsNet H → T (H .isOpen a) → searched e T₁ ≡ searchTable 4 links a T₀ → X ≡ figuredBy base H a D (lent p T₁ b s) → X ≡ figuredBy base H a D (lent p T₀ b s)
-  figured-first D X net o q h = h ∙ ap (λ (Y : Tables). figuredBy base H a D (lent p Y b s)) (left-search net o q) ∙ figured-over base H a T₀ p b s D
-
--- tables of the same lengths are whole
-pub whole-first : (members links p b s : List ℕ) (a : ℕ) (T₀ T₁ : Tables) (D count : ℕ) → IsFigurable base members links (lent p T₀ b s) a D count
-    → length (T₁ .hops) ≡ length (T₀ .hops) → length (T₁ .even) ≡ length (T₀ .even) → length (T₁ .odd) ≡ length (T₀ .odd) → IsWhole base members links (lent p T₁ b s)
-whole-first members links p b s a T₀ T₁ D count F h x y = record {
-  table = F .table;
-  pairTable = F .pairTable;
-  hopPlaces = omega (arith, F .hopPlaces);
-  evenRow = omega (arith, F .evenRow);
-  oddRow = omega (arith, F .oddRow);
-  boundPlaces = F .boundPlaces;
-  skipPlaces = F .skipPlaces;
-  codeRow = F .codeRow;
-}
+  pub figured-first : (D : ℕ) (X : Figured) → IsNet H → T (H .isOpen a) → searched e T₁ ≡ searchTable (K .words) links a T₀ → X ≡ figuredBy K H a D (lent p T₁ b s) → X ≡ figuredBy K H a D (lent p T₀ b s)
+  figured-first D X net o q h =
+      h ∙ ap (λ (Y : Tables). figuredBy K H a D (lent p Y b s)) (search-is K shape members links net a o T₀ e T₁ q .1) ∙ figured-over K H a T₀ p b s D
 
 -- ---- a depot at distance 0 has no partner
 
@@ -128,60 +104,60 @@ join-same G net a o D P u v = rw (le-ltb D D (le-refl D), eq-eqb D D refl) (firs
 
 -- ---- the cases
 
-module _ (members links : List ℕ) (B : Lent) (a e D : ℕ) (I : HoldsSearch base members links B a e) where
+module _ (K : Shape) (members links : List ℕ) (B : Lent) (a e D : ℕ) (I : HoldsSearch K members links B a e) where
   abbrev G : Network
-  G = networkOf 4 members links
+  G = networkOf (K .words) members links
 
   abbrev P : Pairs
-  P = tableBit 4 (B .pairs)
+  P = tableBit (K .words) (B .pairs)
 
   abbrev Left : Pairs
-  Left = stayingPairs (via (chart (networkOf 4 members links)) a) D (tableBit 4 (B .pairs))
+  Left = stayingPairs (via (chart (networkOf (K .words) members links)) a) D (tableBit (K .words) (B .pairs))
 
-  below : (v : ℕ) → T (G .isOpen v) → v < 256
-  below = network-open-below 4 members links
+  below : (v : ℕ) → T (G .isOpen v) → v < places K
+  below = network-open-below (K .words) members links
 
   by-tests : (x y z : Bool) → ltb D (ecc (chart G) a) ≡ x → eqb (ecc (chart G) a) D ≡ y → anyPair (chart G .depots) Left ≡ z
-      → figured (openCase x y z (chart G) a D P .change) (ranBy base G (openCase x y z (chart G) a D P .final) B) ≡ figuredBy base G a D B
+      → figured (openCase x y z (chart G) a D P .change) (ranBy K G (openCase x y z (chart G) a D P .final) B) ≡ figuredBy K G a D B
   unfolding figuredBy opening
   by-tests x y z p q r = rw (p, q, r)
 
-  last-row : lastRow (ecc (chart G) a) (searchLeaves 4 G a (B .searched)) ≡ lastRow e (B .searched)
+  last-row : lastRow (ecc (chart G) a) (searchLeaves (K .words) G a (B .searched)) ≡ lastRow e (B .searched)
   last-row = ap₂ lastRow (sym (I .depth)) (sym (I .stands))
 
   -- the marks of a join, as those of the network's eccentricity
-  marks-are : (m m₀ : Marked) → m ≡ markOnceIn base a e m₀ → m ≡ markOnceIn base a (ecc (chart G) a) m₀
-  marks-are m m₀ h = h ∙ ap (λ (x : ℕ). markOnceIn base a x m₀) (I .depth)
+  marks-are : (m m₀ : Marked) → m ≡ markOnceIn K a e m₀ → m ≡ markOnceIn K a (ecc (chart G) a) m₀
+  marks-are m m₀ h = h ∙ ap (λ (x : ℕ). markOnceIn K a x m₀) (I .depth)
 
   -- e(a) > D: GREW
   pub grew-is : D < e → (count : ℕ) (p : List ℕ) (n : ℕ) (m : Marked)
-      → joined (tally p n) m ≡ joinOf base a e D (tables [] (B .searched .even) (B .searched .odd)) (joined (tally (B .pairs) count) (marking (B .bounds) (B .skips)))
-      → figured Grew (ran (lent p (B .searched) (m .bounds) (m .skips)) e n 1) ≡ figuredBy base G a D B
+      → joined (tally p n) m ≡ joinOf K a e D (tables [] (B .searched .even) (B .searched .odd)) (joined (tally (B .pairs) count) (marking (B .bounds) (B .skips)))
+      → figured Grew (ran (lent p (B .searched) (m .bounds) (m .skips)) e n 1) ≡ figuredBy K G a D B
   unfolding joinOf openCase settleOf
   grew-is l count p n m h =
       ap (λ (x : ℕ). figured Grew (ran (lent p (B .searched) (m .bounds) (m .skips)) x n 1)) (I .depth)
-      ∙ ap (figured Grew) (once-leaves base G a (I .present) (ecc (chart G) a) (ownPairs (chart G) a (ecc (chart G) a)) B p n m own (marks-are m (marking (B .bounds) (B .skips)) (ap (λ (J : Joined). J .marked) h)) (I .stands))
+      ∙ ap (figured Grew) (once-leaves K G a (I .present) (ecc (chart G) a) (ownPairs (chart G) a (ecc (chart G) a)) B p n m own (marks-are m (marking (B .bounds) (B .skips)) (ap (λ (J : Joined). J .marked) h)) (I .stands))
       ∙ by-tests true (eqb (ecc (chart G) a) D) (anyPair (chart G .depots) Left) (lt-ltb D (ecc (chart G) a) (subst (λ (x : ℕ). D < x) (I .depth) l)) refl refl
     where
-      settled : settleOf 4 (lastRow e (B .searched)) a e D (tally (B .pairs) count) ≡ tallyOf 4 (pairsWith 4 (lastRow e (B .searched)) a) (B .pairs)
+      settled : settleOf (K .words) (lastRow e (B .searched)) a e D (tally (B .pairs) count) ≡ tallyOf (K .words) (pairsWith (K .words) (lastRow e (B .searched)) a) (B .pairs)
       settled = rw (lt-ltb D e l)
 
-      own : tally p n ≡ tallyOf 4 (ownPairs (chart G) a (ecc (chart G) a)) (B .pairs)
+      own : tally p n ≡ tallyOf (K .words) (ownPairs (chart G) a (ecc (chart G) a)) (B .pairs)
       own =
           ap (λ (J : Joined). J .paired) h ∙ settled
-          ∙ ap (λ (r : List ℕ). tallyOf 4 (pairsWith 4 r a) (B .pairs)) (sym last-row)
-          ∙ tally-ext 4 (pairsWith 4 (lastRow (ecc (chart G) a) (searchLeaves 4 G a (B .searched))) a) (ownPairs (chart G) a (ecc (chart G) a)) (B .pairs) (own-pairs 4 G (I .net) a (I .present) (B .searched))
+          ∙ ap (λ (r : List ℕ). tallyOf (K .words) (pairsWith (K .words) r a) (B .pairs)) (sym last-row)
+          ∙ tally-ext (K .words) (pairsWith (K .words) (lastRow (ecc (chart G) a) (searchLeaves (K .words) G a (B .searched))) a) (ownPairs (chart G) a (ecc (chart G) a)) (B .pairs) (own-pairs (K .words) G (I .net) a (I .present) (B .searched))
 
   -- ---- the stale pairs are gone
 
-  module _ (ends : (u v : ℕ) → T (tableBit 4 (B .pairs) u v) → T (delivers (networkOf 4 members links) u) × T (delivers (networkOf 4 members links) v)) (low : e ≤ D) (t : List ℕ) (k w : ℕ) (drops : dropped (tally t k) w ≡ dropOf 4 (wayBy (B .searched .hops)) D (B .pairs)) where
-    drops-by : dropped (tally t k) w ≡ dropOf 4 (wayBy (searchLeaves 4 G a (B .searched) .hops)) D (B .pairs)
-    drops-by = drops ∙ ap (λ (T : Tables). dropOf 4 (wayBy (T .hops)) D (B .pairs)) (I .stands)
+  module _ (ends : (u v : ℕ) → T (tableBit (K .words) (B .pairs) u v) → T (delivers (networkOf (K .words) members links) u) × T (delivers (networkOf (K .words) members links) v)) (low : e ≤ D) (t : List ℕ) (k w : ℕ) (drops : dropped (tally t k) w ≡ dropOf (K .words) (wayBy (B .searched .hops)) D (B .pairs)) where
+    drops-by : dropped (tally t k) w ≡ dropOf (K .words) (wayBy (searchLeaves (K .words) G a (B .searched) .hops)) D (B .pairs)
+    drops-by = drops ∙ ap (λ (T : Tables). dropOf (K .words) (wayBy (T .hops)) D (B .pairs)) (I .stands)
 
-    tally-left : tally t k ≡ tallyOf 4 Left (B .pairs)
-    tally-left = left-is 4 G (I .net) below a (B .searched) D (B .pairs) ends drops-by
+    tally-left : tally t k ≡ tallyOf (K .words) Left (B .pairs)
+    tally-left = left-is (K .words) G (I .net) below a (B .searched) D (B .pairs) ends drops-by
 
-    table-left : t ≡ overwrite (encodeTable 4 Left) (B .pairs)
+    table-left : t ≡ overwrite (encodeTable (K .words) Left) (B .pairs)
     unfolding tallyOf
     table-left = ap (λ (x : Tally). x .pairs) tally-left
 
@@ -190,40 +166,40 @@ module _ (members links : List ℕ) (B : Lent) (a e D : ℕ) (I : HoldsSearch ba
 
     -- e(a) = D: KEPT, with a's own pairs
     pub equal-is : e ≡ D → (p : List ℕ) (n : ℕ) (m : Marked)
-        → joined (tally p n) m ≡ joinOf base a e D (tables [] (B .searched .even) (B .searched .odd)) (joined (tally t k) (marking (B .bounds) (B .skips)))
-        → figured Kept (ran (lent p (B .searched) (m .bounds) (m .skips)) D n 1) ≡ figuredBy base G a D B
+        → joined (tally p n) m ≡ joinOf K a e D (tables [] (B .searched .even) (B .searched .odd)) (joined (tally t k) (marking (B .bounds) (B .skips)))
+        → figured Kept (ran (lent p (B .searched) (m .bounds) (m .skips)) D n 1) ≡ figuredBy K G a D B
     unfolding joinOf openCase tallyOf
     equal-is q p n m h =
-        ap (figured Kept) (once-leaves base G a (I .present) D (λ u v. Left u v || ownPairs (chart G) a D u v) B p n m both (marks-are m (marking (B .bounds) (B .skips)) (ap (λ (J : Joined). J .marked) h)) (I .stands))
+        ap (figured Kept) (once-leaves K G a (I .present) D (λ u v. Left u v || ownPairs (chart G) a D u v) B p n m both (marks-are m (marking (B .bounds) (B .skips)) (ap (λ (J : Joined). J .marked) h)) (I .stands))
         ∙ by-tests false true (anyPair (chart G .depots) Left) not-above (eq-eqb (ecc (chart G) a) D (sym (I .depth) ∙ q)) refl
       where
-        both : tally p n ≡ tallyOf 4 (λ u v. Left u v || ownPairs (chart G) a D u v) (B .pairs)
+        both : tally p n ≡ tallyOf (K .words) (λ u v. Left u v || ownPairs (chart G) a D u v) (B .pairs)
         both =
             ap (λ (J : Joined). J .paired) h
-            ∙ ap₂ (λ (r : List ℕ) (x : ℕ). settleOf 4 r a x D (tally t k)) (sym last-row) (I .depth)
-            ∙ settle-is 4 G (I .net) a (I .present) (B .searched) D Left t (B .pairs) k table-left (ap (λ (x : Tally). x .count) tally-left)
-            ∙ tally-ext 4 (joinPairs (chart G) a (ecc (chart G) a) D Left) (λ u v. Left u v || ownPairs (chart G) a D u v) (B .pairs)
+            ∙ ap₂ (λ (r : List ℕ) (x : ℕ). settleOf (K .words) r a x D (tally t k)) (sym last-row) (I .depth)
+            ∙ settle-is (K .words) G (I .net) a (I .present) (B .searched) D Left t (B .pairs) k table-left (ap (λ (x : Tally). x .count) tally-left)
+            ∙ tally-ext (K .words) (joinPairs (chart G) a (ecc (chart G) a) D Left) (λ u v. Left u v || ownPairs (chart G) a D u v) (B .pairs)
             (λ u v lu lv. ap (λ (x : ℕ). joinPairs (chart G) a x D Left u v) (sym (I .depth) ∙ q) ∙ join-same G (I .net) a (I .present) D Left u v)
 
     -- e(a) < D, and a pair is left: KEPT
-    pub kept-is : (e ≡ D → ⊥) → (k ≡ 0 → ⊥) → (m : Marked) → m ≡ markOnceIn base a e (marking (B .bounds) (B .skips))
-        → figured Kept (ran (lent t (B .searched) (m .bounds) (m .skips)) D k 1) ≡ figuredBy base G a D B
+    pub kept-is : (e ≡ D → ⊥) → (k ≡ 0 → ⊥) → (m : Marked) → m ≡ markOnceIn K a e (marking (B .bounds) (B .skips))
+        → figured Kept (ran (lent t (B .searched) (m .bounds) (m .skips)) D k 1) ≡ figuredBy K G a D B
     unfolding openCase
     kept-is ne some m h =
-        ap (figured Kept) (once-leaves base G a (I .present) D Left B t k m tally-left (marks-are m (marking (B .bounds) (B .skips)) h) (I .stands))
-        ∙ by-tests false false true not-above (ne-eqb (ecc (chart G) a) D (λ q. ne (I .depth ∙ q))) (some-left 4 G (I .net) below a (B .searched) D (B .pairs) ends drops-by some)
+        ap (figured Kept) (once-leaves K G a (I .present) D Left B t k m tally-left (marks-are m (marking (B .bounds) (B .skips)) h) (I .stands))
+        ∙ by-tests false false true not-above (ne-eqb (ecc (chart G) a) D (λ q. ne (I .depth ∙ q))) (some-left (K .words) G (I .net) below a (B .searched) D (B .pairs) ends drops-by some)
 
     -- no pair is left: SHRANK
     pub shrank-is : (e ≡ D → ⊥) → k ≡ 0 → (R : Ran)
-        → R ≡ ranBy base G (rounds (chart G) (length (chart G .depots)) (round (chart G) a (start w))) (lent t (B .searched) (B .bounds) (B .skips))
-        → figured Shrank R ≡ figuredBy base G a D B
+        → R ≡ ranBy K G (rounds (chart G) (length (chart G .depots)) (round (chart G) a (start w))) (lent t (B .searched) (B .bounds) (B .skips))
+        → figured Shrank R ≡ figuredBy K G a D B
     unfolding openCase ranBy roundsLeave
     shrank-is ne z R h =
         ap (figured Shrank) (h ∙ over (rounds (chart G) (length (chart G .depots)) (round (chart G) a (start w)))
-        ∙ ap (λ (c : ℕ). ranBy base G (rounds (chart G) (length (chart G .depots)) (round (chart G) a (start c))) B) (candidate-is 4 G (I .net) below a (B .searched) D (B .pairs) ends drops-by))
-        ∙ by-tests false false false not-above (ne-eqb (ecc (chart G) a) D (λ q. ne (I .depth ∙ q))) (none-left 4 G (I .net) below a (B .searched) D (B .pairs) ends drops-by z)
+        ∙ ap (λ (c : ℕ). ranBy K G (rounds (chart G) (length (chart G .depots)) (round (chart G) a (start c))) B) (candidate-is (K .words) G (I .net) below a (B .searched) D (B .pairs) ends drops-by))
+        ∙ by-tests false false false not-above (ne-eqb (ecc (chart G) a) D (λ q. ne (I .depth ∙ q))) (none-left (K .words) G (I .net) below a (B .searched) D (B .pairs) ends drops-by z)
       where
-        over : (S : State) → ranBy base G S (lent t (B .searched) (B .bounds) (B .skips)) ≡ ranBy base G S B
+        over : (S : State) → ranBy K G S (lent t (B .searched) (B .bounds) (B .skips)) ≡ ranBy K G S B
         over S =
-            ap (λ (l : List ℕ). ran (lent l (roundsLeave base G S B .searched) (roundsLeave base G S B .bounds) (roundsLeave base G S B .skips)) (ranBy base G S B .chain) (ranBy base G S B .count) (ranBy base G S B .searches))
-            (ap (overwrite (encodeTable 4 (S .pairs))) table-left ∙ table-over 4 (S .pairs) Left (B .pairs))
+            ap (λ (l : List ℕ). ran (lent l (roundsLeave K G S B .searched) (roundsLeave K G S B .bounds) (roundsLeave K G S B .skips)) (ranBy K G S B .chain) (ranBy K G S B .count) (ranBy K G S B .searches))
+            (ap (overwrite (encodeTable (K .words) (S .pairs))) table-left ∙ table-over (K .words) (S .pairs) Left (B .pairs))

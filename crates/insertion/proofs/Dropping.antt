@@ -2,8 +2,8 @@
 use mathlib.Core.Path.{_≡_, refl, sym, ap, ap₂, _∙_}
 use mathlib.Core.Logic.{_⊎_, inl, inr}
 use mathlib.Core.Bool.{Bool, true, false, cond, not, _&&_}
-use mathlib.Core.List.{List, [], _∷_, List·Memᴰ, List·Memᴰ·head, List·Memᴰ·tail}
-use Prim.Native.Nat.{ℕ, _+_, _*_, _≤_, _<_, min, max}
+use mathlib.Core.List.{List, [], _∷_}
+use Prim.Native.Nat.{ℕ, _+_, _*_, _≤_, _<_, min}
 use native.Mathlib.Nat.{le-antisymm}
 use native.Mathlib.Omega.{arith}
 use lib.Dec.{T, ltb}
@@ -11,7 +11,7 @@ use lib.ListN.{getD}
 use Rattle.lists.specs.Lists.{range, anyb, maxOf}
 use Rattle.lists.proofs.Tests.{look, t→true, true→t, clash, and-true}
 use Rattle.lists.proofs.Members.{any-intro, any-elim, range-in, range-out}
-use Rattle.lists.proofs.Counts.{max-ge, max-le-of}
+use Rattle.lists.proofs.Counts.{max-ge, max-ext, max-le-of}
 use Rattle.lists.proofs.Fills.{fill-at}
 use Rattle.graph.specs.Network.{Network, delivers}
 use Rattle.graph.specs.Distance.{dist}
@@ -28,13 +28,6 @@ use Rattle.pairs.proofs.PairCounts.{pairs-none, pairs-zero}
 use Rattle.pairs.proofs.Tallies.{tally-ext}
 use Rattle.stale_pairs.proofs.Theorems.{drop-way}
 use Rattle.graph.proofs.Delivers.{delivers-open}
-
--- ---- the greatest of a list
-
-max-ext : (f g : ℕ → ℕ) (xs : List ℕ) → ((x : ℕ) → List·Memᴰ x xs → f x ≡ g x) → maxOf f xs ≡ maxOf g xs
-unfolding maxOf
-max-ext f g [] h = refl
-max-ext f g (x ∷ xs) h = ap₂ max (h x (List·Memᴰ·head refl)) (max-ext f g xs (λ y m. h y (List·Memᴰ·tail m)))
 
 -- ---- the stored pairs t, on the network G with the new depot a
 

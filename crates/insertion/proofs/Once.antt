@@ -17,7 +17,7 @@ use Rattle.graph.specs.Opening.{searchedOnce}
 use Rattle.rows.specs.Rows.{encodeTable}
 use Rattle.map.specs.Room.{Tables, Lent, lent}
 use Rattle.layers.specs.Layers.{searchLeaves}
-use Rattle.map.specs.Memory.{Shape, places, base}
+use Rattle.map.specs.Memory.{Shape, places}
 use Rattle.pairs.specs.Pairs.{Tally, tally, tallyOf, settleOf}
 use Rattle.rounds.specs.Leaves.{ran, ranBy, roundsLeave, searchAfter}
 use Rattle.rounds.specs.Workspace.{lastRow}
@@ -26,10 +26,10 @@ use Rattle.insertion.specs.Steps.{markOnceIn, Joined, joined, joinOf}
 
 -- ---- pairs and marks
 
-pub join-is : (a e D : ℕ) (T : Tables) (J : Joined) (t : Tally) (m : Marked) → t ≡ settleOf 4 (lastRow e T) a e D (J .paired) → m ≡ markOnceIn base a e (J .marked)
-    → joined t m ≡ joinOf base a e D T J
+pub join-is : (K : Shape) (a e D : ℕ) (T : Tables) (J : Joined) (t : Tally) (m : Marked) → t ≡ settleOf (K .words) (lastRow e T) a e D (J .paired) → m ≡ markOnceIn K a e (J .marked)
+    → joined t m ≡ joinOf K a e D T J
 unfolding joinOf
-join-is a e D T J t m p q = ap₂ joined p q
+join-is K a e D T J t m p q = ap₂ joined p q
 
 -- ---- the whole of such a call
 

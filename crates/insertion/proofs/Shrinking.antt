@@ -16,18 +16,17 @@ use Rattle.graph.proofs.Charts.{depot-in}
 use Rattle.rows.specs.Rows.{tableBit}
 use Rattle.map.specs.Room.{Tables, Lent, lent}
 use Rattle.layers.specs.Layers.{searchLeaves}
-use Rattle.map.specs.Memory.{Shape, base, networkOf}
+use Rattle.map.specs.Memory.{Shape, IsShape, places, networkOf}
 use Rattle.pairs.specs.Pairs.{Tally, tally, Counted}
 use Rattle.bounds.specs.Bounds.{Marks, marks}
 use Rattle.rounds.specs.Leaves.{ran, ranBy, roundsLeave, searchAfter}
-use Rattle.rounds.specs.Workspace.{Workspace, workspace, Absorbed, absorbed, absorbing, absorbOf, runOf, RoundsBegun, roundsBegun, roundsBeginOf}
+use Rattle.rounds.specs.Workspace.{Workspace, workspace, Absorbed, absorbed, absorbing, absorbOf, runOf, roundsBegun, roundsBeginOf}
 use Rattle.rounds.proofs.Holding.{Origin, Holds, leaves-over, after-snoc}
 use Rattle.rounds.proofs.Simulation.{Running, running-round, absorb}
-use Rattle.rounds.proofs.Finish.{start-holds, start-running, run-leaves, run-figures}
+use Rattle.rounds.proofs.Finish.{start-holds, start-running, run-is}
 use Rattle.pairs.proofs.Settling.{settle-counted}
 use Rattle.insertion.specs.Figured.{figured, figuredBy}
 use Rattle.insertion.specs.Steps.{HoldsSearch}
-use Rattle.map.proofs.Theorems.{base-shape}
 
 -- ---- the pairs are counted at each call
 
@@ -39,12 +38,12 @@ absorbed-counted W mark r e T A p n m c k h =
 
 -- ---- the rounds
 
-module _ (members links : List ℕ) (B : Lent) (a e way : ℕ) (row : List ℕ) (I : HoldsSearch base members links B a e) (low : way ≤ unreached) where
+module _ (K : Shape) (shape : IsShape K) (members links : List ℕ) (B : Lent) (a e way : ℕ) (row : List ℕ) (I : HoldsSearch K members links B a e) (low : way ≤ unreached) where
   abbrev G : Network
-  G = networkOf 4 members links
+  G = networkOf (K .words) members links
 
   abbrev S₁ : State
-  S₁ = round (chart (networkOf 4 members links)) a (start way)
+  S₁ = round (chart (networkOf (K .words) members links)) a (start way)
 
   abbrev O : Origin
   O = record { searched = B .searched; pairs = B .pairs; bounds = B .bounds; skips = B .skips; waiting = row }
@@ -53,42 +52,35 @@ module _ (members links : List ℕ) (B : Lent) (a e way : ℕ) (row : List ℕ) 
   unfolding start memb anyb
   fresh = refl
 
-  running : Running 4 256 257 (base-shape .most) members links (I .net) S₁
+  running : Running (K .words) (K .searchedMark) (K .otherMark) (shape .most) members links (I .net) S₁
   running =
-      running-round 4 256 257 (base-shape .most) members links (I .net) (start way) a (start-running base base-shape members links (I .net) way low)
+      running-round (K .words) (K .searchedMark) (K .otherMark) (shape .most) members links (I .net) (start way) a (start-running K shape members links (I .net) way low)
       (depot-in G (I .net) a (I .present)) fresh
 
-  module _ (p b s w : List ℕ) (begins : roundsBegun p (marks b s w) ≡ roundsBeginOf 4 257 members (roundsBegun (B .pairs) (marks (B .bounds) (B .skips) row))) where
+  module _ (p b s w : List ℕ) (begins : roundsBegun p (marks b s w) ≡ roundsBeginOf (K .words) (K .otherMark) members (roundsBegun (B .pairs) (marks (B .bounds) (B .skips) row))) where
     abbrev M : Workspace
     M = workspace (B .searched) (tally p 0) (marks b s w) way 0
 
-    begun-holds : Holds 4 256 257 G O (start way) M
-    unfolding roundsBeginOf
-    begun-holds =
-        start-holds base base-shape members links (I .net) way O p b s w
-        (ap (λ (X : RoundsBegun). X .pairs) begins) (ap (λ (X : RoundsBegun). X .marked .bounds) begins) (ap (λ (X : RoundsBegun). X .marked .skips) begins) (ap (λ (X : RoundsBegun). X .marked .waiting) begins)
+    begun-holds : Holds (K .words) (K .searchedMark) (K .otherMark) G O (start way) M
+    begun-holds = start-holds K shape members links (I .net) way O p b s w begins
 
-    module _ (t : Tally) (m : Marks) (c : ℕ) (takes : absorbed t m c ≡ absorbing 4 256 a e (B .searched) (absorbed (tally p 0) (marks b s w) way)) where
-      taken-in : absorbOf 4 256 a (ecc (chart G) a) (searchLeaves 4 G a (B .searched)) M ≡ workspace (B .searched) t m c 1
+    module _ (t : Tally) (m : Marks) (c : ℕ) (takes : absorbed t m c ≡ absorbing (K .words) (K .searchedMark) a e (B .searched) (absorbed (tally p 0) (marks b s w) way)) where
+      taken-in : absorbOf (K .words) (K .searchedMark) a (ecc (chart G) a) (searchLeaves (K .words) G a (B .searched)) M ≡ workspace (B .searched) t m c 1
       unfolding absorbOf
       taken-in =
-          ap₂ (λ (x : ℕ) (T : Tables). absorbOf 4 256 a x T M) (sym (I .depth)) (sym (I .stands))
+          ap₂ (λ (x : ℕ) (T : Tables). absorbOf (K .words) (K .searchedMark) a x T M) (sym (I .depth)) (sym (I .stands))
           ∙ ap (λ (A : Absorbed). workspace (B .searched) (A .paired) (A .marked) (A .candidate) 1) (sym takes)
 
-      first-holds : Holds 4 256 257 G O S₁ (workspace (B .searched) t m c 1)
+      first-holds : Holds (K .words) (K .searchedMark) (K .otherMark) G O S₁ (workspace (B .searched) t m c 1)
       first-holds =
-          subst (Holds 4 256 257 G O S₁) taken-in
-          (absorb 4 256 257 (base-shape .most) members links (I .net) O (start way) M begun-holds (start-running base base-shape members links (I .net) way low) a (depot-in G (I .net) a (I .present)) fresh)
+          subst (Holds (K .words) (K .searchedMark) (K .otherMark) G O S₁) taken-in
+          (absorb (K .words) (K .searchedMark) (K .otherMark) (shape .most) members links (I .net) O (start way) M begun-holds (start-running K shape members links (I .net) way low) a (depot-in G (I .net) a (I .present)) fresh)
 
       -- WHAT THE THREE CALLS LEAVE: the network's rounds after the one from a
-      pub shrink-is : (T : Tables) (t′ : Tally) (m′ : Marks) (c′ n : ℕ) → workspace T t′ m′ c′ n ≡ runOf 4 links 256 256 (workspace (B .searched) t m c 1)
-          → ran (lent (t′ .pairs) T (m′ .bounds) (m′ .skips)) c′ (t′ .count) n ≡ ranBy base G (rounds (chart G) (length (chart G .depots)) S₁) B
-      unfolding ranBy
+      pub shrink-is : (T : Tables) (t′ : Tally) (m′ : Marks) (c′ n : ℕ) → workspace T t′ m′ c′ n ≡ runOf (K .words) links (K .searchedMark) (places K) (workspace (B .searched) t m c 1)
+          → ran (lent (t′ .pairs) T (m′ .bounds) (m′ .skips)) c′ (t′ .count) n ≡ ranBy K G (rounds (chart G) (length (chart G .depots)) S₁) B
       shrink-is T t′ m′ c′ n q =
-          let f = run-figures base base-shape members links (I .net) S₁ running O (workspace (B .searched) t m c 1) (workspace T t′ m′ c′ n) first-holds q in
-          let g = run-leaves base base-shape members links (I .net) S₁ running O (workspace (B .searched) t m c 1) (workspace T t′ m′ c′ n) first-holds q in
-          ap₂ (λ (X : Lent) (x : ℕ). ran X x (t′ .count) n) g (f .0)
-          ∙ ap₂ (λ (x y : ℕ). ran (roundsLeave base G (rounds (chart G) (length (chart G .depots)) S₁) B) (rounds (chart G) (length (chart G .depots)) S₁ .candidate) x y) (f .1) (f .2)
+          run-is K shape members links (I .net) S₁ running O (workspace (B .searched) t m c 1) (workspace T t′ m′ c′ n) first-holds q
 
 -- ---- over tables that held another search
 

@@ -11,7 +11,7 @@ use Rattle.graph.specs.Chart.{chart, countPairs}
 use Rattle.graph.specs.Opening.{opening}
 use Rattle.graph.specs.Correct.{IsNet}
 use Rattle.rows.specs.Rows.{tableBit}
-use Rattle.map.specs.Memory.{Shape, places, tableWords, networkOf}
+use Rattle.map.specs.Memory.{Shape, places, networkOf}
 use Rattle.map.specs.Room.{Lent}
 use Rattle.rounds.specs.Leaves.{Ran, ranBy}
 use Rattle.outcome.specs.declared.Change.{Change}
@@ -29,15 +29,9 @@ figuredBy K H a D B =
     let x = opening (chart H) a D (tableBit (K .words) (B .pairs)) in
     figured (x .change) (ranBy K H (x .final) B)
 
--- what the step asks: whole tables; a sound, connected network with the open depot a; stored pairs that join open codes, as many as the count
+-- what the step asks beside long tables: an open set of a row; a sound, connected network with the open depot a; stored pairs that join open codes,
+-- as many as the count
 pub record IsFigurable (K : Shape) (members links : List ℕ) (B : Lent) (a D count : ℕ) : Type 0 where
-  pub table : tableWords K ≤ length links
-  pub pairTable : tableWords K ≤ length (B .pairs)
-  pub hopPlaces : places K ≤ length (B .searched .hops)
-  pub evenRow : K .words ≤ length (B .searched .even)
-  pub oddRow : K .words ≤ length (B .searched .odd)
-  pub boundPlaces : places K ≤ length (B .bounds)
-  pub skipPlaces : places K ≤ length (B .skips)
   pub codeRow : K .words ≤ length members
   pub net : IsNet (networkOf (K .words) members links)
   pub present : T (networkOf (K .words) members links .isOpen a)

@@ -3,15 +3,14 @@
 -- Assumes nothing.
 use mathlib.Core.Path.{_≡_}
 use mathlib.Core.List.{List}
-use Prim.Native.Nat.{ℕ, _≤_}
+use Prim.Native.Nat.{ℕ}
 use lib.Dec.{T}
-use lib.ListN.{length}
 use Rattle.graph.specs.Chart.{chart, ecc}
 use Rattle.graph.specs.Correct.{IsNet}
 use Rattle.rows.specs.Rows.{tableBit}
 use Rattle.map.specs.Room.{Tables, Lent}
 use Rattle.layers.specs.Layers.{searchLeaves}
-use Rattle.map.specs.Memory.{Shape, places, tableWords, networkOf}
+use Rattle.map.specs.Memory.{Shape, networkOf}
 use Rattle.pairs.specs.Pairs.{Tally, settleOf}
 use Rattle.bounds.specs.Once.{Marked, markOnce as marksOnce}
 use Rattle.rounds.specs.Workspace.{lastRow}
@@ -42,17 +41,6 @@ pub record HoldsSearch (K : Shape) (members links : List ℕ) (B : Lent) (a e : 
   pub present : T (networkOf (K .words) members links .isOpen a)
   pub depth : e ≡ ecc (chart (networkOf (K .words) members links)) a
   pub stands : B .searched ≡ searchLeaves (K .words) (networkOf (K .words) members links) a (B .searched)
-
--- every table is whole
-pub record IsWhole (K : Shape) (members links : List ℕ) (B : Lent) : Type 0 where
-  pub table : tableWords K ≤ length links
-  pub pairTable : tableWords K ≤ length (B .pairs)
-  pub hopPlaces : places K ≤ length (B .searched .hops)
-  pub evenRow : K .words ≤ length (B .searched .even)
-  pub oddRow : K .words ≤ length (B .searched .odd)
-  pub boundPlaces : places K ≤ length (B .bounds)
-  pub skipPlaces : places K ≤ length (B .skips)
-  pub codeRow : K .words ≤ length members
 
 -- the stored pairs join open codes
 pub record AreOpen (K : Shape) (members links pairs : List ℕ) : Type 0 where

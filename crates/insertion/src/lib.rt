@@ -5,15 +5,14 @@ ghost use Prim.Native.Nat.{_<_, _≤_};
 ghost use lib.ListN.{length};
 ghost use Rattle.graph.specs.Chart.{chart};
 ghost use Rattle.graph.specs.Rounds.{round, rounds, start};
-ghost use Rattle.map.specs.Room.{tables};
-ghost use Rattle.layers.specs.Layers.{searched, searchTable};
+ghost use Rattle.map.specs.Room.{tables, AreLong};
 ghost use Rattle.map.specs.Memory.{base, places, networkOf};
 ghost use Rattle.pairs.specs.Pairs.{tally, Counted};
 ghost use Rattle.rounds.specs.Leaves.{ran, ranBy};
-ghost use Rattle.map.specs.Slices.{tablesBefore, tablesAfter, lentAt, lentBefore, lentAfter};
+ghost use Rattle.map.specs.Slices.{lentAt, lentBefore, lentAfter, sizesAt};
 ghost use Rattle.insertion.specs.Figured.{figured, figuredBy, IsFigurable};
 ghost use Rattle.bounds.specs.Once.{marking};
-ghost use Rattle.insertion.specs.Steps.{joined, joinOf, HoldsSearch, IsWhole, AreOpen};
+ghost use Rattle.insertion.specs.Steps.{joined, joinOf, HoldsSearch, AreOpen};
 use outcome::Change;
 use rounds::RoundFigures;
 
@@ -73,7 +72,8 @@ fn shrink(
     way: u16,
 ) -> RoundFigures
     requires { let given = lentAt pairs hops bounds skips even odd in
-        ⌜ IsWhole base (now members) (now links) given
+        ⌜ AreLong base (sizesAt links pairs hops bounds skips even odd)
+        × (base .words ≤ length (now members))
         × HoldsSearch base (now members) (now links) given a e
         × (a < places base) ⌝ }
     ensures { λ t.
@@ -151,7 +151,8 @@ fn settle_low(
     chain: u16,
 ) -> Figures
     requires { let given = lentAt pairs hops bounds skips even odd in
-        ⌜ IsWhole base (now members) (now links) given
+        ⌜ AreLong base (sizesAt links pairs hops bounds skips even odd)
+        × (base .words ≤ length (now members))
         × AreOpen base (now members) (now links) (now pairs)
         × HoldsSearch base (now members) (now links) given a e
         × (a < places base)
@@ -218,7 +219,9 @@ pub fn refigure(
     count: u32,
 ) -> Figures
     requires { let given = lentAt pairs hops bounds skips even odd in
-        ⌜ IsFigurable base (now members) (now links) given a chain count × (a < places base) ⌝ }
+        ⌜ AreLong base (sizesAt links pairs hops bounds skips even odd)
+        × IsFigurable base (now members) (now links) given a chain count
+        × (a < places base) ⌝ }
     ensures { λ r.
         let before = lentBefore pairs hops bounds skips even odd in
         let after = lentAfter pairs hops bounds skips even odd in

@@ -7,7 +7,7 @@ use lib.Dec.{eqb, ltb}
 use Rattle.lists.specs.Lists.{range, mapl, maxOf, overwrite}
 use Rattle.graph.specs.Network.{Network}
 use Rattle.graph.specs.Distance.{vertices, unreached, dist}
-use Rattle.rows.specs.Rows.{tableBit, encodeRow}
+use Rattle.rows.specs.Rows.{encodeRow}
 use Rattle.map.specs.Memory.{tableNetwork}
 use Rattle.map.specs.Room.{Tables}
 

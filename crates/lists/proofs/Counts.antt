@@ -26,6 +26,11 @@ module _ {ℓ} {A : Type ℓ} where
       go (inl h) ih = let e : f x ≡ f y = ap f h in omega arith
       go (inr n) ih = let e : f x ≤ maxOf f ys = ih n in omega arith
 
+  pub max-ext : (f g : A → ℕ) (xs : List A) → ((x : A) → List·Memᴰ x xs → f x ≡ g x) → maxOf f xs ≡ maxOf g xs
+  unfolding maxOf
+  max-ext f g [] h = refl
+  max-ext f g (x ∷ xs) h = rw (h x (List·Memᴰ·head refl), max-ext f g xs (λ y m. h y (List·Memᴰ·tail m)))
+
   pub max-le-of : (f : A → ℕ) (xs : List A) (b : ℕ) → ((x : A) → List·Memᴰ x xs → f x ≤ b) → maxOf f xs ≤ b
   unfolding maxOf
   max-le-of f [] b h = zero-le

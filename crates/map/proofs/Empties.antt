@@ -15,7 +15,7 @@ use Rattle.words.specs.Bits.{bit, wordOf}
 use Rattle.words.proofs.Bits.{bit-of-zero, wordOf-none}
 use Rattle.rows.specs.Rows.{rowBit, tableBit, encodeRow, encodeTable}
 use Rattle.rows.proofs.Written.{row-in, row-past, table-read}
-use Rattle.map.specs.Memory.{base}
+use Rattle.map.specs.Memory.{Shape, tableWords, base}
 use Rattle.map.specs.Empty.{zeros, emptyRecord, emptyRefusal, emptyGiven, emptyCall}
 use Rattle.map.specs.declared.Record.{Record}
 use Rattle.map.specs.declared.Emptying.the-variants.{Done, Refused}
@@ -53,17 +53,17 @@ pub none-record : record { members = 0 ∷ 0 ∷ 0 ∷ 0 ∷ []; number = 0; cha
 unfolding emptyRecord zeros mapl range from
 none-record = refl
 
-module _ (rec : Record) (links pairs : List ℕ) where
-  pub short-links : length links < 1024 → record { answer = Refused 1; after = rec; links = links; pairs = pairs } ≡ emptyCall base rec links pairs
+module _ (K : Shape) (rec : Record) (links pairs : List ℕ) where
+  pub short-links : length links < tableWords K → record { answer = Refused 1; after = rec; links = links; pairs = pairs } ≡ emptyCall K rec links pairs
   unfolding emptyCall emptyGiven emptyRefusal firstOf
-  short-links h = simp (lt-leb 1024 (length links) h)
+  short-links h = simp (lt-leb (tableWords K) (length links) h)
 
-  pub short-pairs : length pairs < 1024 → record { answer = Refused 1; after = rec; links = links; pairs = pairs } ≡ emptyCall base rec links pairs
+  pub short-pairs : length pairs < tableWords K → record { answer = Refused 1; after = rec; links = links; pairs = pairs } ≡ emptyCall K rec links pairs
   unfolding emptyCall emptyGiven emptyRefusal firstOf
-  short-pairs h = simp (lt-leb 1024 (length pairs) h, and-false)
+  short-pairs h = simp (lt-leb (tableWords K) (length pairs) h, and-false)
 
-  pub both-cleared : {none : Record} {l p : List ℕ} → 1024 ≤ length links → 1024 ≤ length pairs → none ≡ emptyRecord (base .words)
-      → l ≡ overwrite (encodeRow 1024 (λ v. false)) links → p ≡ overwrite (encodeRow 1024 (λ v. false)) pairs
-      → record { answer = Done; after = none; links = l; pairs = p } ≡ emptyCall base rec links pairs
+  pub both-cleared : {none : Record} {l p : List ℕ} → tableWords K ≤ length links → tableWords K ≤ length pairs → none ≡ emptyRecord (K .words)
+      → l ≡ overwrite (encodeRow (tableWords K) (λ v. false)) links → p ≡ overwrite (encodeRow (tableWords K) (λ v. false)) pairs
+      → record { answer = Done; after = none; links = l; pairs = p } ≡ emptyCall K rec links pairs
   unfolding emptyCall emptyGiven emptyRefusal firstOf
-  both-cleared h k n e f = rw (le-leb 1024 (length links) h, le-leb 1024 (length pairs) k, n, e, f, none-zeros 1024)
+  both-cleared h k n e f = rw (le-leb (tableWords K) (length links) h, le-leb (tableWords K) (length pairs) k, n, e, f, none-zeros (tableWords K))

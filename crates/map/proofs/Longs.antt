@@ -1,26 +1,15 @@
 -- The seven sizes, by the code's seven tests. Assumes nothing.
 use mathlib.Core.Path.{_≡_}
 use mathlib.Core.Bool.{true, false, _&&_, and-assoc, and-true as and-with-true}
+use mathlib.Core.List.{List}
 use Prim.Native.Nat.{ℕ, _≤_, _<_}
 use lib.Dec.{leb}
 use borrow.Author.Tests.{leb-true, le-leb, lt-leb}
-use Rattle.lists.proofs.Tests.{and-true}
-use Rattle.map.specs.Memory.{Shape, places, tableWords}
-use Rattle.map.specs.Room.{Sizes, sizes, longEnough}
-use mathlib.Core.List.{List}
-use Rattle.lists.proofs.Conditions.{allFit}
-use Rattle.map.specs.Room.{Lent, sizesOf, roundsBuffers}
 use Rattle.lists.specs.Lists.{allb}
-
--- every buffer has its named size
-pub record AreLong (K : Shape) (z : Sizes) : Type 0 where
-  pub links-fit : tableWords K ≤ z .links
-  pub pairs-fit : tableWords K ≤ z .pairs
-  pub hops-fit : places K ≤ z .hops
-  pub bounds-fit : places K ≤ z .bounds
-  pub skips-fit : places K ≤ z .skips
-  pub even-fit : K .words ≤ z .even
-  pub odd-fit : K .words ≤ z .odd
+use Rattle.lists.proofs.Tests.{and-true}
+use Rattle.lists.proofs.Conditions.{allFit}
+use Rattle.map.specs.Memory.{Shape, places, tableWords}
+use Rattle.map.specs.Room.{Lent, Sizes, sizes, sizesOf, AreLong, longEnough, roundsBuffers}
 
 pub are-long : (K : Shape) (z : Sizes) → longEnough K z ≡ true → AreLong K z
 unfolding longEnough
@@ -39,13 +28,13 @@ are-long K z h =
     let g2 = and-true (a && b) c (g3 .0) in
     let g1 = and-true a b (g2 .0) in
     record {
-      links-fit = leb-true (tableWords K) (z .links) (g1 .0);
-      pairs-fit = leb-true (tableWords K) (z .pairs) (g1 .1);
-      hops-fit = leb-true (places K) (z .hops) (g2 .1);
-      bounds-fit = leb-true (places K) (z .bounds) (g3 .1);
-      skips-fit = leb-true (places K) (z .skips) (g4 .1);
-      even-fit = leb-true (K .words) (z .even) (g5 .1);
-      odd-fit = leb-true (K .words) (z .odd) (g6 .1);
+      links = leb-true (tableWords K) (z .links) (g1 .0);
+      pairs = leb-true (tableWords K) (z .pairs) (g1 .1);
+      hops = leb-true (places K) (z .hops) (g2 .1);
+      bounds = leb-true (places K) (z .bounds) (g3 .1);
+      skips = leb-true (places K) (z .skips) (g4 .1);
+      even = leb-true (K .words) (z .even) (g5 .1);
+      odd = leb-true (K .words) (z .odd) (g6 .1);
     }
 
 module _ (K : Shape) (l p h b s e o : ℕ) where

@@ -3,7 +3,7 @@
 -- Assumes nothing.
 use mathlib.Core.Bool.{Bool, _&&_}
 use mathlib.Core.List.{List, [], _∷_}
-use Prim.Native.Nat.{ℕ}
+use Prim.Native.Nat.{ℕ, _≤_}
 use lib.Dec.{leb}
 use lib.ListN.{length}
 use Rattle.map.specs.Memory.{Shape, places, tableWords}
@@ -51,7 +51,16 @@ sizesOf links B = record {
   odd = length (B .searched .odd);
 }
 
--- every buffer has its named size
+-- every buffer has its named size: as a fact, and as a test
+pub record AreLong (K : Shape) (z : Sizes) : Type 0 where
+  pub links : tableWords K ≤ z .links
+  pub pairs : tableWords K ≤ z .pairs
+  pub hops : places K ≤ z .hops
+  pub bounds : places K ≤ z .bounds
+  pub skips : places K ≤ z .skips
+  pub even : K .words ≤ z .even
+  pub odd : K .words ≤ z .odd
+
 unfoldable pub longEnough : Shape → Sizes → Bool
 longEnough K s =
     leb (tableWords K) (s .links)

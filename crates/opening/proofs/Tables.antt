@@ -1,14 +1,11 @@
 -- WHAT AN ACCEPTED OPENING LEAVES IN EVERY TABLE, by the published words. Assumes nothing.
 use mathlib.Core.Path.{_≡_, refl, sym, ap, _∙_, subst}
-use mathlib.Core.List.{List, _∷_}
+use mathlib.Core.List.{List}
 use Prim.Native.Nat.{ℕ, zero, _<_}
 use lib.Dec.{T}
 use lib.ListN.{drop}
-use Rattle.lists.specs.Lists.{memb, lastOr}
-use Rattle.lists.proofs.Tests.{true→t}
 use Rattle.lists.proofs.Fills.{length-fill}
 use Rattle.graph.specs.Network.{Network}
-use Rattle.graph.specs.Chart.{chart, ecc}
 use Rattle.graph.specs.Rounds.{State}
 use Rattle.graph.specs.Opening as Graph
 use Rattle.graph.specs.Opening.{Notice, Opened}
@@ -18,17 +15,11 @@ use Rattle.rows.specs.Rows.{tableBit}
 use Rattle.rows.proofs.Written.{encode-table-length}
 use Rattle.map.specs.Memory.{Shape, IsShape, places, mapNetwork}
 use Rattle.map.specs.declared.Record.{Record}
-use Rattle.search.specs.SearchCall.{searchLeft}
-use Rattle.search.specs.Demand2.{IsSearch}
-use Rattle.search.specs.declared.Found.the-variants.{Reached}
-use Rattle.search.proofs.Theorems.{leaves-search, over-keeps}
-use Rattle.map.specs.Room.{Lent, sizesOf}
-use Rattle.rounds.specs.Leaves.{searchAfter, roundsLeave}
-use Rattle.map.proofs.Longs.{AreLong, are-long}
-use Rattle.reckon.proofs.Marks.{last-memb, bound-ecc}
-use Rattle.reckon.proofs.Skips.{skip-bound, closed-at, waiting-at}
-use Rattle.outcome.specs.declared.Change.{Change}
-use Rattle.outcome.specs.declared.Change.the-variants.{Grew, Kept, Shrank}
+use Rattle.search.proofs.Theorems.{over-keeps}
+use Rattle.map.specs.Room.{Lent, sizesOf, AreLong}
+use Rattle.rounds.specs.Leaves.{roundsLeave}
+use Rattle.map.proofs.Longs.{are-long}
+use Rattle.rounds.proofs.Reading.{skip-bound, closed-at, waiting-at, bound-ecc, last-search}
 use Rattle.outcome.specs.declared.Outcome.the-variants.{Accepted}
 use Rattle.update.specs.UpdateCall.{updateRefusal, networkAfter, updatedBy, updateGiven, updateCall, referencesBy, referencesOf}
 use Rattle.opening.specs.Tables.{AreTables, LeavesTables}
@@ -67,16 +58,6 @@ module _ (K : Shape) (shape : IsShape K) (rec : Record) (links : List ℕ) (B : 
       (granted-room K shape rec links (B .pairs) (sizesOf links B) (opens o) ok) (granted-notice K shape rec links (B .pairs) (sizesOf links B) (opens o) ok)
       (rec .chain) (granted-chain K shape rec links (B .pairs) (sizesOf links B) (opens o) ok) (tableBit (K .words) (B .pairs))
 
-  -- the last search
-  last-search : (rs : List ℕ) → S .references ≡ o .code ∷ rs
-      → (e : ℕ) × IsSearch K H (lastOr (o .code) rs) (B .searched) (searchLeft (Reached e) (searchAfter (K .words) H (S .references) (B .searched)))
-  unfolding searchAfter sizesOf
-  last-search rs q =
-      let s = lastOr (o .code) rs in
-      let m : T (memb s (S .references)) = true→t (ap (λ (l : List ℕ). memb s l) q ∙ last-memb (o .code) rs) in
-      let left = leaves-search K H (held .net) below s (references .inside s m) (B .searched) (long .hops-fit) (long .even-fit) (long .odd-fit) in
-      (ecc (chart H) s, subst (λ (l : List ℕ). IsSearch K H s (B .searched) (searchLeft (Reached (ecc (chart H) s)) (searchAfter (K .words) H l (B .searched)))) (sym q) left)
-
   given-tables : AreTables K H (o .code) (S .references) links B (updateGiven zero K rec links B (opens o))
   unfolding updateGiven roundsLeave sizesOf
   given-tables = record {
@@ -85,15 +66,15 @@ module _ (K : Shape) (shape : IsShape K) (rec : Record) (links : List ℕ) (B : 
     later = says .first .0;
     first = says .first .1;
     once = λ n. ap (drop 1) (sym (says .first .1) ∙ says .once (λ q. n (ap Accepted q)) .only);
-    eccentricity = bound-ecc K H (held .net .sound) below shape S references (B .bounds);
+    eccentricity = bound-ecc K H S shape below references (B .bounds);
     skipped = λ q v ov. skip-bound K H S (B .skips) (B .bounds) (says .skipped (changed-shrank (x .change) q)) v (below v ov) ov;
     others = λ n v l d. waiting-at K H S (B .skips) (B .bounds) v l (says .once (λ q. n (ap Accepted q)) .others v d);
     closed = closed-at K H S (B .skips) (B .bounds);
-    searched = last-search (says .first .0) (says .first .1);
-    linksKept = over-keeps _ _ links (encode-table-length (K .words) (H .linked)) (long .links-fit);
-    pairsKept = over-keeps _ _ (B .pairs) (encode-table-length (K .words) (S .pairs)) (long .pairs-fit);
-    boundsKept = over-keeps _ _ (B .bounds) (length-fill _ (places K)) (long .bounds-fit);
-    skipsKept = over-keeps _ _ (B .skips) (length-fill _ (places K)) (long .skips-fit);
+    searched = last-search K H (held .net) below S references links B long (o .code) (says .first .0) (says .first .1);
+    linksKept = over-keeps _ _ links (encode-table-length (K .words) (H .linked)) (long .links);
+    pairsKept = over-keeps _ _ (B .pairs) (encode-table-length (K .words) (S .pairs)) (long .pairs);
+    boundsKept = over-keeps _ _ (B .bounds) (length-fill _ (places K)) (long .bounds);
+    skipsKept = over-keeps _ _ (B .skips) (length-fill _ (places K)) (long .skips);
   }
 
   call-tables : AreTables K (networkAfter K rec links (opens o)) (o .code) (referencesOf K rec links B (opens o)) links B (updateCall K rec links B (opens o))

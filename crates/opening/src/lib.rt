@@ -8,7 +8,6 @@ ghost use Rattle.lists.specs.Lists.{overwrite};
 ghost use Rattle.rows.specs.Rows.{rowBit, encodeRow};
 ghost use Rattle.graph.specs.Updates.{opens};
 ghost use Rattle.map.specs.Memory.{base};
-ghost use Rattle.map.specs.Room.{sizes};
 ghost use Rattle.map.specs.Slices.{lentBefore, lentAfter, sizesAt};
 ghost use Rattle.update.specs.UpdateCall.{updateRefusal, updateLeft, updateGiven, updateCall};
 ghost use Rattle.graph.specs.Opening.{noticeOf};

@@ -1,33 +1,29 @@
 -- The refusals of a reckoning, and what an accepted one leaves. Assumes nothing.
 use mathlib.Core.Path.{_≡_, refl, ap, _∙_}
-use mathlib.Core.Bool.{true, false, not, Bool}
+use mathlib.Core.Bool.{true, false, Bool}
 use mathlib.Core.List.{List, []}
-use Prim.Native.Nat.{ℕ, zero, suc, _*_, _<_}
+use Prim.Native.Nat.{ℕ, zero, suc, _*_}
 use native.Mathlib.Omega.{arith}
 use lib.ListN.{length}
-use borrow.Author.Tests.{not-false}
-use Rattle.lists.proofs.Members.{first-zero}
-use Rattle.graph.specs.Network.{Network, IsSound}
-use Rattle.graph.specs.Distance.{vertices, unreached, connected}
+use Rattle.graph.specs.Network.{Network}
+use Rattle.graph.specs.Distance.{connected}
 use Rattle.graph.specs.Chart.{chart}
 use Rattle.graph.specs.Rounds.{start, reckon}
 use Rattle.graph.specs.Correct.{IsNet}
-use Rattle.graph.proofs.Connected.{connected-iff}
-use Rattle.map.specs.Room.{tables, Lent, lent, Sizes, sizes, sizesOf, longEnough}
+use Rattle.map.specs.Room.{tables, Lent, lent, Sizes, sizes, sizesOf, longEnough, AreLong}
 use Rattle.map.specs.Memory.{Shape, IsShape, places, networkOf, mapNetwork}
-use Rattle.map.proofs.Theorems.{network-most}
 use Rattle.checks.specs.Sound.{soundLinks}
 use Rattle.map.specs.declared.Record.{Record}
-use Rattle.checks.proofs.Theorems.{sound-links-iff}
 use Rattle.pairs.specs.Pairs.{tally}
 use Rattle.bounds.specs.Bounds.{marks}
 use Rattle.rounds.specs.Leaves.{Ran, ran, ranBy}
-use Rattle.rounds.specs.Workspace.{Workspace, workspace, runOf, RoundsBegun, roundsBegun, roundsBeginOf}
+use Rattle.rounds.specs.Workspace.{Workspace, workspace, runOf, roundsBegun, roundsBeginOf}
 use Rattle.rounds.proofs.Holding.{Origin}
-use Rattle.rounds.proofs.Finish.{start-holds, start-running, run-leaves, run-figures}
+use Rattle.rounds.proofs.Finish.{start-holds, start-running, run-is}
 use Rattle.reckon.specs.ReckonCall.{reckonRefusal, figuredBy, reckonLeft, reckonGiven, reckonCall}
 use Rattle.reckon.specs.declared.Reckoning.the-variants.{Searches, Refused}
-use Rattle.map.proofs.Longs.{AreLong, are-long}
+use Rattle.map.proofs.Longs.{are-long}
+use Rattle.lent_map.proofs.Passes.{IsPassed, lent-passed, passed-net}
 use Rattle.lent_map.specs.Faults.{lentFaults, lentRefusal}
 
 -- ---- the refusals
@@ -42,24 +38,18 @@ module _ (K : Shape) (rec : Record) (links : List ℕ) (z : Sizes) where
   refused-map q e = e ∙ ap (λ (b : Bool). lentRefusal K b false rec links links) q
 
   -- none holds: whole buffers, and a network that a map can hold
-  pub granted-long : reckonRefusal K rec links z ≡ 0 → AreLong K z
+  passed : reckonRefusal K rec links z ≡ 0 → IsPassed K (longEnough K z) false rec links [] []
   unfolding reckonRefusal lentRefusal lentFaults
-  granted-long e = are-long K z (not-false (longEnough K z) (first-zero (not (longEnough K z)) 0 _ e .0))
+  passed e = lent-passed K (longEnough K z) false rec links [] [] e
+
+  pub granted-long : reckonRefusal K rec links z ≡ 0 → AreLong K z
+  granted-long e = are-long K z (passed e .whole)
 
   pub granted-tests : reckonRefusal K rec links z ≡ 0 → (soundLinks (places K) (mapNetwork K rec links) (rec .number) ≡ true) × (connected (mapNetwork K rec links) ≡ true)
-  unfolding reckonRefusal lentRefusal lentFaults
-  granted-tests e =
-      let a = first-zero (not (longEnough K z)) 0 _ e in
-      let b = first-zero (not (soundLinks (places K) G (rec .number))) 1 _ (a .1) in
-      let c = first-zero (not (connected G)) 2 [] (b .1) in
-      (not-false (soundLinks (places K) G (rec .number)) (b .0), not-false (connected G) (c .0))
+  granted-tests e = (passed e .linked, passed e .joined)
 
   pub granted-net : IsShape K → reckonRefusal K rec links z ≡ 0 → IsNet (mapNetwork K rec links)
-  granted-net shape e =
-      let t = granted-tests e in
-      let s : IsSound G = sound-links-iff (K .words) (rec .members) links (rec .number) .0 (t .0) .isSound in
-      let m : length (vertices G) < unreached = omega (arith, network-most (K .words) (rec .members) links, shape .most) in
-      record { sound = s; connected = connected-iff G s m .0 (t .1); small = m }
+  granted-net shape e = passed-net K (longEnough K z) false rec links [] [] shape (passed e)
 
 -- ---- the whole reckoning of a network, from the two calls
 
@@ -70,14 +60,11 @@ module _ (K : Shape) (shape : IsShape K) (members links : List ℕ) (net : IsNet
   pub reckoned-is : (B : Lent) (row pairs bounds skips waiting : List ℕ) (M′ : Workspace) → roundsBegun pairs (marks bounds skips waiting) ≡ roundsBeginOf (K .words) (K .otherMark) members (roundsBegun (B .pairs) (marks (B .bounds) (B .skips) row))
       → M′ ≡ runOf (K .words) links (K .searchedMark) (64 * K .words) (workspace (B .searched) (tally pairs 0) (marks bounds skips waiting) 0 0)
       → ran (lent (M′ .paired .pairs) (M′ .searched) (M′ .marked .bounds) (M′ .marked .skips)) (M′ .candidate) (M′ .paired .count) (M′ .searches) ≡ ranBy K (networkOf (K .words) members links) (reckon (chart (networkOf (K .words) members links))) B
-  unfolding ranBy reckon roundsBeginOf
+  unfolding reckon
   reckoned-is B row pairs bounds skips waiting M′ b e =
       let O : Origin = record { searched = B .searched; pairs = B .pairs; bounds = B .bounds; skips = B .skips; waiting = row } in
-      let M : Workspace = workspace (B .searched) (tally pairs 0) (marks bounds skips waiting) 0 0 in
-      let H = start-holds K shape members links net 0 O pairs bounds skips waiting (ap (λ (x : RoundsBegun). x .pairs) b) (ap (λ (x : RoundsBegun). x .marked .bounds) b) (ap (λ (x : RoundsBegun). x .marked .skips) b) (ap (λ (x : RoundsBegun). x .marked .waiting) b) in
-      let R = start-running K shape members links net 0 (omega arith) in
-      let figures = run-figures K shape members links net (start 0) R O M M′ H e in
-      rw (run-leaves K shape members links net (start 0) R O M M′ H e, figures .0, figures .1, figures .2)
+      run-is K shape members links net (start 0) (start-running K shape members links net 0 (omega arith)) O (workspace (B .searched) (tally pairs 0) (marks bounds skips waiting) 0 0) M′
+      (start-holds K shape members links net 0 O pairs bounds skips waiting b) e
 
 -- ---- the call
 

@@ -2,42 +2,36 @@
 use mathlib.Core.Path.{_≡_, refl, sym, ap, _∙_, subst}
 use mathlib.Core.Logic.{_↔_}
 use mathlib.Core.Bool.{Bool, false}
-use mathlib.Core.List.{List, [], _∷_}
+use mathlib.Core.List.{List, []}
 use Prim.Native.Nat.{ℕ, zero, suc, _<_}
 use native.Mathlib.Omega.{arith}
 use lib.Dec.{T}
 use lib.ListN.{length}
-use Rattle.lists.specs.Lists.{range, memb, lastOr}
-use Rattle.lists.proofs.Tests.{true→t}
+use Rattle.lists.specs.Lists.{range}
 use Rattle.lists.proofs.Conditions.{decides-short, refuses-by}
 use Rattle.lists.proofs.Fills.{length-fill}
 use Rattle.graph.specs.Network.{Network, IsFarthest, delivers}
 use Rattle.graph.specs.Distance.{vertices}
-use Rattle.graph.specs.Chart.{chart, ecc, countPairs}
+use Rattle.graph.specs.Chart.{chart, countPairs}
 use Rattle.graph.specs.Rounds.{State, reckon}
 use Rattle.graph.specs.Correct.{IsNet, IsReckoned}
 use Rattle.graph.proofs.Theorems.{reckoning-correct}
 use Rattle.graph.proofs.Skipped.{reckoning-skipped}
+use Rattle.graph.proofs.Delivers.{delivers-open}
 use Rattle.rows.proofs.Written.{table-at, encode-table-length}
-use Rattle.map.specs.Room.{Tables, Lent, sizesOf, roundsBuffers, longEnough}
-use Rattle.layers.specs.Layers.{searchLeaves}
+use Rattle.map.specs.Room.{Lent, sizesOf, roundsBuffers, longEnough, AreLong}
 use Rattle.map.specs.Memory.{Shape, IsShape, places, base, mapNetwork}
 use Rattle.map.specs.declared.Record.{Record}
 use Rattle.map.proofs.Theorems.{network-open-below, network-length, base-shape}
 use Rattle.checks.proofs.Theorems.{sound-links-iff}
-use Rattle.search.specs.SearchCall.{searchLeft}
-use Rattle.search.specs.Demand2.{IsSearch}
-use Rattle.search.specs.declared.Found.the-variants.{Reached}
-use Rattle.search.proofs.Theorems.{leaves-search, over-keeps}
+use Rattle.search.proofs.Theorems.{over-keeps}
 use Rattle.rounds.specs.Leaves.{roundsLeave, searchAfter}
 use Rattle.reckon.specs.ReckonCall.{reckonRefusal, figuredBy, reckonGiven, reckonCall, reckoningNumber}
 use Rattle.reckon.specs.Refusals.{reckonConditions, ReckonDemand1}
 use Rattle.reckon.specs.Demand2.{IsReckoning, ReckonDemand2}
 use Rattle.reckon.specs.declared.Reckoning.the-variants.{Refused}
-use Rattle.map.proofs.Longs.{AreLong}
 use Rattle.reckon.proofs.Reckons.{granted-long, granted-tests, granted-net}
-use Rattle.reckon.proofs.Marks.{last-memb, pairs-read, skip-marks, skips-counted, few-searches, bound-ecc}
-use Rattle.reckon.proofs.Skips.{skip-bound, closed-at}
+use Rattle.rounds.proofs.Reading.{pairs-read, skip-bound, closed-at, skip-marks, skips-counted, bound-ecc, few-searches, last-search}
 use Rattle.map.proofs.Longs.{long-is}
 use Rattle.lent_map.proofs.Refuses.{lent-tells}
 use Rattle.lent_map.specs.Faults.{lentRefusal, lentFaults}
@@ -66,19 +60,7 @@ module _ (K : Shape) (shape : IsShape K) (rec : Record) (links : List ℕ) (B : 
       sound-links-iff (K .words) (rec .members) links (rec .number) .0 (granted-tests K rec links (sizesOf links B) ok .0) .counted
       ∙ sym (network-length (K .words) (rec .members) links)
 
-  -- ---- the last search
-
-  after-last : (r : ℕ) (rs : List ℕ) → S .references ≡ r ∷ rs → searchAfter (K .words) G (S .references) (B .searched) ≡ searchLeaves (K .words) G (lastOr r rs) (B .searched)
-  unfolding searchAfter
-  after-last r rs q = ap (λ (l : List ℕ). searchAfter (K .words) G l (B .searched)) q
-
-  last-search : (r : ℕ) (rs : List ℕ) → S .references ≡ r ∷ rs → (e : ℕ) × IsSearch K G (lastOr r rs) (B .searched) (searchLeft (Reached e) (searchAfter (K .words) G (S .references) (B .searched)))
-  unfolding sizesOf
-  last-search r rs q =
-      let s = lastOr r rs in
-      let m : T (memb s (S .references)) = true→t (ap (λ (l : List ℕ). memb s l) q ∙ last-memb r rs) in
-      let left = leaves-search K G net below s (correct .references .inside s m) (B .searched) (long .hops-fit) (long .even-fit) (long .odd-fit) in
-      (ecc (chart G) s, subst (λ (t : Tables). IsSearch K G s (B .searched) (searchLeft (Reached (ecc (chart G) s)) t)) (sym (after-last r rs q)) left)
+  -- ---- without a search
 
   no-search : S .references ≡ [] → searchAfter (K .words) G (S .references) (B .searched) ≡ B .searched
   unfolding searchAfter
@@ -86,28 +68,31 @@ module _ (K : Shape) (shape : IsShape K) (rec : Record) (links : List ℕ) (B : 
 
   -- ---- AN ACCEPTED RECKONING
 
+  ends : (u v : ℕ) → T (S .pairs u v) → T (G .isOpen u) × T (G .isOpen v)
+  ends u v t = let f = correct .figures .pairs u v .0 t in (delivers-open G u (f .first), delivers-open G v (f .second))
+
   given-reckoning : IsReckoning K G rec B (S .references) (reckonGiven zero K rec links B)
   unfolding reckonGiven figuredBy roundsLeave sizesOf
   given-reckoning = record {
     chain = correct .figures .chain;
     pairs = λ u v p q. subst (λ (b : Bool). T b ↔ IsFarthest G (delivers G) u v) (sym (table-at (K .words) (S .pairs) (B .pairs) u v p q)) (correct .figures .pairs u v);
-    count = ap (countPairs (range (places K))) (sym (pairs-read K G (net .sound) below (S .pairs) (B .pairs) (correct .figures .pairs)));
+    count = ap (countPairs (range (places K))) (sym (pairs-read K G below (S .pairs) ends (B .pairs)));
     members = refl;
     number = refl;
     accepted = refl;
-    marked = skips-counted K G (net .sound) below shape S (correct .references) (B .skips);
-    bounded = omega (arith, few-searches K G (net .sound) below shape S (correct .references), number-is);
-    marks = skip-marks K G (net .sound) below shape S (correct .references) (B .skips);
+    marked = skips-counted K G S shape below (correct .references) (net .sound) (B .skips);
+    bounded = omega (arith, few-searches G S (correct .references), number-is);
+    marks = skip-marks K G S shape below (correct .references) (B .skips);
     inside = correct .references .inside;
     cover = correct .cover;
-    eccentricity = bound-ecc K G (net .sound) below shape S (correct .references) (B .bounds);
+    eccentricity = bound-ecc K G S shape below (correct .references) (B .bounds);
     skipped = λ v o. skip-bound K G S (B .skips) (B .bounds) (reckoning-skipped G net) v (below v o) o;
     closed = closed-at K G S (B .skips) (B .bounds);
-    searched = last-search;
+    searched = last-search K G net below S (correct .references) links B long;
     unsearched = no-search;
-    pairsKept = over-keeps _ _ (B .pairs) (encode-table-length (K .words) (S .pairs)) (long .pairs-fit);
-    boundsKept = over-keeps _ _ (B .bounds) (length-fill _ (places K)) (long .bounds-fit);
-    skipsKept = over-keeps _ _ (B .skips) (length-fill _ (places K)) (long .skips-fit);
+    pairsKept = over-keeps _ _ (B .pairs) (encode-table-length (K .words) (S .pairs)) (long .pairs);
+    boundsKept = over-keeps _ _ (B .bounds) (length-fill _ (places K)) (long .bounds);
+    skipsKept = over-keeps _ _ (B .skips) (length-fill _ (places K)) (long .skips);
   }
 
   call-reckoning : IsReckoning K (mapNetwork K rec links) rec B (reckon (chart (mapNetwork K rec links)) .references) (reckonCall K rec links B)

@@ -5,10 +5,10 @@ ghost use lib.ListN.{length};
 ghost use Rattle.graph.specs.Chart.{chart};
 ghost use Rattle.graph.specs.Rounds.{reckon};
 ghost use Rattle.graph.specs.Correct.{IsNet};
-ghost use Rattle.map.specs.Memory.{base, places, tableWords, networkOf};
+ghost use Rattle.map.specs.Memory.{base, networkOf};
 ghost use Rattle.rounds.specs.Leaves.{ran, ranBy};
-ghost use Rattle.map.specs.Room.{sizes};
-ghost use Rattle.map.specs.Slices.{lentBefore, lentAfter};
+ghost use Rattle.map.specs.Room.{sizes, AreLong};
+ghost use Rattle.map.specs.Slices.{lentBefore, lentAfter, sizesAt};
 ghost use Rattle.reckon.specs.ReckonCall.{reckonRefusal, reckonLeft, reckonCall};
 use map::Record;
 use rounds::RoundFigures;
@@ -53,13 +53,7 @@ fn reckon_map(
     even: &mut [u64],
     odd: &mut [u64],
 ) -> RoundFigures
-    requires { ⌜ (tableWords base ≤ length (now links))
-        × (tableWords base ≤ length (now pairs))
-        × (places base ≤ length (now hops))
-        × (places base ≤ length (now bounds))
-        × (places base ≤ length (now skips))
-        × (base .words ≤ length (now even))
-        × (base .words ≤ length (now odd))
+    requires { ⌜ AreLong base (sizesAt links pairs hops bounds skips even odd)
         × (base .words ≤ length (now members))
         × IsNet (networkOf (base .words) (now members) (now links)) ⌝ }
     ensures { λ t.

@@ -9,7 +9,7 @@ use native.Mathlib.Nat.{le-of-lt, le-refl, suc-add, zero-add}
 use native.Mathlib.Omega.{arith}
 use lib.Dec.{eqb}
 use lib.ListN.{length}
-use Rattle.lists.specs.Lists.{range, mapl, countb, overwrite}
+use Rattle.lists.specs.Lists.{range, countb, overwrite}
 use Rattle.lists.proofs.Tests.{look, true→t, clash}
 use Rattle.lists.proofs.Members.{filter-out}
 use Rattle.lists.proofs.Counts.{count-le-length, count-none, sum-none}
@@ -30,8 +30,8 @@ use Rattle.map.proofs.Theorems.{network-most}
 use Rattle.pairs.specs.Pairs.{tally}
 use Rattle.bounds.specs.Bounds.{marks}
 use Rattle.map.specs.Room.{lent}
-use Rattle.rounds.specs.Leaves.{searchAfter, roundsLeave}
-use Rattle.rounds.specs.Workspace.{Workspace, workspace, runOf}
+use Rattle.rounds.specs.Leaves.{searchAfter, roundsLeave, ran, ranBy}
+use Rattle.rounds.specs.Workspace.{Workspace, workspace, runOf, RoundsBegun, roundsBegun, roundsBeginOf}
 use Rattle.rounds.proofs.Holding.{runBound, runMark, Origin, boundPlace, skipPlace, waitingPlace, Holds}
 use Rattle.rounds.proofs.Simulation.{Running, run-holds}
 
@@ -55,18 +55,17 @@ module _ (K : Shape) (shape : IsShape K) (members links : List ℕ) (net : IsNet
   abbrev G : Network
   G = networkOf (K .words) members links
 
-  pub start-holds : (c : ℕ) (O : Origin) (pairs bounds skips row : List ℕ) → pairs ≡ overwrite (encodeTable W (λ u v. false)) (O .pairs)
-      → bounds ≡ overwrite (mapl (λ v. unreached) (range (64 * W))) (O .bounds) → skips ≡ overwrite (mapl (λ v. K .otherMark) (range (64 * W))) (O .skips)
-      → row ≡ overwrite (encodeRow W (rowBit W members)) (O .waiting)
+  pub start-holds : (c : ℕ) (O : Origin) (pairs bounds skips row : List ℕ)
+      → roundsBegun pairs (marks bounds skips row) ≡ roundsBeginOf W (K .otherMark) members (roundsBegun (O .pairs) (marks (O .bounds) (O .skips) (O .waiting)))
       → Holds W (K .searchedMark) (K .otherMark) G O (start c) (workspace (O .searched) (tally pairs 0) (marks bounds skips row) c 0)
-  unfolding start searchAfter boundPlace skipPlace waitingPlace networkOf
-  start-holds c O pairs bounds skips row p b s w = record {
+  unfolding start searchAfter boundPlace skipPlace waitingPlace networkOf roundsBeginOf
+  start-holds c O pairs bounds skips row begins = record {
     tables-are = refl;
-    pairs-are = p;
+    pairs-are = ap (λ (x : RoundsBegun). x .pairs) begins;
     count-is = sym (count-no-pairs (64 * W));
-    bounds-are = b ∙ ap (λ (r : List ℕ). overwrite r (O .bounds)) (fill-ext (λ v. unreached) (λ v. cond (rowBit W members v) unreached unreached) (64 * W) (λ v m. sym (same (rowBit W members v) unreached)));
-    skips-are = s ∙ ap (λ (r : List ℕ). overwrite r (O .skips)) (fill-ext (λ v. K .otherMark) (λ v. cond (rowBit W members v) (cond (eqb unreached unreached) (K .otherMark) 0) (K .otherMark)) (64 * W) (λ v m. sym (same (rowBit W members v) (K .otherMark))));
-    waiting-is = w ∙ ap (λ (r : List ℕ). overwrite r (O .waiting)) (encode-row-ext W (rowBit W members) (λ v. rowBit W members v && true) (λ v m. sym (and-true-right (rowBit W members v))));
+    bounds-are = ap (λ (x : RoundsBegun). x .marked .bounds) begins ∙ ap (λ (r : List ℕ). overwrite r (O .bounds)) (fill-ext (λ v. unreached) (λ v. cond (rowBit W members v) unreached unreached) (64 * W) (λ v m. sym (same (rowBit W members v) unreached)));
+    skips-are = ap (λ (x : RoundsBegun). x .marked .skips) begins ∙ ap (λ (r : List ℕ). overwrite r (O .skips)) (fill-ext (λ v. K .otherMark) (λ v. cond (rowBit W members v) (cond (eqb unreached unreached) (K .otherMark) 0) (K .otherMark)) (64 * W) (λ v m. sym (same (rowBit W members v) (K .otherMark))));
+    waiting-is = ap (λ (x : RoundsBegun). x .marked .waiting) begins ∙ ap (λ (r : List ℕ). overwrite r (O .waiting)) (encode-row-ext W (rowBit W members) (λ v. rowBit W members v && true) (λ v m. sym (and-true-right (rowBit W members v))));
     candidate-is = refl;
     searches-are = refl;
   }
@@ -136,42 +135,39 @@ module _ (K : Shape) (shape : IsShape K) (members links : List ℕ) (net : IsNet
         let e : 64 * W ≡ length (chart G .depots) + (64 * W - length (chart G .depots)) = omega (arith, depots-few) in
         ap (λ (n : ℕ). rounds (chart G) n S₀) e ∙ rounds-more (length (chart G .depots)) (64 * W - length (chart G .depots)) S₀ none-picked
 
+    bound-end : (v : ℕ) → (G .isOpen v ≡ true) ⊎ (G .isOpen v ≡ false) → cond (G .isOpen v) (runBound (S .status v)) unreached ≡ cond (G .isOpen v) (boundOf (S .status v)) unreached
+    bound-end v (inr q) = rw q
+    bound-end v (inl q) = rw q (at (S .status v) (none-waits v q))
+      where
+        at : (s : Status) → isWaiting s ≡ false → runBound s ≡ boundOf s
+        at (waiting b g) w = absurd (clash refl w)
+        at (skipped b g) w = refl
+        at (searched e) w = refl
+
+    skip-end : (v : ℕ) → (G .isOpen v ≡ true) ⊎ (G .isOpen v ≡ false) → cond (G .isOpen v) (runMark (K .searchedMark) (K .otherMark) (S .status v)) (K .otherMark) ≡ cond (G .isOpen v) (markOf (K .searchedMark) (K .otherMark) (S .status v)) (K .otherMark)
+    skip-end v (inr q) = rw q
+    skip-end v (inl q) = rw q (at (S .status v) (none-waits v q))
+      where
+        at : (s : Status) → isWaiting s ≡ false → runMark (K .searchedMark) (K .otherMark) s ≡ markOf (K .searchedMark) (K .otherMark) s
+        at (waiting b g) w = absurd (clash refl w)
+        at (skipped b g) w = refl
+        at (searched e) w = refl
+
     -- WHAT THE CODE'S ROUNDS LEAVE
-    pub run-leaves : (O : Origin) (M M′ : Workspace) → Holds W (K .searchedMark) (K .otherMark) G O S₀ M → M′ ≡ runOf W links (K .searchedMark) (64 * W) M
-        → lent (M′ .paired .pairs) (M′ .searched) (M′ .marked .bounds) (M′ .marked .skips) ≡ roundsLeave K G S (lent (O .pairs) (O .searched) (O .bounds) (O .skips))
-    unfolding roundsLeave boundPlace skipPlace
-    run-leaves O M M′ H e =
+    pub run-is : (O : Origin) (M M′ : Workspace) → Holds W (K .searchedMark) (K .otherMark) G O S₀ M → M′ ≡ runOf W links (K .searchedMark) (64 * W) M
+        → ran (lent (M′ .paired .pairs) (M′ .searched) (M′ .marked .bounds) (M′ .marked .skips)) (M′ .candidate) (M′ .paired .count) (M′ .searches)
+        ≡ ranBy K G S (lent (O .pairs) (O .searched) (O .bounds) (O .skips))
+    unfolding ranBy roundsLeave boundPlace skipPlace
+    run-is O M M′ H e =
         rw (
           end .pairs-are,
           end .tables-are,
           end .bounds-are ∙ ap (λ (r : List ℕ). overwrite r (O .bounds)) (fill-ext (boundPlace G S) (λ v. cond (G .isOpen v) (boundOf (S .status v)) unreached) (64 * W) (λ v m. bound-end v (look (G .isOpen v)))),
           end .skips-are ∙ ap (λ (r : List ℕ). overwrite r (O .skips)) (fill-ext (skipPlace (K .searchedMark) (K .otherMark) G S) (λ v. cond (G .isOpen v) (markOf (K .searchedMark) (K .otherMark) (S .status v)) (K .otherMark)) (64 * W) (λ v m. skip-end v (look (G .isOpen v)))),
+          end .candidate-is,
+          end .count-is,
+          end .searches-are,
         )
-      where
-        end : Holds W (K .searchedMark) (K .otherMark) G O S M′
-        end = subst (Holds W (K .searchedMark) (K .otherMark) G O S) (sym e) (subst (λ (X : State). Holds W (K .searchedMark) (K .otherMark) G O X (runOf W links (K .searchedMark) (64 * W) M)) enough (run-holds W (K .searchedMark) (K .otherMark) (shape .most) members links net (64 * W) O S₀ M H R .0))
-
-        bound-end : (v : ℕ) → (G .isOpen v ≡ true) ⊎ (G .isOpen v ≡ false) → cond (G .isOpen v) (runBound (S .status v)) unreached ≡ cond (G .isOpen v) (boundOf (S .status v)) unreached
-        bound-end v (inr q) = rw q
-        bound-end v (inl q) = rw q (at (S .status v) (none-waits v q))
-          where
-            at : (s : Status) → isWaiting s ≡ false → runBound s ≡ boundOf s
-            at (waiting b g) w = absurd (clash refl w)
-            at (skipped b g) w = refl
-            at (searched e) w = refl
-
-        skip-end : (v : ℕ) → (G .isOpen v ≡ true) ⊎ (G .isOpen v ≡ false) → cond (G .isOpen v) (runMark (K .searchedMark) (K .otherMark) (S .status v)) (K .otherMark) ≡ cond (G .isOpen v) (markOf (K .searchedMark) (K .otherMark) (S .status v)) (K .otherMark)
-        skip-end v (inr q) = rw q
-        skip-end v (inl q) = rw q (at (S .status v) (none-waits v q))
-          where
-            at : (s : Status) → isWaiting s ≡ false → runMark (K .searchedMark) (K .otherMark) s ≡ markOf (K .searchedMark) (K .otherMark) s
-            at (waiting b g) w = absurd (clash refl w)
-            at (skipped b g) w = refl
-            at (searched e) w = refl
-
-    pub run-figures : (O : Origin) (M M′ : Workspace) → Holds W (K .searchedMark) (K .otherMark) G O S₀ M → M′ ≡ runOf W links (K .searchedMark) (64 * W) M
-        → (M′ .candidate ≡ S .candidate) × (M′ .paired .count ≡ countPairs (range (64 * W)) (S .pairs)) × (M′ .searches ≡ length (S .references))
-    run-figures O M M′ H e = (end .candidate-is, end .count-is, end .searches-are)
       where
         end : Holds W (K .searchedMark) (K .otherMark) G O S M′
         end = subst (Holds W (K .searchedMark) (K .otherMark) G O S) (sym e) (subst (λ (X : State). Holds W (K .searchedMark) (K .otherMark) G O X (runOf W links (K .searchedMark) (64 * W) M)) enough (run-holds W (K .searchedMark) (K .otherMark) (shape .most) members links net (64 * W) O S₀ M H R .0))

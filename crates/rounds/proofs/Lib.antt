@@ -10,3 +10,5 @@ pub mod Simulation
 pub mod Finish
 -- the code's functions put together
 pub mod Turns
+-- the tables that they leave, read back
+pub mod Reading

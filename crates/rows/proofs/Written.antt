@@ -6,12 +6,12 @@ use mathlib.Core.List.{List}
 use Prim.Native.Nat.{ℕ, _+_, _*_, _/_, _%_, _≤_, _<_}
 use native.Mathlib.Nat.{mod-lt, zero-lt-suc, div-add-mod}
 use native.Mathlib.Omega.{arith}
-use lib.Dec.{ltb}
+use lib.Dec.{T, ltb}
 use lib.ListN.{length, getD, take, drop}
 use lib.Seq.{getD-take, getD-drop}
 use borrow.Author.Tests.{ltb-true, lt-ltb, le-ltb}
 use Rattle.lists.specs.Lists.{overwrite}
-use Rattle.lists.proofs.Tests.{look}
+use Rattle.lists.proofs.Tests.{look, true→t, and-intro}
 use Rattle.lists.proofs.Fills.{length-fill, fill-at}
 use Rattle.words.specs.Bits.{bit, wordOf}
 use Rattle.words.proofs.Bits.{bit-wordOf}
@@ -151,3 +151,21 @@ table-read W f old u v = go (look (ltb u (64 * W))) (look (ltb v (64 * W)))
     go (inl d) (inl e) = table-at W f old u v (ltb-true u (64 * W) d) (ltb-true v (64 * W) e) ∙ sym (ap₂ (λ (b c : Bool). b && c && f u v) d e)
     go (inl d) (inr e) = rw (d, e)
     go (inr d) e = rw d
+
+-- ---- what lies within the places is read whole
+
+-- a test that implies its guard needs none
+unguarded : (g x : Bool) → (x ≡ true → g ≡ true) → (g && x) ≡ x
+unguarded true x h = refl
+unguarded false true h = h refl
+unguarded false false h = refl
+
+pub row-within : (W : ℕ) (f : ℕ → Bool) (old : List ℕ) → ((v : ℕ) → T (f v) → v < 64 * W) → (v : ℕ) → rowBit W (overwrite (encodeRow W f) old) v ≡ f v
+row-within W f old low v = row-read W f old v ∙ unguarded (ltb v (64 * W)) (f v) (λ e. lt-ltb v (64 * W) (low v (true→t e)))
+
+pub table-within : (W : ℕ) (f : ℕ → ℕ → Bool) (old : List ℕ) → ((u v : ℕ) → T (f u v) → (u < 64 * W) × (v < 64 * W)) → (u v : ℕ)
+    → tableBit W (overwrite (encodeTable W f) old) u v ≡ f u v
+table-within W f old low u v =
+    table-read W f old u v
+    ∙ unguarded (ltb u (64 * W) && ltb v (64 * W)) (f u v)
+    (λ e. let l = low u v (true→t e) in and-intro (lt-ltb u (64 * W) (l .0)) (lt-ltb v (64 * W) (l .1)))

@@ -33,7 +33,8 @@ use Rattle.search.specs.SearchCall.{searchRefusal, SearchLeft, searchLef
 use Rattle.search.specs.Refusals.{searchBuffers, searchConditions, SearchDemand1}
 use Rattle.search.specs.Demand2.{HoldsLayer, HoldsBefore, KeepsPast, IsSearch, SearchDemand2}
 use Rattle.search.specs.declared.Found.the-variants.{Reached}
-use Rattle.search.proofs.Accepts.{granted, accepted-net}
+use Rattle.outcome.specs.Numbers.{absentCode}
+use Rattle.search.proofs.Accepts.{granted}
 use Rattle.map.specs.Room.{longEnough}
 use Rattle.lent_map.proofs.Refuses.{lent-tells}
 use Rattle.search.specs.SearchCall.{searchSizes}
@@ -53,11 +54,11 @@ unfolding searchCall searchRefusal searchGiven
 search-refusals K shape rec links B code =
     let G = mapNetwork K rec links in
     let b = G .isOpen code in
-    let test : List (Bool × ℕ) = (not b, 4) ∷ [] in
-    let absent : Tells test ((IsAbsent G code, 4) ∷ []) = (refl, decides-not b (decides-test b), λ g. tt) in
+    let test : List (Bool × ℕ) = (not b, absentCode) ∷ [] in
+    let absent : Tells test ((IsAbsent G code, absentCode) ∷ []) = (refl, decides-not b (decides-test b), λ g. tt) in
     refuses-by _ (searchConditions K rec links B code)
     (lent-tells K shape (longEnough K (searchSizes K (length links) (length (B .hops)) (length (B .even)) (length (B .odd)))) false (searchBuffers K links B)
-    (rw (← room-is K links B) at (decides-short (searchBuffers K links B))) rec links [] test ((IsAbsent G code, 4) ∷ []) absent)
+    (rw (← room-is K links B) at (decides-short (searchBuffers K links B))) rec links [] test ((IsAbsent G code, absentCode) ∷ []) absent)
     (λ k. searchGiven k K rec links B code) _ (λ l. searchNumber (l .answer)) numbered (λ k. refl)
   where
     numbered : (k : ℕ) → searchNumber (searchGiven k K rec links B code .answer) ≡ k
@@ -189,7 +190,7 @@ pub search-demand2 : (K : Shape) → IsShape K → SearchDemand2 K
 unfolding searchCall searchGiven
 search-demand2 K shape rec links B code z =
     let G = mapNetwork K rec links in
-    let g = granted K rec links (length (B .hops)) (length (B .even)) (length (B .odd)) code z in
+    let g = granted K rec links (length (B .hops)) (length (B .even)) (length (B .odd)) code shape z in
     subst (λ (left : SearchLeft). IsSearch K G code B left) (ap (λ (k : ℕ). searchGiven k K rec links B code) (sym z))
-    (leaves-search K G (accepted-net K shape rec links B code z) (network-open-below (K .words) (rec .members) links) code (true→t (g .present))
-    B (g .hops-fit) (g .even-fit) (g .odd-fit))
+    (leaves-search K G (g .net) (network-open-below (K .words) (rec .members) links) code (true→t (g .present))
+    B (g .long .hops) (g .long .even) (g .long .odd))

@@ -8,10 +8,7 @@ use Prim.Native.Nat.{ℕ, suc, _+_, _≤_, _<_}
 use native.Mathlib.Omega.{arith}
 use lib.Dec.{T, eqb}
 use lib.ListN.{length}
-use borrow.Author.Tests.{not-false}
 use Rattle.lists.specs.Lists.{range, filterb, countb, memb, firstOf}
-use Rattle.lists.proofs.Tests.{and-true}
-use Rattle.lists.proofs.Members.{first-zero}
 use Rattle.lists.proofs.Distinct.{insert-filter}
 use Rattle.lists.proofs.RangeCounts.{count-with-new}
 use Rattle.rows.specs.Rows.{tableBit}
@@ -34,6 +31,7 @@ use Rattle.update.proofs.Memories.{IsHeld, Stores, number-is, depots-fe
 use Rattle.graph.proofs.Delivers.{delivers-open}
 use Rattle.graph.specs.Updates.{Update, opens, updateFaults, applied, IsLawful}
 use Rattle.graph.proofs.Updates.{update-lawful}
+use Rattle.lent_map.proofs.Passes.{IsPassed, lent-passed, passed-net}
 use Rattle.lent_map.specs.Faults.{lentFaults}
 
 -- the definition of specs/UpdateCall.antt, opened one step
@@ -57,36 +55,27 @@ module _ (K : Shape) (shape : IsShape K) (rec : Record) (links pairs : List ℕ)
   P = tableBit (K .words) pairs
 
   -- the tests that were passed
-  pub granted-long : longEnough K sizes ≡ true
-  unfolding updateRefusal lentFaults
-  granted-long = not-false (longEnough K sizes) (first-zero (not (longEnough K sizes)) 0 _ ok .0)
+  passed : IsPassed K (longEnough K sizes) true rec links pairs (updateFaults N o)
+  unfolding updateRefusal
+  passed = lent-passed K (longEnough K sizes) true rec links pairs (updateFaults N o) ok
 
-  granted-sound : (soundLinks (places K) N (rec .number) ≡ true) × (soundFigures (places K) N P (rec .chain) (rec .count) ≡ true) × (connected N ≡ true) × (firstOf (updateFaults N o) ≡ 0)
-  unfolding updateRefusal lentFaults
-  granted-sound =
-      let a = first-zero (not (longEnough K sizes)) 0 _ ok in
-      let b = first-zero (not (soundLinks (places K) N (rec .number) && soundFigures (places K) N P (rec .chain) (rec .count))) 1 _ (a .1) in
-      let c = first-zero (not (connected N)) 2 _ (b .1) in
-      let d = and-true (soundLinks (places K) N (rec .number)) (soundFigures (places K) N P (rec .chain) (rec .count)) (not-false _ (b .0)) in
-      (d .0, d .1, not-false (connected N) (c .0), c .1)
+  pub granted-long : longEnough K sizes ≡ true
+  granted-long = passed .whole
 
   granted-links : AreLinksSound (places K) N (rec .number)
-  granted-links = sound-links-iff (K .words) (rec .members) links (rec .number) .0 (granted-sound .0)
+  granted-links = sound-links-iff (K .words) (rec .members) links (rec .number) .0 (passed .linked)
 
   pub granted-figures : AreFiguresSound (places K) N P (rec .chain) (rec .count)
-  granted-figures = sound-figures-iff (places K) N P (rec .chain) (rec .count) .0 (granted-sound .1)
+  granted-figures = sound-figures-iff (places K) N P (rec .chain) (rec .count) .0 (passed .stored refl)
 
   pub granted-room : suc (length (vertices N)) < unreached
   granted-room = omega (arith, network-most (K .words) (rec .members) links, shape .most)
 
   pub granted-net : IsNet N
-  granted-net =
-      let s = granted-links .isSound in
-      let few : length (vertices N) < unreached = omega (arith, granted-room) in
-      record { sound = s; connected = connected-iff N s few .0 (granted-sound .2); small = few }
+  granted-net = passed-net K (longEnough K sizes) true rec links pairs (updateFaults N o) shape passed
 
   pub granted-notice : firstOf (updateFaults N o) ≡ 0
-  granted-notice = granted-sound .3
+  granted-notice = passed .others
 
   pub granted-chain : rec .chain ≤ unreached
   granted-chain = omega (arith, granted-figures .below, shape .most)

@@ -28,7 +28,8 @@ use Rattle.rounds.specs.Leaves.{searchAfter, roundsLeave}
 use Rattle.map.proofs.Longs.{are-long}
 use Rattle.update.specs.UpdateCall.{updateRefusal, networkAfter, updatedBy, updateGiven, updateCall, IsWithin}
 use Rattle.update.specs.Steps.{mapRefusal}
-use Rattle.update.proofs.Memories.{IsHeld, Stores, depots-few, network-read, pairs-read}
+use Rattle.update.proofs.Memories.{IsHeld, Stores, depots-few, open-below, network-read}
+use Rattle.rounds.proofs.Reading.{pairs-read}
 use Rattle.update.proofs.Grants.{granted-long, granted-figures, granted-lawful, held-after, links-pass, figures-pass, connected-pass}
 use Rattle.update.proofs.Openings.{given-number, given-chain, given-members, given-count, given-links, given-pairs}
 use Rattle.update.proofs.Refuses.{refused-never}
@@ -60,15 +61,15 @@ module _ (K : Shape) (rec : Record) (links : List ℕ) (B : Lent) (o : Update) w
   unfolding sizesOf updateGiven roundsLeave
   given-sizes long =
       let fit = are-long K (sizesOf links B) long in
-      let searched = searched-lengths (K .words) H (x .final .references) (B .searched) (fit .hops-fit) (fit .even-fit) (fit .odd-fit) in
+      let searched = searched-lengths (K .words) H (x .final .references) (B .searched) (fit .hops) (fit .even) (fit .odd) in
       let bounds : ℕ → ℕ = λ v. cond (H .isOpen v) (boundOf (x .final .status v)) unreached in
       let skips : ℕ → ℕ = λ v. cond (H .isOpen v) (markOf (K .searchedMark) (K .otherMark) (x .final .status v)) (K .otherMark) in
       λ i. record {
-        links = overwrite-length (encodeTable (K .words) (H .linked)) links (omega (arith, fit .links-fit, encode-table-length (K .words) (H .linked))) i;
-        pairs = overwrite-length (encodeTable (K .words) (x .final .pairs)) (B .pairs) (omega (arith, fit .pairs-fit, encode-table-length (K .words) (x .final .pairs))) i;
+        links = overwrite-length (encodeTable (K .words) (H .linked)) links (omega (arith, fit .links, encode-table-length (K .words) (H .linked))) i;
+        pairs = overwrite-length (encodeTable (K .words) (x .final .pairs)) (B .pairs) (omega (arith, fit .pairs, encode-table-length (K .words) (x .final .pairs))) i;
         hops = searched .0 i;
-        bounds = fill-length bounds (B .bounds) (places K) (fit .bounds-fit) i;
-        skips = fill-length skips (B .skips) (places K) (fit .skips-fit) i;
+        bounds = fill-length bounds (B .bounds) (places K) (fit .bounds) i;
+        skips = fill-length skips (B .skips) (places K) (fit .skips) i;
         even = searched .1 i;
         odd = searched .2 i;
       }
@@ -116,7 +117,7 @@ module _ (K : Shape) (rec : Record) (links : List ℕ) (B : Lent) (o : Update) w
         (updateGiven zero K rec links B o .after) (updateGiven zero K rec links B o .links) (updateGiven zero K rec links B o .lent .pairs)
     left-stores = record {
       network = ap₂ (networkOf (K .words)) (given-members K rec links B o) (given-links K rec links B o) ∙ network-read K H held (rec .members) links;
-      pairs = ap (tableBit (K .words)) (given-pairs K rec links B o) ∙ pairs-read K H held (x .final .pairs) left-ends (B .pairs);
+      pairs = ap (tableBit (K .words)) (given-pairs K rec links B o) ∙ pairs-read K H (open-below K H held) (x .final .pairs) left-ends (B .pairs);
       number = given-number K rec links B o;
       chain = given-chain K rec links B o;
       count = given-count K rec links B o;

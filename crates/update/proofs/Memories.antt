@@ -1,20 +1,18 @@
 -- THE MEMORY OF A NETWORK: its map written over a memory, read back and representing it; and the whole memory that a history leaves.
 -- Assumes nothing.
-use mathlib.Core.Path.{_≡_, refl, sym, ap, _∙_, subst, fun-ext}
+use mathlib.Core.Path.{_≡_, refl, sym, ap, _∙_, subst}
 use mathlib.Core.Logic.{_↔_}
-use mathlib.Core.Bool.{Bool, true, false, _&&_}
+use mathlib.Core.Bool.{Bool}
 use mathlib.Core.List.{List, List·Memᴰ}
 use Prim.Native.Nat.{ℕ, _≤_, _<_}
 use native.Mathlib.Omega.{arith}
-use lib.Dec.{T, ltb}
+use lib.Dec.{T}
 use lib.ListN.{length}
-use borrow.Author.Tests.{lt-ltb}
 use Rattle.lists.specs.Lists.{range, filterb, countb, overwrite}
-use Rattle.lists.proofs.Tests.{true→t, and-intro}
 use Rattle.lists.proofs.Members.{filter-ext, filter-out, range-out, length-range}
 use Rattle.lists.proofs.Counts.{count-le-length, length-count}
 use Rattle.rows.specs.Rows.{rowBit, tableBit, encodeRow, encodeTable}
-use Rattle.rows.proofs.Written.{row-at, row-read, table-at, table-read, encode-table-length}
+use Rattle.rows.proofs.Written.{row-at, row-within, table-at, table-within, encode-table-length}
 use Rattle.graph.specs.Network.{Network, IsFarthest, delivers}
 use Rattle.graph.specs.Distance.{vertices}
 use Rattle.graph.specs.Chart.{diameter, Pairs, farthest, countPairs}
@@ -23,6 +21,7 @@ use Rattle.graph.proofs.Distances.{vertices-in}
 use Rattle.graph.proofs.Theorems.{diameter-is, farthest-is}
 use Rattle.map.specs.Memory.{Shape, places, tableWords, networkOf, mapNetwork}
 use Rattle.map.specs.declared.Record.{Record}
+use Rattle.rounds.proofs.Reading.{pairs-read}
 use Rattle.update.specs.Memory.{Memory}
 use Rattle.update.specs.Represents.{Represents}
 use Rattle.lists.proofs.Buffers.{overwrite-all}
@@ -83,12 +82,6 @@ pub record Stores (K : Shape) (G : Network) (D : ℕ) (P : Pairs) (rec : Record)
 abbrev pub Says : Shape → Network → Record → List ℕ → List ℕ → Type 0
 Says K G rec links stored = Stores K G (diameter G) (farthest G) rec links stored
 
--- a test that implies its guard needs none
-unguarded : (g x : Bool) → (x ≡ true → g ≡ true) → (g && x) ≡ x
-unguarded true x h = refl
-unguarded false true h = h refl
-unguarded false false h = refl
-
 module _ (K : Shape) (G : Network) (held : IsHeld K G) where
   -- ---- codes, links and pairs lie below the places
 
@@ -103,11 +96,6 @@ module _ (K : Shape) (G : Network) (held : IsHeld K G) where
   farthest-open : (u v : ℕ) → T (farthest G u v) → T (G .isOpen u) × T (G .isOpen v)
   farthest-open u v h = let p = farthest-is G (held .net) u v .0 h in (delivers-open G u (p .first), delivers-open G v (p .second))
 
-  both-below : (f : ℕ → ℕ → Bool) → ((u v : ℕ) → T (f u v) → T (G .isOpen u) × T (G .isOpen v)) → (u v : ℕ) → f u v ≡ true → (ltb u (places K) && ltb v (places K)) ≡ true
-  both-below f ends u v e =
-      let o = ends u v (true→t e) in
-      and-intro (lt-ltb u (places K) (open-below u (o .0))) (lt-ltb v (places K) (open-below v (o .1)))
-
   pub number-is : length (vertices G) ≡ countb (G .isOpen) (range (places K))
   number-is = ap length (held .depots) ∙ length-count (G .isOpen) (range (places K))
 
@@ -121,20 +109,16 @@ module _ (K : Shape) (G : Network) (held : IsHeld K G) where
   network-read members links =
       network-path (filter-ext _ (G .isOpen) (range (places K)) (λ c m. opens c) ∙ sym (held .depots))
       opens
-      (λ u v. table-read (K .words) (G .linked) links u v ∙ unguarded (ltb u (places K) && ltb v (places K)) (G .linked u v) (both-below (G .linked) linked-open u v))
+      (table-within (K .words) (G .linked) links (λ u v l. let o = linked-open u v l in (open-below u (o .0), open-below v (o .1))))
     where
       opens : (c : ℕ) → rowBit (K .words) (overwrite (encodeRow (K .words) (G .isOpen)) members) c ≡ G .isOpen c
-      opens c = row-read (K .words) (G .isOpen) members c ∙ unguarded (ltb c (places K)) (G .isOpen c) (λ o. lt-ltb c (places K) (open-below c (true→t o)))
-
-  pub pairs-read : (P : Pairs) → ((u v : ℕ) → T (P u v) → T (G .isOpen u) × T (G .isOpen v)) → (pairs : List ℕ) → tableBit (K .words) (overwrite (encodeTable (K .words) P) pairs) ≡ P
-  pairs-read P ends pairs =
-      fun-ext (λ u. fun-ext (λ v. table-read (K .words) P pairs u v ∙ unguarded (ltb u (places K) && ltb v (places K)) (P u v) (both-below P ends u v)))
+      opens = row-within (K .words) (G .isOpen) members open-below
 
   pub written-says : (M : Memory) → Says K G (writeMap K G M .rec) (writeMap K G M .links) (writeMap K G M .pairs)
   unfolding writeMap
   written-says M = record {
     network = network-read (M .rec .members) (M .links);
-    pairs = pairs-read (farthest G) farthest-open (M .pairs);
+    pairs = pairs-read K G open-below (farthest G) farthest-open (M .pairs);
     number = refl;
     chain = refl;
     count = refl;
@@ -149,7 +133,7 @@ module _ (K : Shape) (G : Network) (held : IsHeld K G) where
     links = λ u v p q. table-at (K .words) (G .linked) (M .links) u v p q;
     chain = diameter-is G (held .net);
     pairs = λ u v p q. subst (λ (b : Bool). T b ↔ IsFarthest G (delivers G) u v) (sym (table-at (K .words) (farthest G) (M .pairs) u v p q)) (farthest-is G (held .net) u v);
-    count = ap (countPairs (range (places K))) (sym (pairs-read (farthest G) farthest-open (M .pairs)));
+    count = ap (countPairs (range (places K))) (sym (pairs-read K G open-below (farthest G) farthest-open (M .pairs)));
   }
 
 -- ---- the memory of a network is its map written over itself

@@ -1,7 +1,6 @@
 -- WHAT AN UPDATE LEAVES on true stored figures, whatever words stood there: the map of the network after it, written over them, and how the
 -- chain moved. And the call of specs/UpdateCall.antt, opened one step at a time. Assumes nothing.
 use mathlib.Core.Path.{_≡_, refl, ap, _∙_}
-use mathlib.Core.Bool.{cond}
 use mathlib.Core.List.{List}
 use Prim.Native.Nat.{ℕ, zero}
 use native.Mathlib.Nat.{lt-irrefl}
@@ -9,10 +8,9 @@ use native.Mathlib.Omega.{arith}
 use lib.ListN.{length}
 use borrow.Author.Tests.{lt-ltb, le-ltb, eq-eqb, ne-eqb}
 use Rattle.outcome.specs.declared.Outcome.the-variants.{Accepted}
-use Rattle.lists.specs.Lists.{range, mapl, overwrite}
+use Rattle.lists.specs.Lists.{range, overwrite}
 use Rattle.rows.specs.Rows.{tableBit, encodeRow, encodeTable}
 use Rattle.graph.specs.Network.{Network, AreTrue, delivers}
-use Rattle.graph.specs.Rounds.{markOf}
 use Rattle.graph.specs.Chart.{Pairs, diameter, farthest, countPairs}
 use Rattle.graph.specs.Opening.{Opened}
 use Rattle.outcome.specs.declared.Change.{Change}
@@ -23,7 +21,7 @@ use Rattle.map.specs.Memory.{Shape, IsShape, places, mapNetwork}
 use Rattle.map.specs.declared.Record.{Record}
 use Rattle.map.specs.Room.{Lent, sizesOf}
 use Rattle.rounds.specs.Leaves.{roundsLeave}
-use Rattle.update.specs.UpdateCall.{updateRefusal, networkAfter, updatedBy, updateGiven, referencesBy, IsWithin}
+use Rattle.update.specs.UpdateCall.{updateRefusal, networkAfter, updatedBy, updateGiven, IsWithin}
 use Rattle.plain_list.specs.PlainList.{moved}
 use Rattle.update.specs.Demand2.{mapAfter}
 use Rattle.update.proofs.Memories.{IsHeld, Says, record-path, memory-path, writeMap}
@@ -71,15 +69,6 @@ module _ (K : Shape) (rec : Record) (links : List ℕ) (B : Lent) (o : Update) w
   pub given-pairs : updateGiven zero K rec links B o .lent .pairs ≡ overwrite (encodeTable (K .words) (x .final .pairs)) (B .pairs)
   unfolding updateGiven roundsLeave
   given-pairs = refl
-
-  pub given-skips : updateGiven zero K rec links B o .lent .skips
-      ≡ overwrite (mapl (λ v. cond (H .isOpen v) (markOf (K .searchedMark) (K .otherMark) (x .final .status v)) (K .otherMark)) (range (places K))) (B .skips)
-  unfolding updateGiven roundsLeave
-  given-skips = refl
-
-  pub given-references : referencesBy zero K rec links B o ≡ x .final .references
-  unfolding referencesBy
-  given-references = refl
 
 -- ---- how the chain moved
 

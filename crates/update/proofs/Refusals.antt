@@ -5,7 +5,6 @@ use Prim.Native.Nat.{ℕ, zero, suc}
 use Rattle.outcome.specs.declared.Outcome.the-variants.{Accepted}
 use Rattle.lists.proofs.Conditions.{decides-short, refuses-by}
 use Rattle.outcome.specs.declared.Change.{Change}
-use Rattle.outcome.specs.declared.Change.the-variants.{Grew, Kept, Shrank}
 use Rattle.graph.specs.Updates.{updateFaults}
 use Rattle.graph.specs.Refusals.{ownConditions}
 use Rattle.graph.proofs.Refusals.{update-tells}

@@ -1,9 +1,8 @@
 -- THE REFUSALS OF AN UPDATE, by the code's tests: those of the lent memory first, then its own. Assumes nothing.
 use mathlib.Core.Path.{_≡_, refl, ap, _∙_}
-use mathlib.Core.Bool.{Bool, true, false, not, _&&_}
-use mathlib.Core.List.{List, [], _∷_}
+use mathlib.Core.Bool.{Bool, true}
+use mathlib.Core.List.{List}
 use Prim.Native.Nat.{ℕ, zero, suc}
-use native.Mathlib.Omega.{arith}
 use lib.ListN.{length}
 use Rattle.lists.specs.Lists.{firstOf}
 use Rattle.graph.specs.Network.{Network}
@@ -19,6 +18,7 @@ use Rattle.map.specs.declared.Record.{Record}
 use Rattle.update.specs.UpdateCall.{updateRefusal, UpdateLeft, updateLeft, updateGiven, updateCall}
 use Rattle.update.specs.Steps.{mapRefusal, refusedWith}
 use Rattle.update.specs.declared.Returned.{Returned}
+use Rattle.lent_map.proofs.Passes.{lent-first, lent-then}
 use Rattle.lent_map.specs.Faults.{lentFaults, lentRefusal}
 
 module _ (K : Shape) (rec : Record) (links pairs : List ℕ) (z : Sizes) where
@@ -40,27 +40,13 @@ module _ (K : Shape) (rec : Record) (links pairs : List ℕ) (z : Sizes) where
 
   -- ---- then the update
 
-  before : (x y w : Bool) (rest : List (Bool × ℕ)) (k : ℕ) → k ≡ firstOf ((x, 1) ∷ (y, 2) ∷ (w, 3) ∷ []) → (k ≡ 0 → ⊥) → k ≡ firstOf ((x, 1) ∷ (y, 2) ∷ (w, 3) ∷ rest)
-  unfolding firstOf
-  before true y w rest k e n = e
-  before false true w rest k e n = e
-  before false false true rest k e n = e
-  before false false false rest k e n = absurd (n e)
-
-  after : (x y w : Bool) (rest : List (Bool × ℕ)) → 0 ≡ firstOf ((x, 1) ∷ (y, 2) ∷ (w, 3) ∷ []) → firstOf rest ≡ firstOf ((x, 1) ∷ (y, 2) ∷ (w, 3) ∷ rest)
-  unfolding firstOf
-  after true y w rest e = absurd (omega arith)
-  after false true w rest e = absurd (omega arith)
-  after false false true rest e = absurd (omega arith)
-  after false false false rest e = refl
-
   pub refused-by-map : (o : Update) (k : ℕ) → k ≡ mapRefusal K rec links pairs z → (k ≡ 0 → ⊥) → k ≡ updateRefusal K rec links pairs z o
-  unfolding mapRefusal lentRefusal lentFaults updateRefusal
-  refused-by-map o k e n = before (not (longEnough K z)) (not (soundLinks (places K) G (rec .number) && soundFigures (places K) G P (rec .chain) (rec .count))) (not (connected G)) (updateFaults G o) k e n
+  unfolding mapRefusal updateRefusal
+  refused-by-map o k e n = lent-first K (longEnough K z) true rec links pairs (updateFaults G o) e n
 
   refused-by-update : (o : Update) → 0 ≡ mapRefusal K rec links pairs z → firstOf (updateFaults G o) ≡ updateRefusal K rec links pairs z o
-  unfolding mapRefusal lentRefusal lentFaults updateRefusal
-  refused-by-update o e = after (not (longEnough K z)) (not (soundLinks (places K) G (rec .number) && soundFigures (places K) G P (rec .chain) (rec .count))) (not (connected G)) (updateFaults G o) e
+  unfolding mapRefusal updateRefusal
+  refused-by-update o e = lent-then K (longEnough K z) true rec links pairs (updateFaults G o) e
 
   -- of an opening its notice's
   pub refused-by-notice : (o : Notice) → 0 ≡ mapRefusal K rec links pairs z → firstOf (openFaults G o) ≡ updateRefusal K rec links pairs z (opens o)

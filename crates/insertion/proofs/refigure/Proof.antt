@@ -1,6 +1,8 @@
 -- `insertion::refigure` meets its contract: the search is the network's; an eccentricity above the chain is the case grew, any other is `settle_low`.
 -- Assumes nothing.
-use Rattle.insertion.proofs.Cases.{search-stands, figured-first, whole-first, grew-is}
+use Rattle.insertion.proofs.Cases.{search-stands, figured-first, grew-is}
+use Rattle.map.specs.Memory.{base}
+use Rattle.map.proofs.Theorems.{base-shape}
 use borrow.Author.Needs.{needs}
 use Rattle.insertion.proofs.refigure.Statement.{statement}
 use Rattle.insertion.proofs.refigure.Tie as tie
@@ -24,18 +26,19 @@ returns c =
     let after-search-sound : tie.After-search-sound = search back in
     let start : tie.Start = search back in
     let pre = start .pre in
-    let stands = search-stands _ _ _ _ _ _ _ _ _ (pre .0 .net) (pre .0 .present) (after-search-sound .search-sound .ensures) in
-    figured-first _ _ _ _ _ _ _ _ _ _ _ (pre .0 .net) (pre .0 .present) (after-search-sound .search-sound .ensures)
-    (grew-is _ _ _ _ _ _ stands (then1 .if1 .taken) _ _ _ _ (after-join .join .ensures))
+    let stands = search-stands base base-shape _ _ _ _ _ _ _ _ _ (pre .1 .net) (pre .1 .present) (after-search-sound .search-sound .ensures) in
+    figured-first base base-shape _ _ _ _ _ _ _ _ _ _ _ (pre .1 .net) (pre .1 .present) (after-search-sound .search-sound .ensures)
+    (grew-is base _ _ _ _ _ _ stands (then1 .if1 .taken) _ _ _ _ (after-join .join .ensures))
 
 settle-low-requires : tie.Need-settle-low-requires
 settle-low-requires c κs =
     let after-search-sound : tie.After-search-sound = search back in
     let start : tie.Start = search back in
     let pre = start .pre in (
-      search (whole-first, needs),
       search needs,
-      search-stands _ _ _ _ _ _ _ _ _ (pre .0 .net) (pre .0 .present) (after-search-sound .search-sound .ensures),
+      search needs,
+      search needs,
+      search-stands base base-shape _ _ _ _ _ _ _ _ _ (pre .1 .net) (pre .1 .present) (after-search-sound .search-sound .ensures),
       search needs,
       search needs,
     )
@@ -45,7 +48,7 @@ returns-2 c =
     let after-settle-low : tie.After-settle-low = search back in
     let after-search-sound : tie.After-search-sound = search back in
     let start : tie.Start = search back in
-    search (figured-first, needs)
+    search (figured-first, base-shape, needs)
 
 pub refigure-spec : {M : Type 1} → statement M
 refigure-spec =

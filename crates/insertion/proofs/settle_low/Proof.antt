@@ -1,6 +1,6 @@
 -- `insertion::settle_low` meets its contract: each end is one of the network's opening, by the tests before it.
 -- Assumes nothing.
-use native.Mathlib.Omega.{arith}
+use Rattle.map.specs.Memory.{base}
 use Rattle.stale_pairs.proofs.Theorems.{drop-counted}
 use Rattle.insertion.proofs.Cases.{equal-is, kept-is, shrank-is}
 use borrow.Author.Needs.{needs}
@@ -39,7 +39,7 @@ returns c =
     let after-drop-stale : tie.After-drop-stale = search back in
     let start : tie.Start = search back in
     let pre = start .pre in
-    equal-is _ _ _ _ _ _ (pre .2) (pre .1 .ends) (pre .4) _ _ _ (after-drop-stale .drop-stale .ensures) (then1 .if1 .taken) _ _ _
+    equal-is base _ _ _ _ _ _ (pre .3) (pre .2 .ends) (pre .5) _ _ _ (after-drop-stale .drop-stale .ensures) (then1 .if1 .taken) _ _ _
     (after-join .join .ensures)
 
 returns-2 : tie.Need-returns-2
@@ -50,7 +50,7 @@ returns-2 c =
     let after-drop-stale : tie.After-drop-stale = search back in
     let start : tie.Start = search back in
     let pre = start .pre in
-    kept-is _ _ _ _ _ _ (pre .2) (pre .1 .ends) (pre .4) _ _ _ (after-drop-stale .drop-stale .ensures) (else1 .if1 .left)
+    kept-is base _ _ _ _ _ _ (pre .3) (pre .2 .ends) (pre .5) _ _ _ (after-drop-stale .drop-stale .ensures) (else1 .if1 .left)
     (then2 .if2 .taken) _ (after-mark-once .mark-once .ensures)
 
 shrink-requires : tie.Need-shrink-requires
@@ -58,18 +58,10 @@ shrink-requires c κs =
     let after-drop-stale : tie.After-drop-stale = search back in
     let start : tie.Start = search back in
     let pre = start .pre in (
-      record {
-        table = pre .0 .table;
-        pairTable = omega (arith, pre .0 .pairTable, after-drop-stale .drop-stale .kept .0);
-        hopPlaces = pre .0 .hopPlaces;
-        evenRow = pre .0 .evenRow;
-        oddRow = pre .0 .oddRow;
-        boundPlaces = pre .0 .boundPlaces;
-        skipPlaces = pre .0 .skipPlaces;
-        codeRow = pre .0 .codeRow;
-      },
-      record { net = pre .2 .net; present = pre .2 .present; depth = pre .2 .depth; stands = pre .2 .stands },
-      pre .3,
+      search needs,
+      search needs,
+      record { net = pre .3 .net; present = pre .3 .present; depth = pre .3 .depth; stands = pre .3 .stands },
+      pre .4,
     )
 
 returns-3 : tie.Need-returns-3

@@ -1,6 +1,8 @@
 -- `insertion::shrink` meets its contract: its three calls are the network's rounds after the one from the new depot.
 -- Assumes nothing.
 use native.Mathlib.Omega.{arith}
+use Rattle.map.specs.Memory.{base}
+use Rattle.map.proofs.Theorems.{base-shape}
 use Rattle.rounds.proofs.Turns.{begun-counted}
 use Rattle.insertion.proofs.Shrinking.{absorbed-counted, shrink-is}
 use Rattle.ranks.proofs.Ranks.{thinned-ranks}
@@ -25,7 +27,7 @@ absorb-requires c κs =
     let after-begin : tie.After-begin = search back in
     let start : tie.Start = search back in
     let pre = start .pre in (
-      begun-counted _ _ _ _ _ _ (omega arith) (omega arith) (pre .0 .pairTable) (after-begin .begin .ensures .0),
+      begun-counted _ _ _ _ _ _ (omega arith) (omega arith) (pre .0 .pairs) (after-begin .begin .ensures .0),
       search needs,
       search needs,
       search needs,
@@ -44,13 +46,13 @@ run-rounds-requires c κs =
     let pre = start .pre in (
       search needs,
       absorbed-counted _ _ _ _ _ _ _ _ _ _
-          (begun-counted _ _ _ _ _ _ (omega arith) (omega arith) (pre .0 .pairTable) (after-begin .begin .ensures .0))
+          (begun-counted _ _ _ _ _ _ (omega arith) (omega arith) (pre .0 .pairs) (after-begin .begin .ensures .0))
           (after-absorb .absorb .ensures .0),
       record {
         positive = omega arith;
         most = omega arith;
-        boundPlaces = omega (arith, pre .0 .boundPlaces, after-absorb .absorb .kept, after-begin .begin .kept);
-        skipPlaces = omega (arith, pre .0 .skipPlaces, after-absorb .absorb .kept, after-begin .begin .kept);
+        boundPlaces = omega (arith, pre .0 .bounds, after-absorb .absorb .kept, after-begin .begin .kept);
+        skipPlaces = omega (arith, pre .0 .skips, after-absorb .absorb .kept, after-begin .begin .kept);
         rankPlaces = omega (arith, slice-aggregate-run-rounds-3 c);
       },
       search (thinned-ranks, needs),
@@ -85,7 +87,7 @@ returns c =
     let after-absorb : tie.After-absorb = search back in
     let after-begin : tie.After-begin = search back in
     let start : tie.Start = search back in
-    shrink-is _ _ _ _ _ _ _ (start .pre .1) (omega (arith, start .fits .way .fits)) _ _ _ _ (after-begin .begin .ensures .0) _ _ _
+    shrink-is base base-shape _ _ _ _ _ _ _ (start .pre .2) (omega (arith, start .fits .way .fits)) _ _ _ _ (after-begin .begin .ensures .0) _ _ _
     (after-absorb .absorb .ensures .0) _ _ _ _ _ (after-run-rounds .run-rounds .ensures)
 
 pub shrink-spec : {M : Type 1} → statement M

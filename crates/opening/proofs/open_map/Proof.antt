@@ -1,7 +1,11 @@
 -- `opening::open_map` meets its contract: with the code in the open set and its links in place the memory holds the new network, and the figures
 -- that the step leaves are its opening's. Assumes nothing.
 use native.Mathlib.Omega.{arith}
-use Rattle.opening.proofs.Placed.{long-is, number-small, figurable, opened-is}
+use Rattle.map.specs.Memory.{base}
+use Rattle.map.proofs.Theorems.{base-shape}
+use Rattle.map.proofs.Longs.{are-long}
+use Rattle.update.proofs.Grants.{granted-long}
+use Rattle.opening.proofs.Placed.{number-small, figurable, opened-is}
 use borrow.Author.Needs.{needs}
 use Rattle.opening.proofs.open_map.Statement.{statement}
 use Rattle.opening.proofs.open_map.Tie as tie
@@ -26,13 +30,10 @@ slice-aggregate-refigure c = search needs
 
 link-depot-requires : tie.Need-link-depot-requires
 link-depot-requires c κs =
-    let after-shared-slice-known : tie.After-shared-slice-known = search back in
     let start : tie.Start = search back in (
       search needs,
       search needs,
-      long-is (start .args .rec) (start .args .links .now) (start .args .pairs .now) (start .args .hops .now) (start .args .bounds .now)
-          (start .args .skips .now) (start .args .even .now) (start .args .odd .now) (start .args .code) (start .args .neighbours .now)
-          (start .pre) (start .fits .code .fits) (λ k l. after-shared-slice-known .shared-slice-known .given k .fits) .links-fit,
+      are-long base _ (granted-long base base-shape _ _ _ _ _ (start .pre)) .links,
     )
 
 put-code-requires : tie.Need-put-code-requires
@@ -44,11 +45,12 @@ refigure-requires c κs =
     let after-put-code : tie.After-put-code = search back in
     let after-link-depot : tie.After-link-depot = search back in
     let after-shared-slice-known : tie.After-shared-slice-known = search back in
-    let start : tie.Start = search back in (
-      figurable _ _ _ _ _ _ _ _ _ _ (start .pre) (start .fits .code .fits)
+    let start : tie.Start = search back in
+    let long = are-long base _ (granted-long base base-shape _ _ _ _ _ (start .pre)) in (
+      search needs,
+      figurable base base-shape _ _ _ _ _ _ _ _ _ _ (start .pre) (start .fits .code .fits)
           (λ k l. after-shared-slice-known .shared-slice-known .given k .fits) _ _ (after-put-code .put-code .ensures)
-          (after-link-depot .link-depot .ensures) (omega (arith, slice-aggregate-refigure after-members4))
-          (after-link-depot .link-depot .kept .0),
+          (after-link-depot .link-depot .ensures) (omega (arith, slice-aggregate-refigure after-members4)),
       search needs,
     )
 
@@ -57,7 +59,7 @@ add-after c =
     let after-shared-slice-known : tie.After-shared-slice-known = search back in
     let start : tie.Start = search back in
     let small =
-    number-small (start .args .rec) (start .args .links .now) (start .args .pairs .now) (start .args .hops .now) (start .args .bounds .now)
+    number-small base base-shape (start .args .rec) (start .args .links .now) (start .args .pairs .now) (start .args .hops .now) (start .args .bounds .now)
     (start .args .skips .now) (start .args .even .now) (start .args .odd .now) (start .args .code) (start .args .neighbours .now)
     (start .pre) (start .fits .code .fits) (λ k l. after-shared-slice-known .shared-slice-known .given k .fits) in
     omega arith
@@ -69,7 +71,7 @@ returns c =
     let after-link-depot : tie.After-link-depot = search back in
     let after-shared-slice-known : tie.After-shared-slice-known = search back in
     let start : tie.Start = search back in
-    opened-is _ _ _ _ _ _ _ _ _ _ (start .pre) (start .fits .code .fits)
+    opened-is base base-shape _ _ _ _ _ _ _ _ _ _ (start .pre) (start .fits .code .fits)
     (λ k l. after-shared-slice-known .shared-slice-known .given k .fits) _ _ (after-put-code .put-code .ensures)
     (after-link-depot .link-depot .ensures) _ _ (after-refigure .refigure .ensures)
 

@@ -11,7 +11,7 @@ returns c =
     let after-row-set : tie.After-row-set = search in
     let after-slice-known : tie.After-slice-known = search in
     let start : tie.Start = search in
-    after-row-set .row-set .ensures ∙ code-put 4 _ _ (omega arith) (start .pre) (λ i l. after-slice-known .slice-known .given i .fits)
+    after-row-set .row-set .ensures ∙ code-put _ _ _ (omega arith) (start .pre) (λ i l. after-slice-known .slice-known .given i .fits)
 
 pub put-code-spec : {M : Type 1} → statement M
 put-code-spec =

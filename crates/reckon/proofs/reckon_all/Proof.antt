@@ -17,15 +17,8 @@ reckon-map-requires c κs =
     let after-members2 : tie.After-members2 = search in
     let else1 : tie.Else1 = search in
     let after-reckon-refusal : tie.After-reckon-refusal = search in
-    let z = sym (after-reckon-refusal .reckon-refusal .ensures) ∙ else1 .if1 .left in
-    let l = granted-long base _ _ _ z in (
-      l .links-fit,
-      l .pairs-fit,
-      l .hops-fit,
-      l .bounds-fit,
-      l .skips-fit,
-      l .even-fit,
-      l .odd-fit,
+    let z = sym (after-reckon-refusal .reckon-refusal .ensures) ∙ else1 .if1 .left in (
+      granted-long base _ _ _ z,
       omega (arith, slice-aggregate-reckon-map after-members2),
       granted-net base _ _ _ base-shape z,
     )

@@ -27,13 +27,13 @@ run-rounds-requires c κs =
     let start : tie.Start = search back in
     let pre = start .pre in
     let k = after-begin .begin .kept in (
-      record { table = pre .0; hopPlaces = pre .2; evenRow = pre .5; oddRow = pre .6; seenRow = omega arith; nextRow = omega arith },
-      begun-counted 4 257 _ _ _ _ (omega arith) (omega arith) (pre .1) (after-begin .begin .ensures .0),
+      search needs,
+      begun-counted _ _ _ _ _ _ (omega arith) (omega arith) (pre .0 .pairs) (after-begin .begin .ensures .0),
       record {
         positive = omega arith;
         most = omega arith;
-        boundPlaces = omega (arith, pre .3, k);
-        skipPlaces = omega (arith, pre .4, k);
+        boundPlaces = omega (arith, pre .0 .bounds, k);
+        skipPlaces = omega (arith, pre .0 .skips, k);
         rankPlaces = omega (arith, slice-aggregate-run-rounds-3 c);
       },
       after-begin .begin .ensures .1,
@@ -45,7 +45,7 @@ returns c =
     let after-run-rounds : tie.After-run-rounds = search back in
     let after-begin : tie.After-begin = search back in
     let start : tie.Start = search back in
-    reckoned-is base base-shape _ _ (start .pre .8) _ _ _ _ _ _ _ (after-begin .begin .ensures .0) (after-run-rounds .run-rounds .ensures)
+    reckoned-is base base-shape _ _ (start .pre .2) _ _ _ _ _ _ _ (after-begin .begin .ensures .0) (after-run-rounds .run-rounds .ensures)
 
 pub reckon-map-spec : {M : Type 1} → statement M
 reckon-map-spec =

@@ -12,7 +12,7 @@ use Rattle.reckon.proofs.reckon_refusal.Tie as tie
 map-refusal-requires : tie.Need-map-refusal-requires
 map-refusal-requires c κs =
     let after-are-long : tie.After-are-long = search in
-    (λ h. are-long base _ (sym (after-are-long .are-long .ensures) ∙ h) .links-fit, λ h f. absurd (clash f refl))
+    (λ h. are-long base _ (sym (after-are-long .are-long .ensures) ∙ h) .links, λ h f. absurd (clash f refl))
 
 returns : tie.Need-returns
 returns c =

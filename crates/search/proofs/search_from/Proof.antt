@@ -14,11 +14,11 @@ search-sound-requires c κs =
     let else1 : tie.Else1 = search in
     let after-search-refusal : tie.After-search-refusal = search in
     let start : tie.Start = search in
-    let g = granted base _ _ _ _ _ _ (sym (after-search-refusal .search-refusal .ensures) ∙ else1 .if1 .left) in (
-      g .table,
-      g .hops-fit,
-      g .even-fit,
-      g .odd-fit,
+    let g = granted base _ _ _ _ _ _ base-shape (sym (after-search-refusal .search-refusal .ensures) ∙ else1 .if1 .left) in (
+      g .long .links,
+      g .long .hops,
+      g .long .even,
+      g .long .odd,
       omega (arith, start .fits .code .fits),
     )
 

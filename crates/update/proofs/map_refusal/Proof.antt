@@ -12,7 +12,7 @@ map-refusal-requires : tie.Need-map-refusal-requires
 map-refusal-requires c κs =
     let after-are-long : tie.After-are-long = search in
     let is = after-are-long .are-long .ensures in
-    (λ h. are-long base _ (sym is ∙ h) .links-fit, λ h f. are-long base _ (sym is ∙ h) .pairs-fit)
+    (λ h. are-long base _ (sym is ∙ h) .links, λ h f. are-long base _ (sym is ∙ h) .pairs)
 
 returns : tie.Need-returns
 returns c =
