@@ -14,7 +14,6 @@ use Rattle.graph.specs.Distance.{vertices, unreached}
 use Rattle.graph.specs.Chart.{chart, Pairs, diameter, farthest, countPairs}
 use Rattle.graph.specs.Opening.{Opened}
 use Rattle.outcome.specs.declared.Change.{Change}
-use Rattle.outcome.specs.declared.Change.the-variants.{Grew, Kept, Shrank}
 use Rattle.graph.specs.Updates.{Update, updateFaults, applied, steps}
 use Rattle.graph.specs.Cases.{pairList, AnswerLine, PlainMap, lineFor, followOne, followAll}
 use Rattle.graph.proofs.Theorems.{figures-are, true-chain, true-pairs, farthest-is}

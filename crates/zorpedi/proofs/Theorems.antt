@@ -9,7 +9,6 @@ use borrow.Author.Tests.{le-ltb}
 use Rattle.outcome.specs.declared.Outcome.the-variants.{Accepted}
 use Rattle.lists.proofs.Fills.{overwrite-length}
 use Rattle.outcome.specs.declared.Change.{Change}
-use Rattle.outcome.specs.declared.Change.the-variants.{Grew, Kept, Shrank}
 use Rattle.rows.specs.Rows.{encodeRow}
 use Rattle.rows.proofs.Written.{encode-row-length}
 use Rattle.map.specs.Memory.{base}
