@@ -3,6 +3,7 @@
 // Each test uses a part of it.
 #![allow(dead_code, unused_imports)]
 pub mod lines;
+pub mod nearby;
 pub mod network;
 pub mod opening;
 pub mod stream;
