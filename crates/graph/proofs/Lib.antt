@@ -19,3 +19,5 @@ pub mod Updates
 pub mod Rules
 pub mod Apart
 pub mod Refusals
+pub mod Rising
+pub mod Nearby

@@ -15,7 +15,9 @@ pub mod Correct
 pub mod Updates
 -- 8. the refusals that speak of the network alone, by the words of 1
 pub mod Refusals
--- 9. the worked cases of the rules, computed; crate `cases` cites their inputs (`path`, `sevenLines`) and `AnswerLine`
+-- 9. depots near one: within so many links, and the nearest of a list
+pub mod Nearby
+-- 10. the worked cases of the rules, computed; crate `cases` cites their inputs (`path`, `sevenLines`) and `AnswerLine`
 pub mod Cases
--- 10. further cases, one for each rule that those leave open. Nobody has to believe this file
+-- 11. further cases, one for each rule that those leave open. Nobody has to believe this file
 pub mod RuleCases

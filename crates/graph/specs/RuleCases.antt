@@ -13,6 +13,7 @@ use Rattle.graph.specs.Distance.{vertices}
 use Rattle.graph.specs.Chart.{chart, Pairs}
 use Rattle.graph.specs.Rounds.{State, markOf, boundOf}
 use Rattle.graph.specs.Opening.{withDepot, opening}
+use Rattle.graph.specs.Nearby.{withinList, nearestListed}
 use Rattle.graph.specs.Cases.{pairList, path, ReckoningCase, reckoning}
 
 -- the pairs of a list
@@ -104,7 +105,30 @@ pub record RuleCases : Type 0 where
   -- The path of two with chain 0 and pair (0,1), then depot 2 beside 1: grew, and the stored pair is gone. Only 2 was searched.
   pub chainless : opened (path 2) 2 (1 ∷ []) 0 ((0, 1) ∷ [])
       ≡ record { letter = 71; final = record { references = 2 ∷ []; marks = 257 ∷ 257 ∷ 256 ∷ []; bounds = 65535 ∷ 65535 ∷ 2 ∷ []; chain = 2; pairs = (0, 2) ∷ [] } }
+  -- On the path of seven, from 3. 0 handovers: itself alone. 2: the depots at exactly 2 too, on both sides, and rising. 65,535, the hop of a closed
+  -- code, and more: all seven, and no closed code.
+  pub within : mapl (withinList (path 7) 3) (0 ∷ 2 ∷ 65535 ∷ 65536 ∷ [])
+      ≡ (3 ∷ []) ∷ (1 ∷ 2 ∷ 3 ∷ 4 ∷ 5 ∷ []) ∷ (0 ∷ 1 ∷ 2 ∷ 3 ∷ 4 ∷ 5 ∷ 6 ∷ []) ∷ (0 ∷ 1 ∷ 2 ∷ 3 ∷ 4 ∷ 5 ∷ 6 ∷ []) ∷ []
+  -- 5 and 1 are both at 2 from 3: the lower code, not the first listed, whichever comes first; the closed 9 is none.
+  pub nearestTie : nearestListed (path 7) 3 (9 ∷ 5 ∷ 1 ∷ 0 ∷ 5 ∷ []) ≡ 1
+  pub nearestTieBack : nearestListed (path 7) 3 (0 ∷ 1 ∷ 5 ∷ []) ≡ 1
+  -- From 6 the nearest is 4: not the first listed, the lowest or the last. Where the start is listed it is itself the nearest.
+  pub nearestMiddle : nearestListed (path 7) 6 (0 ∷ 4 ∷ 2 ∷ 200 ∷ []) ≡ 4
+  pub nearestSelf : nearestListed (path 7) 6 (5 ∷ 6 ∷ 5 ∷ []) ≡ 6
 
 pub rule-cases : RuleCases
-unfolding linkedBy reckoning opened path
-rule-cases = record { tie = refl; risen = refl; words = refl; shrunk = refl; unreached = refl; chained = refl; chainless = refl }
+unfolding linkedBy reckoning opened path withinList nearestListed mapl
+rule-cases = record {
+  tie = refl;
+  risen = refl;
+  words = refl;
+  shrunk = refl;
+  unreached = refl;
+  chained = refl;
+  chainless = refl;
+  within = refl;
+  nearestTie = refl;
+  nearestTieBack = refl;
+  nearestMiddle = refl;
+  nearestSelf = refl;
+}

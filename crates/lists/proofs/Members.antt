@@ -6,9 +6,9 @@ use mathlib.Core.List.{List, [], _∷_, List·Memᴰ, List·Memᴰ·head, List·
 use Prim.Native.Nat.{ℕ, zero, suc, _+_, _≤_, _<_, zero-le}
 use native.Mathlib.Nat.{eq-or-lt-of-le, lt-irrefl}
 use native.Mathlib.Omega.{arith}
-use lib.Dec.{T, eqb}
+use lib.Dec.{T, eqb, ltb}
 use lib.ListN.{length}
-use borrow.Author.Tests.{eqb-true, eq-eqb}
+use borrow.Author.Tests.{eqb-true, eq-eqb, ltb-true}
 use Rattle.lists.specs.Lists.{firstOf, from, range, filterb, anyb, allb, memb}
 use Rattle.lists.proofs.Tests.{look, clash, and-true, and-intro, or-true, or-left, or-right}
 
@@ -184,3 +184,25 @@ pub first-zero : (b : Bool) (k : ℕ) (cs : List (Bool × ℕ)) → firstOf ((b,
 unfolding firstOf
 first-zero true k cs e = absurd (lt-irrefl 0 (omega arith))
 first-zero false k cs e = (refl, e)
+
+-- further conditions behind: they count where none of the earlier ones held
+pub first-kept : (xs ys : List (Bool × ℕ)) → (firstOf xs ≡ 0 → ⊥) → firstOf (xs ++ ys) ≡ firstOf xs
+unfolding firstOf
+first-kept [] ys n = absurd (n refl)
+first-kept (c ∷ cs) ys n = go (c .0) n (first-kept cs ys)
+  where
+    go : (b : Bool) → (cond b (c .1) (firstOf cs) ≡ 0 → ⊥) → ((firstOf cs ≡ 0 → ⊥) → firstOf (cs ++ ys) ≡ firstOf cs)
+        → cond b (c .1) (firstOf (cs ++ ys)) ≡ cond b (c .1) (firstOf cs)
+    go true n ih = refl
+    go false n ih = ih n
+
+pub first-passed : (xs ys : List (Bool × ℕ)) → allb (λ c. ltb 0 (c .1)) xs ≡ true → firstOf xs ≡ 0 → firstOf (xs ++ ys) ≡ firstOf ys
+unfolding firstOf allb
+first-passed [] ys p z = refl
+first-passed (c ∷ cs) ys p z = let q = and-true (ltb 0 (c .1)) (allb (λ c. ltb 0 (c .1)) cs) p in go (c .0) z (first-passed cs ys (q .1))
+  where
+    go : (b : Bool) → cond b (c .1) (firstOf cs) ≡ 0 → (firstOf cs ≡ 0 → firstOf (cs ++ ys) ≡ firstOf ys) → cond b (c .1) (firstOf (cs ++ ys)) ≡ firstOf ys
+    go true z ih =
+        let l : 0 < c .1 = ltb-true 0 (c .1) (and-true (ltb 0 (c .1)) (allb (λ c. ltb 0 (c .1)) cs) p .0) in
+        absurd (lt-irrefl 0 (omega arith))
+    go false z ih = ih z

@@ -4,3 +4,5 @@ pub mod Empties
 pub mod Theorems
 -- The seven sizes.
 pub mod Longs
+-- The depots in rising code.
+pub mod Depots

@@ -16,6 +16,8 @@ use Rattle.lists.proofs.Members.{length-filter, length-range}
 use Rattle.lists.proofs.Counts.{length-count}
 use Rattle.lists.proofs.Distinct.{memb-filter, memb-range, distinct-filter, distinct-range}
 use Rattle.graph.specs.Distance.{vertices}
+use Rattle.graph.specs.Nearby.{IsRising}
+use Rattle.graph.proofs.Rising.{range-rising, filter-rising}
 use Rattle.rows.specs.Rows.{rowBit, tableBit}
 use Rattle.map.specs.Memory.{Shape, networkOf, IsShape, base}
 use Rattle.map.specs.Empty.{emptyRecord, emptyRefusal, emptyGiven, emptyCall, IsEmpty, emptyingNumber, emptyBuffers, EmptyDemand1}
@@ -51,6 +53,11 @@ network-length W members links = length-count (rowBit W members) (range (64 * W)
 pub network-most : (W : ℕ) (members links : List ℕ) → length (vertices (networkOf W members links)) ≤ 64 * W
 unfolding networkOf
 network-most W members links = le-trans (length-filter (rowBit W members) (range (64 * W))) (le-of-eq (length-range (64 * W)))
+
+-- and they rise
+pub network-rising : (W : ℕ) (members links : List ℕ) → IsRising (vertices (networkOf W members links))
+unfolding networkOf
+network-rising W members links = filter-rising (rowBit W members) (range (64 * W)) (range-rising (64 * W))
 
 pub network-linked-below : (W : ℕ) (members links : List ℕ) (u v : ℕ) → T (networkOf W members links .linked u v) → (u < 64 * W) × (v < 64 * W)
 unfolding networkOf tableBit

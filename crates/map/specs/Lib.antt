@@ -5,7 +5,9 @@ pub mod Memory
 pub mod Room
 -- 3. which bits of its tables may stand. Nobody has to believe `IsLent`
 pub mod Bits
--- 4. emptying a map
+-- 4. its depots in rising code. Nobody has to believe this file
+pub mod Depots
+-- 5. emptying a map
 pub mod Empty
--- 5. the lent slices as one value, for the contracts. Nobody has to believe `sizesAt`
+-- 6. the lent slices as one value, for the contracts. Nobody has to believe `sizesAt`
 pub mod Slices

@@ -1,13 +1,15 @@
 // The record of one map, the tests of a bit of its tables, and emptying a map.
 ghost use mathlib.Core.List.{[]};
 ghost use mathlib.Core.Path.{_≡_};
-ghost use Prim.Native.Nat.{_*_, _<_, _≤_};
+ghost use Prim.Native.Nat.{_*_, _^_, _<_, _≤_};
 ghost use lib.ListN.{length};
 ghost use Rattle.rows.specs.Rows.{rowBit};
 ghost use Rattle.map.specs.Memory.{base, networkOf};
 ghost use Rattle.map.specs.Room.{sizes, longEnough};
 ghost use Rattle.map.specs.Bits.{IsLent, soundLink, soundPair};
+ghost use Rattle.map.specs.Depots.{NextOpen};
 ghost use Rattle.map.specs.Empty.{emptyRecord, emptyLeft, emptyCall};
+use rows::Next;
 
 // ---- the shape of a map, in specifications `base` (specs/Memory)
 
@@ -36,6 +38,14 @@ pub fn is_open(members: &[u64], words: usize, v: usize) -> bool
     ensures { λ r. ⌜ r ≡ rowBit words (now (members .entry)) v ⌝ }
 {
     rows::row_test(members, words, 0, v)
+}
+
+// The open depot with the lowest code at or past `from`. Whatever goes through the depots in rising code asks here.
+pub fn next_open(members: &[u64], words: usize, from: usize) -> Next
+    requires { ⌜ (words ≤ length (now members)) × (words < 2 ^ 32) ⌝ }
+    ensures { λ r. ⌜ NextOpen (networkOf words (now (members .entry)) []) from r ⌝ }
+{
+    rows::next_member(members, words, from)
 }
 
 // ---- whether a bit may stand

@@ -37,3 +37,7 @@ unknownNeighbour = 8
 -- garbled: what is read is no line, or what is written no frame
 abbrev pub garbledLine : ℕ
 garbledLine = 9
+
+-- nobody: no depot of a list is open
+abbrev pub nobodyOpen : ℕ
+nobodyOpen = 10

@@ -22,6 +22,8 @@ pub const UNKNOWN: u8 = 8;
 
 pub const GARBLED: u8 = 9;
 
+pub const NOBODY: u8 = 10;
+
 // ---- the answer
 
 // How the longest chain changed with an accepted opening.

@@ -53,7 +53,15 @@ pub fn search_sound(
 // ---- the public call
 
 // The first refusal of a search that holds, 0 for none. It only reads. A search is lent no pairs, bounds and skips, and looks at no figures.
-fn search_refusal(rec: Record, links: &[u64], hops: usize, even: usize, odd: usize, code: u8) -> u8
+// Every call that searches from a code begins with it.
+pub fn search_refusal(
+    rec: Record,
+    links: &[u64],
+    hops: usize,
+    even: usize,
+    odd: usize,
+    code: u8,
+) -> u8
     ensures { λ r. ⌜ r ≡ searchRefusal base rec (now (links .entry)) hops even odd code ⌝ }
 {
     let long = map::are_long(
