@@ -40,7 +40,8 @@ static void try_versions(void)
 
 static void try_words(void)
 {
-    static const char *const words[] = {"", "short", "spoilt", "apart", "absent", "taken", "lonely", "unsorted", "unknown", "garbled"};
+    static const char *const words[] = {"", "short", "spoilt", "apart", "absent", "taken", "lonely", "unsorted", "unknown", "garbled",
+                                        "nobody"};
     for (unsigned number = 0; number < 600; number++) {
         const char *expected = number < sizeof words / sizeof words[0] ? words[number] : "";
         expect("each refusal has its word, other numbers none", strcmp(zorpedi_refusal_word(number), expected) == 0);
@@ -61,6 +62,28 @@ static void try_openings(void)
         expect("no search", opened.searches == 0);
         before[code] = (uint8_t)code;
     }
+}
+
+/* The path of seven: what is near depot 3, and an empty list, whose pointer may be null. */
+static void try_near(void)
+{
+    uint8_t codes[ZORPEDI_CODES_SIZE], found = 77;
+    const uint8_t listed[] = {9, 5, 1, 0, 5};
+    uint16_t count = 0, distance = 77;
+    zorpedi_map_empty(&map);
+    for (uint8_t code = 0, before = 0; code < 7; before = code++) {
+        zorpedi_map_opened(&map, code, &before, code == 0 ? 0 : 1);
+    }
+    memset(codes, 99, sizeof codes);
+    expect("depots within 2", zorpedi_map_within(&map, codes, &count, 3, 2) == ZORPEDI_DONE);
+    expect("1 to 5, and no place behind", count == 5 && codes[0] == 1 && codes[4] == 5 && codes[5] == 99);
+    expect("hops are those of a search", map.hops[0] == 3 && map.hops[6] == 3 && map.hops[7] == ZORPEDI_FAR);
+    expect("depots within 0", zorpedi_map_within(&map, codes, &count, 3, 0) == ZORPEDI_DONE && count == 1 && codes[0] == 3);
+    expect("all of them", zorpedi_map_within(&map, codes, &count, 3, UINT32_MAX) == ZORPEDI_DONE && count == 7);
+    expect("nobody in an empty list", zorpedi_map_nearest(&map, &found, &distance, 3, NULL, 0) == ZORPEDI_NOBODY);
+    expect("a refused call leaves both numbers", found == 77 && distance == 77);
+    expect("the nearest", zorpedi_map_nearest(&map, &found, &distance, 3, listed, sizeof listed) == ZORPEDI_DONE);
+    expect("the lower of two as near", found == 1 && distance == 2);
 }
 
 /* Whether the walk has each bit of the pair table once, in rising order, and then none. */
@@ -101,6 +124,7 @@ int main(void)
 {
     try_versions();
     try_words();
+    try_near();
     try_openings();
     try_pairs();
     puts(differences == 0 ? "the helpers are as the header says" : "the helpers DIFFER from the header");

@@ -18,11 +18,11 @@
  * HOW MEMORY IS LENT
  * A buffer is a pointer and its length in elements, in this order. Most buffers have a named size. A longer one is allowed: only its first part
  * is used, and the rest keeps its value. A shorter one is refused with 1, even where the call would not have filled it. `neighbours`, `input`,
- * `piece` and the frame that is written as a line have no named size; the `out` of a stream is used as far as it goes. Every function takes what it
- * is lent in one order: record, links, pairs, hops, bounds, skips, even, odd, then buffers of lines, then single numbers; then what it is asked.
+ * `piece`, `listed` and the frame that is written as a line have no named size; the `out` of a stream is used as far as it goes. Every function takes
+ * what it is lent in one order: record, links, pairs, hops, bounds, skips, even, odd, then other buffers, then single numbers; then what it is asked.
  *
  * REFUSALS
- * A refused call answers a number from 1 to 9: the first of its own that applies, in rising order. It changes nothing that was lent, scratch
+ * A refused call answers a number from 1 to 10: the first of its own that applies, in rising order. It changes nothing that was lent, scratch
  * memory and single numbers included.
  *
  * VERSIONS
@@ -48,7 +48,7 @@ extern "C" {
 /* ---- the version of the interface */
 
 #define ZORPEDI_VERSION_MAJOR 2
-#define ZORPEDI_VERSION_MINOR 0
+#define ZORPEDI_VERSION_MINOR 1
 #define ZORPEDI_VERSION (ZORPEDI_VERSION_MAJOR * 1000 + ZORPEDI_VERSION_MINOR)
 
 /* The version of the archive. Where both are of one delivery it is ZORPEDI_VERSION. */
@@ -64,7 +64,7 @@ static inline int zorpedi_version_serves(uint32_t version)
 
 #define ZORPEDI_RECORD_SIZE 7    /* uint64_t: the record */
 #define ZORPEDI_TABLE_SIZE 1024  /* uint64_t: the link table; the pair table */
-#define ZORPEDI_CODES_SIZE 256   /* uint16_t: the hop table; the bound table; the skip table */
+#define ZORPEDI_CODES_SIZE 256   /* uint16_t: the hop table; the bound table; the skip table. uint8_t: the places for listed codes */
 #define ZORPEDI_ROW_SIZE 4       /* uint64_t: a layer row, even or odd */
 #define ZORPEDI_FRAME_SIZE 258   /* uint8_t: the frame of a notice */
 #define ZORPEDI_LINE_SIZE 517    /* uint8_t: a notice line; the line buffer of a stream */
@@ -91,19 +91,20 @@ enum zorpedi_answer {
     ZORPEDI_SHORT = 1,    /* short: a lent buffer is shorter than its size */
     ZORPEDI_SPOILT = 2,   /* spoilt: links are not sound; for an opening and the stream, links or figures */
     ZORPEDI_APART = 3,    /* apart: the links are sound, but no walk leads from the lowest open code to some open depot */
-    ZORPEDI_ABSENT = 4,   /* absent: the depot to be searched from is not open */
+    ZORPEDI_ABSENT = 4,   /* absent: the depot to be searched from, or whose near depots are asked, is not open */
     ZORPEDI_TAKEN = 5,    /* taken: the depot to be opened is open already */
     ZORPEDI_LONELY = 6,   /* lonely: an opening has no neighbours, and the map has a depot */
     ZORPEDI_UNSORTED = 7, /* unsorted: some neighbour is not above the one before it */
     ZORPEDI_UNKNOWN = 8,  /* unknown: some neighbour is not open; the new depot itself is not */
     ZORPEDI_GARBLED = 9,  /* garbled: a line has no 0A among its first 517 bytes, or what stands before it does not spell a frame of kind 01 in
                              the digits 0-9 and A-F; for the writer, the bytes are no such frame */
+    ZORPEDI_NOBODY = 10,  /* nobody: no depot of a list is open */
     ZORPEDI_GREW = 71,    /* 'G', grew, zorpedi_open only: accepted, and the longest chain is greater than before */
     ZORPEDI_KEPT = 75,    /* 'K', kept, zorpedi_open only: accepted, and it is the same */
     ZORPEDI_SHRANK = 83   /* 'S', shrank, zorpedi_open only: accepted, and it is neither; where the figures were true it is smaller */
 };
 
-/* The trade's word for a refusal, as above: "short" for 1 to "garbled" for 9, and "" for every number that is no refusal of this header. The text
+/* The trade's word for a refusal, as above: "short" for 1 to "nobody" for 10, and "" for every number that is no refusal of this header. The text
  * stays for as long as the program runs. */
 static inline const char *zorpedi_refusal_word(unsigned number)
 {
@@ -126,6 +127,8 @@ static inline const char *zorpedi_refusal_word(unsigned number)
         return "unknown";
     case ZORPEDI_GARBLED:
         return "garbled";
+    case ZORPEDI_NOBODY:
+        return "nobody";
     default:
         return "";
     }
@@ -140,8 +143,8 @@ static inline const char *zorpedi_refusal_word(unsigned number)
  * Links are sound (rule 1.8) if the open set has as many codes as the record says, every code in a row is open and not the row's own, the rows
  * of closed codes are empty, and v is in row u exactly if u is in row v. Figures are sound if every code v in row u of the pair table has u <
  * v and both open, the pair table has as many bits as the record counts pairs, and the chain is 255 or less. A record word beyond these is
- * spoilt (2) in every call that looks at it: search, reckoning, opening and stream look at the open set and the number; opening and stream at
- * chain and pair count too.
+ * spoilt (2) in every call that looks at it: search, the calls on near depots, reckoning, opening and stream look at the open set and the number;
+ * opening and stream at chain and pair count too.
  *
  * The map of a program is the record, the link table and the pair table. All zero is the empty map. A map that only zorpedi_open and the stream
  * have written since it was emptied is never spoilt or apart, and its figures are true: those of its links. A reckoning leaves the links as they
@@ -163,6 +166,24 @@ uint8_t zorpedi_empty(uint64_t *record, size_t record_size, uint64_t *links, siz
 uint8_t zorpedi_search(const uint64_t *record, size_t record_size, const uint64_t *links, size_t links_size, uint16_t *hops,
                        size_t hops_size, uint64_t *even, size_t even_size, uint64_t *odd, size_t odd_size, uint16_t *eccentricity,
                        uint8_t code);
+
+/* Lists the depots at most `k` handovers from the depot `code`.
+ * 0: the first *count bytes of `codes` are the codes of the open depots whose distance from `code` is at most k, each once, rising; the bytes
+ * behind them keep their values. `code` is one of them, and the only one if k is 0. A closed code is none of them, however great k is. hops, even
+ * and odd are as zorpedi_search leaves them (rule 13.1).
+ * Refused: 1 (record below 7, links below 1,024, hops below 256, even or odd below 4, codes below 256), 2 (links only), 3, 4. */
+uint8_t zorpedi_within(const uint64_t *record, size_t record_size, const uint64_t *links, size_t links_size, uint16_t *hops,
+                       size_t hops_size, uint64_t *even, size_t even_size, uint64_t *odd, size_t odd_size, uint8_t *codes,
+                       size_t codes_size, uint16_t *count, uint8_t code, uint32_t k);
+
+/* Finds the open depot of a list that is nearest to the depot `code`.
+ * 0: *found is the open code in `listed` whose distance from `code` is least, the lowest such code if there are several, and *distance is that
+ * distance. The list may have any length, a code more than once, closed codes, which are passed over, and `code` itself, whose distance is 0.
+ * hops, even and odd are as zorpedi_search leaves them (rule 13.2).
+ * Refused: 1 (record below 7, links below 1,024, hops below 256, even or odd below 4; the list has no size), 2 (links only), 3, 4, 10. */
+uint8_t zorpedi_nearest(const uint64_t *record, size_t record_size, const uint64_t *links, size_t links_size, uint16_t *hops,
+                        size_t hops_size, uint64_t *even, size_t even_size, uint64_t *odd, size_t odd_size, uint8_t *found,
+                        uint16_t *distance, uint8_t code, const uint8_t *listed, size_t listed_size);
 
 /* Reckons longest chain and farthest pairs afresh from the links; chain, pair count and pair table may hold anything before.
  * 0: record words 5 and 6 and the pair table are those of the links; *searches is the number of depots searched, the references. Of the
@@ -298,6 +319,21 @@ static inline uint8_t zorpedi_map_search(zorpedi_map *map, uint8_t code, uint16_
 {
     return zorpedi_search(map->record, ZORPEDI_RECORD_SIZE, map->links, ZORPEDI_TABLE_SIZE, map->hops, ZORPEDI_CODES_SIZE, map->even,
                           ZORPEDI_ROW_SIZE, map->odd, ZORPEDI_ROW_SIZE, eccentricity, code);
+}
+
+/* `codes` is lent whole: ZORPEDI_CODES_SIZE bytes. */
+static inline uint8_t zorpedi_map_within(zorpedi_map *map, uint8_t codes[ZORPEDI_CODES_SIZE], uint16_t *count, uint8_t code, uint32_t k)
+{
+    return zorpedi_within(map->record, ZORPEDI_RECORD_SIZE, map->links, ZORPEDI_TABLE_SIZE, map->hops, ZORPEDI_CODES_SIZE, map->even,
+                          ZORPEDI_ROW_SIZE, map->odd, ZORPEDI_ROW_SIZE, codes, ZORPEDI_CODES_SIZE, count, code, k);
+}
+
+/* `listed` may be null where `size` is 0. */
+static inline uint8_t zorpedi_map_nearest(zorpedi_map *map, uint8_t *found, uint16_t *distance, uint8_t code, const uint8_t *listed,
+                                          size_t size)
+{
+    return zorpedi_nearest(map->record, ZORPEDI_RECORD_SIZE, map->links, ZORPEDI_TABLE_SIZE, map->hops, ZORPEDI_CODES_SIZE, map->even,
+                           ZORPEDI_ROW_SIZE, map->odd, ZORPEDI_ROW_SIZE, found, distance, code, size == 0 ? &code : listed, size);
 }
 
 static inline uint8_t zorpedi_map_reckon(zorpedi_map *map, uint16_t *searches)

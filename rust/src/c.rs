@@ -7,6 +7,14 @@ extern "C" {
         record: *const u64, _: usize, links: *const u64, _: usize, hops: *mut u16, _: usize, even: *mut u64, _: usize,
         odd: *mut u64, _: usize, eccentricity: *mut u16, code: u8,
     ) -> u8;
+    pub fn zorpedi_within(
+        record: *const u64, _: usize, links: *const u64, _: usize, hops: *mut u16, _: usize, even: *mut u64, _: usize,
+        odd: *mut u64, _: usize, codes: *mut u8, _: usize, count: *mut u16, code: u8, k: u32,
+    ) -> u8;
+    pub fn zorpedi_nearest(
+        record: *const u64, _: usize, links: *const u64, _: usize, hops: *mut u16, _: usize, even: *mut u64, _: usize,
+        odd: *mut u64, _: usize, found: *mut u8, distance: *mut u16, code: u8, listed: *const u8, _: usize,
+    ) -> u8;
     pub fn zorpedi_reckon(
         record: *mut u64, _: usize, links: *const u64, _: usize, pairs: *mut u64, _: usize, hops: *mut u16, _: usize,
         bounds: *mut u16, _: usize, skips: *mut u16, _: usize, even: *mut u64, _: usize, odd: *mut u64, _: usize,

@@ -42,6 +42,61 @@ pub fn search(m: &Memory, found: &mut Search, code: u8) -> u8 {
     }
 }
 
+/// The scratch of a search, which both calls on near depots leave behind.
+fn scratch() -> Search {
+    Search { eccentricity: 0, hops: [0; 256], even: [0; 4], odd: [0; 4] }
+}
+
+pub fn within(m: &Memory, codes: &mut [u8; 256], count: &mut u16, code: u8, k: u32) -> u8 {
+    let mut left = scratch();
+    let (r, l, h, e, o) = (&m.record, &m.links, &mut left.hops, &mut left.even, &mut left.odd);
+    // SAFETY: whole arrays of two structs, those that are written each borrowed once, and an array and a number beside them.
+    unsafe {
+        c::zorpedi_within(
+            r.as_ptr(),
+            r.len(),
+            l.as_ptr(),
+            l.len(),
+            h.as_mut_ptr(),
+            h.len(),
+            e.as_mut_ptr(),
+            e.len(),
+            o.as_mut_ptr(),
+            o.len(),
+            codes.as_mut_ptr(),
+            codes.len(),
+            count,
+            code,
+            k,
+        )
+    }
+}
+
+pub fn nearest(m: &Memory, found: &mut u8, distance: &mut u16, code: u8, listed: &[u8]) -> u8 {
+    let mut left = scratch();
+    let (r, l, h, e, o) = (&m.record, &m.links, &mut left.hops, &mut left.even, &mut left.odd);
+    // SAFETY: whole arrays of two structs, those that are written each borrowed once, and two numbers and a slice beside them.
+    unsafe {
+        c::zorpedi_nearest(
+            r.as_ptr(),
+            r.len(),
+            l.as_ptr(),
+            l.len(),
+            h.as_mut_ptr(),
+            h.len(),
+            e.as_mut_ptr(),
+            e.len(),
+            o.as_mut_ptr(),
+            o.len(),
+            found,
+            distance,
+            code,
+            listed.as_ptr(),
+            listed.len(),
+        )
+    }
+}
+
 pub fn reckon(m: &mut Memory, searches: &mut u16) -> u8 {
     // SAFETY: whole arrays of one struct, each named once, and one number beside them.
     unsafe {

@@ -73,6 +73,16 @@ pub struct Opened {
     pub searches: u16,
 }
 
+/// The nearest depot of a list: see [`Map::nearest`].
+#[derive(Clone, Copy, Debug, PartialEq, Eq, Hash)]
+#[non_exhaustive]
+pub struct Nearest {
+    /// The depot's code.
+    pub code: u8,
+    /// How many handovers away it is.
+    pub distance: u16,
+}
+
 /// The record of a map: what it knows beside its two tables. One is made by [`Map::record`] or as that of the empty map, and its fields are
 /// then set.
 ///
@@ -290,6 +300,55 @@ impl Map {
         let mut found = Search { eccentricity: 0, hops: [FAR; 256], even: [0; 4], odd: [0; 4] };
         Refusal::check(ffi::search(&self.memory, &mut found, code))?;
         Ok(found)
+    }
+
+    /// The depots at most `handovers` handovers from an open depot, itself among them, rising. The map is only read.
+    ///
+    /// Refused with `Spoilt` (the links), `Apart` or `Absent`; the first two only on a map made by `from_parts`.
+    ///
+    /// ```
+    /// // The path 0-1-2-3-4-5-6.
+    /// let mut map = zorpedi::Map::new();
+    /// map.open(0, &[])?;
+    /// for code in 1..7 {
+    ///     map.open(code, &[code - 1])?;
+    /// }
+    /// assert_eq!(map.within(3, 2)?, [1, 2, 3, 4, 5]);
+    /// assert_eq!(map.within(3, 0)?, [3]);
+    /// assert_eq!(map.within(0, u32::MAX)?, [0, 1, 2, 3, 4, 5, 6]);
+    /// assert_eq!(map.within(9, 2), Err(zorpedi::Refusal::Absent));
+    /// # Ok::<(), zorpedi::Refusal>(())
+    /// ```
+    pub fn within(&self, code: u8, handovers: u32) -> Result<Vec<u8>, Refusal> {
+        let (mut codes, mut count) = ([0; 256], 0);
+        Refusal::check(ffi::within(&self.memory, &mut codes, &mut count, code, handovers))?;
+        Ok(codes[..usize::from(count)].to_vec())
+    }
+
+    /// Of a list of codes the open depot that is nearest to an open depot, the lowest code of several, with its distance. The list may have codes
+    /// more than once, closed ones and the depot itself. The map is only read.
+    ///
+    /// Refused with `Spoilt` (the links), `Apart`, `Absent` or, if no depot of the list is open, `Nobody`; the first two only on a map made by
+    /// `from_parts`.
+    ///
+    /// ```
+    /// use zorpedi::{Map, Nearest, Refusal};
+    ///
+    /// // The path 0-1-2-3-4-5-6.
+    /// let mut map = Map::new();
+    /// map.open(0, &[])?;
+    /// for code in 1..7 {
+    ///     map.open(code, &[code - 1])?;
+    /// }
+    /// let Nearest { code, distance, .. } = map.nearest(3, &[9, 5, 1, 6])?;
+    /// assert_eq!((code, distance), (1, 2)); // 5 is as near
+    /// assert_eq!(map.nearest(3, &[9, 200]), Err(Refusal::Nobody));
+    /// # Ok::<(), Refusal>(())
+    /// ```
+    pub fn nearest(&self, code: u8, listed: &[u8]) -> Result<Nearest, Refusal> {
+        let mut nearest = Nearest { code: 0, distance: 0 };
+        Refusal::check(ffi::nearest(&self.memory, &mut nearest.code, &mut nearest.distance, code, listed))?;
+        Ok(nearest)
     }
 
     /// Reckons chain and pairs afresh from the links, whatever they were, and answers how many depots were searched.

@@ -32,7 +32,7 @@ pub enum Refusal {
     Spoilt,
     /// 3: links are sound, but no walk leads from the lowest open code to some open depot.
     Apart,
-    /// 4: the depot to be searched from is not open.
+    /// 4: the depot to be searched from, or whose near depots are asked, is not open.
     Absent,
     /// 5: the depot to be opened is open already.
     Taken,
@@ -44,13 +44,15 @@ pub enum Refusal {
     Unknown,
     /// 9: a line that spells no frame, or bytes that are no frame.
     Garbled,
+    /// 10: no depot of a list is open.
+    Nobody,
     /// Any other number, from an archive that is newer than this crate. Only the crate makes one, and [`Refusal::number`] gives the number.
     #[non_exhaustive]
     Other(u8),
 }
 
 /// The refusals that have a name, by their numbers, which begin at 1.
-const NAMED: [Refusal; 9] = [
+const NAMED: [Refusal; 10] = [
     Refusal::Short,
     Refusal::Spoilt,
     Refusal::Apart,
@@ -60,6 +62,7 @@ const NAMED: [Refusal; 9] = [
     Refusal::Unsorted,
     Refusal::Unknown,
     Refusal::Garbled,
+    Refusal::Nobody,
 ];
 
 impl Refusal {
@@ -75,7 +78,7 @@ impl Refusal {
         NAMED.into_iter()
     }
 
-    /// The refusal's number: 1 to 9 for those that have a name.
+    /// The refusal's number: 1 to 10 for those that have a name.
     ///
     /// ```
     /// assert_eq!(zorpedi::Refusal::Garbled.number(), 9);
@@ -91,6 +94,7 @@ impl Refusal {
             Refusal::Unsorted => 7,
             Refusal::Unknown => 8,
             Refusal::Garbled => 9,
+            Refusal::Nobody => 10,
             Refusal::Other(number) => number,
         }
     }
@@ -123,6 +127,7 @@ impl Refusal {
             Refusal::Unsorted => "unsorted",
             Refusal::Unknown => "unknown",
             Refusal::Garbled => "garbled",
+            Refusal::Nobody => "nobody",
             Refusal::Other(_) => "",
         }
     }
@@ -138,6 +143,7 @@ impl Refusal {
             Refusal::Unsorted => "some neighbour is not above the one before it",
             Refusal::Unknown => "some neighbour is not open",
             Refusal::Garbled => "a line that spells no frame, or bytes that are no frame",
+            Refusal::Nobody => "no depot of a list is open",
             Refusal::Other(_) => "the archive is newer than the crate, which has no word for it",
         }
     }

@@ -96,7 +96,7 @@ fn each_refusal() -> Result<(), Refusal> {
 /// Each refusal has the number and the word of the trade, and every other number has none.
 #[test]
 fn the_refusals_that_have_a_name() {
-    let words = ["short", "spoilt", "apart", "absent", "taken", "lonely", "unsorted", "unknown", "garbled"];
+    let words = ["short", "spoilt", "apart", "absent", "taken", "lonely", "unsorted", "unknown", "garbled", "nobody"];
     let named: Vec<(u8, &str)> = Refusal::all().map(|refusal| (refusal.number(), refusal.word())).collect();
     assert_eq!(named, (1..).zip(words).collect::<Vec<_>>());
     for refusal in Refusal::all() {
@@ -104,7 +104,7 @@ fn the_refusals_that_have_a_name() {
         assert!(refusal.to_string().starts_with(&format!("{} ({}): ", refusal.word(), refusal.number())));
     }
     assert_eq!((0..=255).filter_map(Refusal::from_number).count(), words.len());
-    assert!(Refusal::Short < Refusal::Garbled);
+    assert!(Refusal::Short < Refusal::Garbled && Refusal::Garbled < Refusal::Nobody);
 }
 
 #[test]

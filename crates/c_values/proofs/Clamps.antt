@@ -2,7 +2,7 @@
 -- record's narrower fields. Assumes nothing.
 use mathlib.Core.Path.{_≡_, refl, sym, ap, ap₂, _∙_}
 use mathlib.Core.Bool.{Bool, true, false, not, _&&_}
-use mathlib.Core.List.{List, [], _∷_}
+use mathlib.Core.List.{List, [], _∷_, _++_}
 use Prim.Native.Nat.{ℕ, _≤_, _<_, min}
 use native.Mathlib.Nat.{lt-irrefl}
 use native.Mathlib.Omega.{arith}
@@ -85,6 +85,13 @@ module _ (members links : List ℕ) where
       (omega (arith, r), omega (arith, q, few-pairs P))
 
 -- ---- the refusals of a lent map
+
+-- where the call looks at the links alone, before whatever it looks at besides
+pub links-first-clamp : (l links : List ℕ) (long : Bool) (tests : List (Bool × ℕ))
+    → firstOf (lentFaults base long false (clampedOf l) links [] ++ tests) ≡ firstOf (lentFaults base long false (recordOf l) links [] ++ tests)
+unfolding lentFaults clampedOf recordOf
+links-first-clamp l links long tests =
+    ap (λ (t : Bool). firstOf ((not long, 1) ∷ (not t, 2) ∷ (not (connected (networkOf 4 (take 4 l) links)), 3) ∷ tests)) (links-clamp (take 4 l) links (getD l 4 0))
 
 module _ (l links pairs : List ℕ) (z : Sizes) where
   pub map-clamp : mapRefusal base (clampedOf l) links pairs z ≡ mapRefusal base (recordOf l) links pairs z

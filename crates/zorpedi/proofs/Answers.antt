@@ -32,7 +32,7 @@ use Rattle.update.specs.UpdateCall.{UpdateLeft, updateLeft, updateRefusal, upda
 use Rattle.update.specs.declared.Returned.{Returned}
 use Rattle.c_values.specs.Words.{recordWords, recordOf, wordsOf, clampedOf}
 use Rattle.zorpedi.specs.Outs.{EmptyOut, emptiedOut, emptyFrom, emptyOut, SearchOut, searchedOut, searchFrom, searchOut, ReckonOut, reckonedOut, reckonFrom, reckonOut, OpenOut, openedOut, openFrom, openOut}
-use Rattle.c_values.proofs.Clamps.{links-clamp, figures-clamp, number-fits, figures-fit}
+use Rattle.c_values.proofs.Clamps.{links-clamp, links-first-clamp, figures-clamp, number-fits, figures-fit}
 use Rattle.lent_map.specs.Faults.{lentFaults, lentRefusal}
 
 -- ---- emptying
@@ -82,16 +82,10 @@ module _ (l links : List ℕ) (B : Tables) (old code : ℕ) where
 
   -- a number that is too large is spoilt, as the largest one is; the figures do not matter
   search-clamp : searchCall base (clampedOf l) links B code ≡ searchCall base (recordOf l) links B code
-  unfolding searchCall searchGiven searchRefusal lentFaults clampedOf recordOf
-  search-clamp = go _ _ (
-      ap
-      (λ (t : Bool). firstOf
-      ((not (longEnough base (searchSizes base (length links) (length (B .hops)) (length (B .even)) (length (B .odd)))), 1)
-      ∷ (not t, 2)
-      ∷ (not (connected (networkOf 4 (take 4 l) links)), 3)
-      ∷ (not (networkOf 4 (take 4 l) links .isOpen code), 4)
-      ∷ []))
-      (links-clamp (take 4 l) links (getD l 4 0)))
+  unfolding searchCall searchGiven searchRefusal clampedOf recordOf
+  search-clamp =
+      go _ _ (links-first-clamp l links (longEnough base (searchSizes base (length links) (length (B .hops)) (length (B .even)) (length (B .odd))))
+      ((not (networkOf 4 (take 4 l) links .isOpen code), 4) ∷ []))
     where
       go : (j k : ℕ) → j ≡ k → searchGiven j base (clampedOf l) links B code ≡ searchGiven k base (recordOf l) links B code
       go j zero e = ap (λ (x : ℕ). searchGiven x base (clampedOf l) links B code) e

@@ -4,7 +4,9 @@
 pub mod Lines
 -- 2. the calls on one map
 pub mod Outs
--- 3. the step of the stream
+-- 3. the calls on depots near one
+pub mod Nears
+-- 4. the step of the stream
 pub mod Feeds
--- 4. the version of the interface
+-- 5. the version of the interface
 pub mod Version

@@ -2,6 +2,7 @@
 // wraps and asks nothing: bad input gets its numbered refusal, and then nothing lent has changed, the lent numbers included.
 // The record of a map is lent as seven words: the open set (four), the number open, the longest chain, the pair count.
 mod maps;
+mod near;
 mod streams;
 mod texts;
 mod version;

@@ -14,7 +14,7 @@ fn beside(what: &str, m: &mut Lent, plainly: impl Fn(&mut Lent) -> u8, call: imp
         panic!("{what}, answer {answer}: {difference}");
     }
     // The plain way is held to the rule too.
-    if (1..=9).contains(&answer) {
+    if (1..=10).contains(&answer) {
         assert!(*m == start, "{what}: refused with {answer}, and something changed");
     }
     answer
@@ -26,6 +26,15 @@ pub fn empty(m: &mut Lent) -> u8 {
 
 pub fn search(m: &mut Lent, code: u8) -> u8 {
     beside("search", m, |m| expected::search(m, code), |m| raw::search(m, code))
+}
+
+pub fn within(m: &mut Lent, code: u8, k: u32) -> u8 {
+    beside("within", m, |m| expected::within(m, code, k), |m| raw::within(m, code, k))
+}
+
+pub fn nearest(m: &mut Lent, code: u8, listed: &[u8]) -> u8 {
+    m.input = Buffer::new(listed.to_vec());
+    beside("nearest", m, |m| expected::nearest(m, code), |m| raw::nearest(m, code))
 }
 
 pub fn reckon(m: &mut Lent) -> u8 {

@@ -126,22 +126,58 @@ pub fn empty(m: &mut Lent) -> u8 {
     0
 }
 
-pub fn search(m: &mut Lent, code: u8) -> u8 {
+/// 1 to 4 of a call that searches from a depot.
+fn search_refusal(m: &Lent, code: u8) -> u8 {
     if is_short(&m.record, 7) || is_short(&m.links, 1024) || is_short(&m.hops, 256) || is_short(&m.even, 4) || is_short(&m.odd, 4) {
         return 1;
     }
-    let refusal = links_refusal(m);
+    match links_refusal(m) {
+        0 if !network(m).open.contains(&code.into()) => 4,
+        refusal => refusal,
+    }
+}
+
+pub fn search(m: &mut Lent, code: u8) -> u8 {
+    let refusal = search_refusal(m, code);
+    if refusal != 0 {
+        return refusal;
+    }
+    let distances = network(m).distances(code.into());
+    store_search(m, &distances);
+    m.eccentricity = eccentricity(&distances) as u16;
+    0
+}
+
+pub fn within(m: &mut Lent, code: u8, k: u32) -> u8 {
+    if is_short(&m.codes, 256) {
+        return 1;
+    }
+    let refusal = search_refusal(m, code);
     if refusal != 0 {
         return refusal;
     }
     let network = network(m);
-    if !network.open.contains(&code.into()) {
-        return 4;
-    }
-    let distances = network.distances(code.into());
-    store_search(m, &distances);
-    m.eccentricity = eccentricity(&distances) as u16;
+    store_search(m, &network.distances(code.into()));
+    let codes = network.within(code.into(), k);
+    m.codes.data[..codes.len()].copy_from_slice(&codes);
+    m.count = codes.len() as u16;
     0
+}
+
+pub fn nearest(m: &mut Lent, code: u8) -> u8 {
+    let refusal = search_refusal(m, code);
+    if refusal != 0 {
+        return refusal;
+    }
+    let network = network(m);
+    match network.nearest(code.into(), &m.input()) {
+        None => 10,
+        Some((found, distance)) => {
+            store_search(m, &network.distances(code.into()));
+            (m.found, m.distance) = (found, distance);
+            0
+        }
+    }
 }
 
 pub fn reckon(m: &mut Lent) -> u8 {

@@ -18,6 +18,7 @@ mod cuts;
 mod few;
 mod histories;
 mod lines;
+mod near;
 mod networks;
 mod refusals;
 mod sizes;

@@ -29,6 +29,27 @@ pub fn search(m: &mut Lent, code: u8) -> u8 {
 }
 
 #[rustfmt::skip]
+pub fn within(m: &mut Lent, code: u8, k: u32) -> u8 {
+    unsafe {
+        c::zorpedi_within(
+            m.record.pointer(), m.record.lent, m.links.pointer(), m.links.lent, m.hops.pointer(), m.hops.lent,
+            m.even.pointer(), m.even.lent, m.odd.pointer(), m.odd.lent, m.codes.pointer(), m.codes.lent, &mut m.count, code, k,
+        )
+    }
+}
+
+#[rustfmt::skip]
+pub fn nearest(m: &mut Lent, code: u8) -> u8 {
+    unsafe {
+        c::zorpedi_nearest(
+            m.record.pointer(), m.record.lent, m.links.pointer(), m.links.lent, m.hops.pointer(), m.hops.lent,
+            m.even.pointer(), m.even.lent, m.odd.pointer(), m.odd.lent, &mut m.found, &mut m.distance, code,
+            m.input.pointer(), m.input.lent,
+        )
+    }
+}
+
+#[rustfmt::skip]
 pub fn reckon(m: &mut Lent) -> u8 {
     unsafe {
         c::zorpedi_reckon(

@@ -1,5 +1,5 @@
 //! Buffers one element below their named size, at it and one above it, in every combination, for every call.
-use crate::both::{empty, feed, finish, open, read, reckon, report, search, write};
+use crate::both::{empty, feed, finish, nearest, open, read, reckon, report, search, within, write};
 use crate::inputs::Dice;
 use crate::lent::{Lent, SIZES};
 use crate::maps::{any_memory, true_map};
@@ -51,10 +51,17 @@ fn of_a_search() {
     every_combination(&m, &[0, 1, 3, 6, 7], 3, |m| search(m, code));
     // nothing else is asked for
     let mut m = m;
-    for which in [2, 4, 5, 8, 9, 10] {
+    for which in [2, 4, 5, 8, 9, 10, 11] {
         m.set_lent(which, 0);
     }
     assert_eq!(search(&mut m, code), 0);
+}
+
+#[test]
+fn of_the_calls_on_near_depots() {
+    let (m, code) = small_map(500);
+    every_combination(&m, &[0, 1, 3, 6, 7, 11], 3, |m| within(m, code, 2));
+    every_combination(&m, &[0, 1, 3, 6, 7], 3, |m| nearest(m, code, &[code]));
 }
 
 #[test]

@@ -1,5 +1,5 @@
 //! The worked cases of docs/RULES.md, by their numbers; the plain implementation is held to them as well.
-use crate::both::{empty, feed, finish, open, read, reckon, report, search, write};
+use crate::both::{empty, feed, finish, nearest, open, read, reckon, report, search, within, write};
 use crate::inputs::Dice;
 use crate::lent::{Buffer, Lent};
 use crate::maps::any_memory;
@@ -97,6 +97,23 @@ fn the_path_of_seven() {
     // the last reference is 6
     assert_eq!(m.hops.data[..8], [6, 5, 4, 3, 2, 1, 0, 65_535]);
     assert_eq!((m.even.data[0], m.odd.data[0]), (1, 2));
+}
+
+/// Rule 13.3, and the start itself.
+#[test]
+fn near_depots_on_the_path_of_seven() {
+    let mut m = path_of_seven();
+    for (k, codes) in [(0, vec![3]), (1, vec![2, 3, 4]), (2, vec![1, 2, 3, 4, 5]), (65_535, (0..7).collect()), (u32::MAX, (0..7).collect())]
+    {
+        assert_eq!(within(&mut m, 3, k), 0);
+        assert_eq!(m.codes.data[..usize::from(m.count)], codes, "within {k}");
+    }
+    for (code, list, found, distance) in
+        [(3, &[9, 5, 1, 0, 5][..], 1, 2), (3, &[0, 1, 5], 1, 2), (6, &[0, 4, 2, 200], 4, 2), (6, &[5, 6, 5], 6, 0), (0, &[6], 6, 6)]
+    {
+        assert_eq!((nearest(&mut m, code, list), m.found, m.distance), (0, found, distance), "of {list:?} from {code}");
+    }
+    assert_eq!((nearest(&mut m, 3, &[9, 200]), nearest(&mut m, 3, &[]), nearest(&mut m, 9, &[])), (10, 10, 4));
 }
 
 /// A reckoning does not look at the figures before it: true, false, out of range, on the path and on the empty and the single map.
