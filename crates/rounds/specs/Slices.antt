@@ -8,16 +8,16 @@ use Rattle.pairs.specs.Pairs.{tally}
 use Rattle.bounds.specs.Slices.{marksAt}
 use Rattle.rounds.specs.Workspace.{Workspace, workspace}
 
--- ---- the workspace of the rounds: hops, even, odd, pairs, bounds, skips, ranks; then candidate, count and searches
+-- ---- the workspace of the rounds: pairs, hops, bounds, skips, even, odd, ranks; then candidate, count and searches
 
 abbrev pub workspaceAt : ℕ → Slice → Slice → Slice → Slice → Slice → Slice → Slice → ℕ → ℕ → ℕ → Workspace
-workspaceAt W hops even odd pairs bounds skips ranks candidate count searches =
+workspaceAt W pairs hops bounds skips even odd ranks candidate count searches =
     workspace (tablesAt hops even odd) (tally (now pairs) count) (marksAt W bounds skips ranks) candidate searches
 
 abbrev pub workspaceBefore : ℕ → Moments → Moments → Moments → Moments → Moments → Moments → Moments → ℕ → ℕ → ℕ → Workspace
-workspaceBefore W hops even odd pairs bounds skips ranks =
-    workspaceAt W (hops .entry) (even .entry) (odd .entry) (pairs .entry) (bounds .entry) (skips .entry) (ranks .entry)
+workspaceBefore W pairs hops bounds skips even odd ranks =
+    workspaceAt W (pairs .entry) (hops .entry) (bounds .entry) (skips .entry) (even .entry) (odd .entry) (ranks .entry)
 
 abbrev pub workspaceAfter : ℕ → Moments → Moments → Moments → Moments → Moments → Moments → Moments → ℕ → ℕ → ℕ → Workspace
-workspaceAfter W hops even odd pairs bounds skips ranks =
-    workspaceAt W (hops .exit) (even .exit) (odd .exit) (pairs .exit) (bounds .exit) (skips .exit) (ranks .exit)
+workspaceAfter W pairs hops bounds skips even odd ranks =
+    workspaceAt W (pairs .exit) (hops .exit) (bounds .exit) (skips .exit) (even .exit) (odd .exit) (ranks .exit)

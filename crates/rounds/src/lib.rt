@@ -122,8 +122,8 @@ fn round(
         × (r < 64 * words)
         × (before .searches < 65535) ⌝ }
     ensures { λ t.
-        let entry = workspaceBefore words hops even odd pairs bounds skips ranks (before .candidate) (before .count) (before .searches) in
-        let exit = workspaceAfter words hops even odd pairs bounds skips ranks (t .candidate) (t .count) (t .searches) in
+        let entry = workspaceBefore words pairs hops bounds skips even odd ranks (before .candidate) (before .count) (before .searches) in
+        let exit = workspaceAfter words pairs hops bounds skips even odd ranks (t .candidate) (t .count) (t .searches) in
         ⌜ (exit ≡ roundOf words (now (links .entry)) mark r entry)
         × AreThinned words (now (ranks .entry)) (now (ranks .exit)) ⌝ }
 {
@@ -174,8 +174,8 @@ pub fn run_rounds(
         × AreRanks words (now links) (now ranks)
         × (before .searches < 2) ⌝ }
     ensures { λ t.
-        let entry = workspaceBefore words hops even odd pairs bounds skips ranks (before .candidate) (before .count) (before .searches) in
-        let exit = workspaceAfter words hops even odd pairs bounds skips ranks (t .candidate) (t .count) (t .searches) in
+        let entry = workspaceBefore words pairs hops bounds skips even odd ranks (before .candidate) (before .count) (before .searches) in
+        let exit = workspaceAfter words pairs hops bounds skips even odd ranks (t .candidate) (t .count) (t .searches) in
         ⌜ exit ≡ runOf words (now (links .entry)) mark (64 * words) entry ⌝ }
 {
     let mut now = before;
