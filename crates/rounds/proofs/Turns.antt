@@ -191,6 +191,9 @@ fewer-remain W links mark M T t m c s r q w e =
     let p = picked-in W links (M .marked .waiting) r q in
     subst (λ (X : Workspace). countb (rowBit W (X .marked .waiting)) (range (64 * W)) < countb (rowBit W (M .marked .waiting)) (range (64 * W))) (sym e) (round-fewer W links mark r M (p .1) (p .0) w)
 
--- one search more is still a number of 16 bits
-pub room-left : (W : ℕ) (links : List ℕ) (mark : ℕ) (M₀ M : Workspace) → AtRound W links mark M₀ M → M₀ .searches < 2 → W < 513 → M .searches < 65535
-room-left W links mark M₀ M A l m = omega (arith, A .spare)
+-- while a depot remains, no more searches were made than there are places
+pub room-left : (W : ℕ) (links : List ℕ) (mark : ℕ) (M₀ M : Workspace) (r : ℕ) → AtRound W links mark M₀ M → M₀ .searches < 2 → pickIn W links (M .marked .waiting) ≡ some r
+    → W ≤ length (M .marked .waiting) → M .searches ≤ 64 * W
+room-left W links mark M₀ M r A l q w =
+    let p = picked-in W links (M .marked .waiting) r q in
+    omega (arith, A .spare, round-fewer W links mark r M (p .1) (p .0) w)

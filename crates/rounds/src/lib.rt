@@ -120,7 +120,7 @@ fn round(
         × Counted words (now pairs) (before .count)
         × Fits words (now bounds) (now skips) (now ranks)
         × (r < 64 * words)
-        × (before .searches < 65535) ⌝ }
+        × (before .searches ≤ 64 * words) ⌝ }
     ensures { λ t.
         let entry = workspaceBefore words pairs hops bounds skips even odd ranks (before .candidate) (before .count) (before .searches) in
         let exit = workspaceAfter words pairs hops bounds skips even odd ranks (t .candidate) (t .count) (t .searches) in

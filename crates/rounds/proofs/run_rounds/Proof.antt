@@ -69,7 +69,7 @@ round-requires c κs =
       search needs,
       search needs,
       p .0,
-      search (room-left, needs),
+      room-left _ _ _ _ _ _ (at-loop .loop .inv .0) (start .pre .4) (picked after-known-told) (waiting-fits _ _),
     )
 
 loop-less : tie.Need-loop-less Inv-loop μ-loop
