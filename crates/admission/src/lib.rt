@@ -1,5 +1,5 @@
-// Whether a notice may be opened (refusals 5 to 8), and the links of the depot that it opens. A row of words may be 4 to 512 long: a code is a
-// byte, and so stands in a row.
+// Whether a notice may be opened (refusals 5 to 8), and the links of the depot that it opens. A row of words may be longer than a map's, up to
+// 512: a code is a byte, and so stands in a row.
 ghost use mathlib.Core.List.{[]};
 ghost use mathlib.Core.Path.{_≡_};
 ghost use mathlib.Core.Bool.{_&&_, _||_};
@@ -10,7 +10,7 @@ ghost use Rattle.lists.specs.Lists.{allb, memb, overwrite, firstOf};
 ghost use Rattle.graph.specs.Distance.{vertices};
 ghost use Rattle.graph.specs.Opening.{strictlyRising, isEmpty, openFaults};
 ghost use Rattle.rows.specs.Rows.{rowBit, tableBit, encodeTable};
-ghost use Rattle.map.specs.Memory.{networkOf};
+ghost use Rattle.map.specs.Memory.{base, networkOf};
 
 // ---- refusals 5 to 8
 
@@ -41,7 +41,7 @@ fn is_rising(neighbours: &[u8]) -> bool
 
 // Whether each code is open.
 fn all_open(members: &[u64], words: usize, neighbours: &[u8]) -> bool
-    requires { ⌜ (4 ≤ words) × (words < 513) × (words ≤ length (now members)) ⌝ }
+    requires { ⌜ (base .words ≤ words) × (words < 513) × (words ≤ length (now members)) ⌝ }
     ensures { λ r. ⌜ r ≡ allb (rowBit words (now (members .entry))) (now (neighbours .entry)) ⌝ }
 {
     let mut i: usize = 0;
@@ -57,7 +57,7 @@ fn all_open(members: &[u64], words: usize, neighbours: &[u8]) -> bool
 
 // The first of the refusals 5 to 8 that holds, 0 for none. They ask only which codes are open, so no link is lent.
 pub fn notice_refusal(members: &[u64], words: usize, code: u8, neighbours: &[u8]) -> u8
-    requires { ⌜ (4 ≤ words) × (words < 513) × (words ≤ length (now members)) ⌝ }
+    requires { ⌜ (base .words ≤ words) × (words < 513) × (words ≤ length (now members)) ⌝ }
     ensures { λ r. ⌜ r ≡ firstOf (openFaults (networkOf words (now (members .entry)) []) (record { code = code; neighbours = now (neighbours .entry) })) ⌝ }
 {
     if map::is_open(members, words, code as usize) {
@@ -79,7 +79,7 @@ pub fn notice_refusal(members: &[u64], words: usize, code: u8, neighbours: &[u8]
 
 // Links a code with each neighbour, both ways.
 pub fn link_depot(links: &mut [u64], words: usize, code: u8, neighbours: &[u8])
-    requires { ⌜ (4 ≤ words) × (words < 513) × (words * (64 * words) ≤ length (now links)) ⌝ }
+    requires { ⌜ (base .words ≤ words) × (words < 513) × (words * (64 * words) ≤ length (now links)) ⌝ }
     ensures { λ r.
         let before = now (links .entry) in
         let others = now (neighbours .entry) in
