@@ -9,7 +9,12 @@ abbrev pub recordWords : ℕ
 recordWords = base .words + 3
 
 unfoldable pub recordOf : List ℕ → Record
-recordOf words = record { members = take (base .words) words; number = getD words 4 0; chain = getD words 5 0; count = getD words 6 0 }
+recordOf words = record {
+  members = take (base .words) words;
+  number = getD words (base .words) 0;
+  chain = getD words (base .words + 1) 0;
+  count = getD words (base .words + 2) 0;
+}
 
 unfoldable pub wordsOf : Record → List ℕ
 wordsOf rec = rec .members ++ (rec .number ∷ rec .chain ∷ rec .count ∷ [])
@@ -25,4 +30,9 @@ most32 = 4294967295
 
 -- The record at the widths of its fields. `map-clamp` and `clamped-is` (proofs/Clamps) say that no call can tell the difference.
 unfoldable pub clampedOf : List ℕ → Record
-clampedOf words = record { members = take (base .words) words; number = min (getD words 4 0) most16; chain = min (getD words 5 0) most16; count = min (getD words 6 0) most32 }
+clampedOf words = record {
+  members = take (base .words) words;
+  number = min (getD words (base .words) 0) most16;
+  chain = min (getD words (base .words + 1) 0) most16;
+  count = min (getD words (base .words + 2) 0) most32;
+}

@@ -17,6 +17,13 @@ use outcome::Outcome;
 // the words that a record is lent for C: its open set, then number open, chain and pair count; in specifications `recordWords`
 pub const RECORD_WORDS: usize = map::WORDS + 3;
 
+// where the figures stand, behind the open set; in specifications `base .words`, and one and two past it
+const NUMBER_WORD: usize = map::WORDS;
+
+const CHAIN_WORD: usize = map::WORDS + 1;
+
+const COUNT_WORD: usize = map::WORDS + 2;
+
 // the largest numbers of 16 and of 32 bits; in specifications `most16`, `most32`
 const MOST_16: u16 = 65535;
 
@@ -49,9 +56,9 @@ pub fn record_of(words: &[u64]) -> Record
 {
     Record {
         members: [words[0], words[1], words[2], words[3]],
-        number: at_16_bits(words[4]),
-        chain: at_16_bits(words[5]),
-        count: at_32_bits(words[6]),
+        number: at_16_bits(words[NUMBER_WORD]),
+        chain: at_16_bits(words[CHAIN_WORD]),
+        count: at_32_bits(words[COUNT_WORD]),
     }
 }
 
@@ -81,9 +88,9 @@ pub fn put_record(words: &mut [u64], rec: Record)
 {
     let members = rec.members;
     put_members(words, &members);
-    put_word(words, 4, rec.number as u64);
-    put_word(words, 5, rec.chain as u64);
-    put_word(words, 6, rec.count as u64);
+    put_word(words, NUMBER_WORD, rec.number as u64);
+    put_word(words, CHAIN_WORD, rec.chain as u64);
+    put_word(words, COUNT_WORD, rec.count as u64);
 }
 
 // ---- an answer's number
