@@ -11,7 +11,7 @@ use Rattle.graph.specs.Network.{Network}
 use Rattle.graph.specs.Chart.{chart}
 use Rattle.graph.specs.Rounds.{reckon}
 use Rattle.graph.specs.Cases.{pairList, AnswerLine}
-use Rattle.map.specs.Memory.{base, mapNetwork}
+use Rattle.map.specs.Memory.{base, places, mapNetwork}
 use Rattle.map.specs.declared.Record.{Record}
 use Rattle.map.specs.Room.{Lent, sizesOf, longEnough}
 use Rattle.reckon.specs.ReckonCall.{reckoningNumber, searchesOf, ReckonLeft}
@@ -23,7 +23,7 @@ use Rattle.history.specs.PlainRun.{Ask}
 
 -- the pairs whose bits stand in a pair table
 unfoldable pub pairsIn : List ℕ → List (ℕ × ℕ)
-pairsIn table = pairList (range 256) (tableBit 4 table)
+pairsIn table = pairList (range (places base)) (tableBit (base .words) table)
 
 -- a number in each of n places
 abbrev pub repeated : ℕ → ℕ → List ℕ
@@ -37,7 +37,7 @@ pub record IsMapOf (G : Network) (number : ℕ) (rec : Record) (links : List ℕ
   pub counted : rec .number ≡ number
   pub long : longEnough base (sizesOf links B) ≡ true
 
--- the refusal, 0 for none; the searches; the references, in order, by the rules; the record's numbers; the 256 places of the skip and the bound
+-- the refusal, 0 for none; the searches; the references, in order, by the rules; the record's numbers; the places of the skip and the bound
 -- table; the pairs
 pub record Result : Type 0 where
   pub refusal : ℕ
@@ -61,8 +61,8 @@ resultOf step rec links B =
       number = l .reckoned .after .number;
       chain = l .reckoned .after .chain;
       count = l .reckoned .after .count;
-      skips = take 256 (l .lent .skips);
-      bounds = take 256 (l .lent .bounds);
+      skips = take (places base) (l .lent .skips);
+      bounds = take (places base) (l .lent .bounds);
       pairs = pairsIn (l .lent .pairs);
     }
 
