@@ -14,7 +14,7 @@ ghost use Rattle.checks.specs.Sound.{soundLinks, soundFigures};
 
 // Whether links and number open are sound. Only set bits are walked, and the walk ends at the first faulty one.
 pub fn links_are_sound(members: &[u64], links: &[u64], words: usize, number: u16) -> bool
-    requires { ⌜ IsLent words (now links) (now members) ⌝ }
+    requires { ⌜ IsLent words (now members) (now links) ⌝ }
     ensures { λ r. ⌜ r ≡ soundLinks (64 * words) (networkOf words (now (members .entry)) (now (links .entry))) number ⌝ }
 {
     if rows::degree(members, words, 0) != number as usize {
@@ -65,7 +65,7 @@ pub fn figures_are_sound(
     chain: u16,
     count: u32,
 ) -> bool
-    requires { ⌜ IsLent words (now pairs) (now members) ⌝ }
+    requires { ⌜ IsLent words (now members) (now pairs) ⌝ }
     ensures { λ r. ⌜ r ≡ soundFigures (64 * words) (networkOf words (now (members .entry)) []) (tableBit words (now (pairs .entry))) chain count ⌝ }
 {
     if count_pairs(pairs, words) != count as usize {

@@ -57,7 +57,7 @@ pub fn is_connected(
     next: &mut [u64],
     words: usize,
 ) -> bool
-    requires { ⌜ IsLent words (now links) (now members)
+    requires { ⌜ IsLent words (now members) (now links)
         × (64 * words ≤ length (now hops))
         × (words ≤ length (now even))
         × (words ≤ length (now odd))
@@ -76,7 +76,7 @@ pub fn is_connected(
 
 // The same for rows of four words, on local memory, so that a refused call changes nothing.
 pub fn map_is_connected(members: &[u64], links: &[u64]) -> bool
-    requires { ⌜ IsLent (base .words) (now links) (now members) × IsSound (networkOf (base .words) (now members) (now links)) ⌝ }
+    requires { ⌜ IsLent (base .words) (now members) (now links) × IsSound (networkOf (base .words) (now members) (now links)) ⌝ }
     ensures { λ r. ⌜ r ≡ connected (networkOf (base .words) (now (members .entry)) (now (links .entry))) ⌝ }
 {
     let mut hops = [0u16; map::PLACES];
@@ -100,7 +100,7 @@ pub fn map_is_connected(members: &[u64], links: &[u64]) -> bool
 
 // Whether the stored figures are sound, where the call goes by them.
 fn stored_are_sound(members: &[u64], pairs: &[u64], figured: bool, chain: u16, count: u32) -> bool
-    requires { ⌜ (figured ≡ true → IsLent (base .words) (now pairs) (now members)) ⌝ }
+    requires { ⌜ (figured ≡ true → IsLent (base .words) (now members) (now pairs)) ⌝ }
     ensures { λ r.
         let G = networkOf (base .words) (now (members .entry)) [] in
         ⌜ r ≡ (not figured || soundFigures (places base) G (tableBit (base .words) (now (pairs .entry))) chain count) ⌝ }

@@ -16,9 +16,9 @@ soundPair G u v = ltb u v && delivers G u && delivers G v
 
 -- ---- what a check is lent
 
--- A whole table and a whole open set are lent, of 1 to 512 words a row.
-pub record IsLent (W : ℕ) (table members : List ℕ) : Type 0 where
+-- A whole open set and a whole table are lent, of 1 to 512 words a row.
+pub record IsLent (W : ℕ) (members table : List ℕ) : Type 0 where
   pub positive : 0 < W
   pub most : W < 513
-  pub rows : W * (64 * W) ≤ length table
   pub row : W ≤ length members
+  pub rows : W * (64 * W) ≤ length table

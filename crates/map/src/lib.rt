@@ -52,7 +52,7 @@ pub fn next_open(members: &[u64], words: usize, from: usize) -> Next
 
 // Whether a bit v of row u may stand: u and v are open and differ, and row v has bit u.
 pub fn link_is_sound(members: &[u64], links: &[u64], words: usize, u: usize, v: usize) -> bool
-    requires { ⌜ IsLent words (now links) (now members) × (u < 64 * words) × (v < 64 * words) ⌝ }
+    requires { ⌜ IsLent words (now members) (now links) × (u < 64 * words) × (v < 64 * words) ⌝ }
     ensures { λ r. ⌜ r ≡ soundLink (networkOf words (now (members .entry)) (now (links .entry))) u v ⌝ }
 {
     if !is_open(members, words, u) {
