@@ -59,28 +59,28 @@ module _ (K : Shape) (shape : IsShape K) (members links : List ℕ) (B : Lent) (
 
   module _ (p b s w : List ℕ) (begins : roundsBegun p (marks b s w) ≡ roundsBeginOf (K .words) (K .otherMark) members (roundsBegun (B .pairs) (marks (B .bounds) (B .skips) row))) where
     abbrev M : Workspace
-    M = workspace (B .searched) (tally p 0) (marks b s w) way 0
+    M = workspace (tally p 0) (B .searched) (marks b s w) way 0
 
     begun-holds : Holds (K .words) (K .searchedMark) (K .otherMark) G O (start way) M
     begun-holds = start-holds K shape members links (I .net) way O p b s w begins
 
     module _ (t : Tally) (m : Marks) (c : ℕ) (takes : absorbed t m c ≡ absorbing (K .words) (K .searchedMark) a e (B .searched) (absorbed (tally p 0) (marks b s w) way)) where
-      taken-in : absorbOf (K .words) (K .searchedMark) a (ecc (chart G) a) (searchLeaves (K .words) G a (B .searched)) M ≡ workspace (B .searched) t m c 1
+      taken-in : absorbOf (K .words) (K .searchedMark) a (ecc (chart G) a) (searchLeaves (K .words) G a (B .searched)) M ≡ workspace t (B .searched) m c 1
       unfolding absorbOf
       taken-in =
           ap₂ (λ (x : ℕ) (T : Tables). absorbOf (K .words) (K .searchedMark) a x T M) (sym (I .depth)) (sym (I .stands))
-          ∙ ap (λ (A : Absorbed). workspace (B .searched) (A .paired) (A .marked) (A .candidate) 1) (sym takes)
+          ∙ ap (λ (A : Absorbed). workspace (A .paired) (B .searched) (A .marked) (A .candidate) 1) (sym takes)
 
-      first-holds : Holds (K .words) (K .searchedMark) (K .otherMark) G O S₁ (workspace (B .searched) t m c 1)
+      first-holds : Holds (K .words) (K .searchedMark) (K .otherMark) G O S₁ (workspace t (B .searched) m c 1)
       first-holds =
           subst (Holds (K .words) (K .searchedMark) (K .otherMark) G O S₁) taken-in
           (absorb (K .words) (K .searchedMark) (K .otherMark) (shape .most) members links (I .net) O (start way) M begun-holds (start-running K shape members links (I .net) way low) a (depot-in G (I .net) a (I .present)) fresh)
 
       -- WHAT THE THREE CALLS LEAVE: the network's rounds after the one from a
-      pub shrink-is : (T : Tables) (t′ : Tally) (m′ : Marks) (c′ n : ℕ) → workspace T t′ m′ c′ n ≡ runOf (K .words) links (K .searchedMark) (places K) (workspace (B .searched) t m c 1)
+      pub shrink-is : (T : Tables) (t′ : Tally) (m′ : Marks) (c′ n : ℕ) → workspace t′ T m′ c′ n ≡ runOf (K .words) links (K .searchedMark) (places K) (workspace t (B .searched) m c 1)
           → ran (lent (t′ .pairs) T (m′ .bounds) (m′ .skips)) c′ (t′ .count) n ≡ ranBy K G (rounds (chart G) (length (chart G .depots)) S₁) B
       shrink-is T t′ m′ c′ n q =
-          run-is K shape members links (I .net) S₁ running O (workspace (B .searched) t m c 1) (workspace T t′ m′ c′ n) first-holds q
+          run-is K shape members links (I .net) S₁ running O (workspace t (B .searched) m c 1) (workspace t′ T m′ c′ n) first-holds q
 
 -- ---- over tables that held another search
 

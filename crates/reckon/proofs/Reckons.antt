@@ -58,12 +58,12 @@ module _ (K : Shape) (shape : IsShape K) (members links : List ℕ) (net : IsNet
   N = networkOf (K .words) members links
 
   pub reckoned-is : (B : Lent) (row pairs bounds skips waiting : List ℕ) (M′ : Workspace) → roundsBegun pairs (marks bounds skips waiting) ≡ roundsBeginOf (K .words) (K .otherMark) members (roundsBegun (B .pairs) (marks (B .bounds) (B .skips) row))
-      → M′ ≡ runOf (K .words) links (K .searchedMark) (64 * K .words) (workspace (B .searched) (tally pairs 0) (marks bounds skips waiting) 0 0)
+      → M′ ≡ runOf (K .words) links (K .searchedMark) (64 * K .words) (workspace (tally pairs 0) (B .searched) (marks bounds skips waiting) 0 0)
       → ran (lent (M′ .paired .pairs) (M′ .searched) (M′ .marked .bounds) (M′ .marked .skips)) (M′ .candidate) (M′ .paired .count) (M′ .searches) ≡ ranBy K (networkOf (K .words) members links) (reckon (chart (networkOf (K .words) members links))) B
   unfolding reckon
   reckoned-is B row pairs bounds skips waiting M′ b e =
       let O : Origin = record { searched = B .searched; pairs = B .pairs; bounds = B .bounds; skips = B .skips; waiting = row } in
-      run-is K shape members links net (start 0) (start-running K shape members links net 0 (omega arith)) O (workspace (B .searched) (tally pairs 0) (marks bounds skips waiting) 0 0) M′
+      run-is K shape members links net (start 0) (start-running K shape members links net 0 (omega arith)) O (workspace (tally pairs 0) (B .searched) (marks bounds skips waiting) 0 0) M′
       (start-holds K shape members links net 0 O pairs bounds skips waiting b) e
 
 -- ---- the call

@@ -57,7 +57,7 @@ module _ (K : Shape) (shape : IsShape K) (members links : List ℕ) (net : IsNet
 
   pub start-holds : (c : ℕ) (O : Origin) (pairs bounds skips row : List ℕ)
       → roundsBegun pairs (marks bounds skips row) ≡ roundsBeginOf W (K .otherMark) members (roundsBegun (O .pairs) (marks (O .bounds) (O .skips) (O .waiting)))
-      → Holds W (K .searchedMark) (K .otherMark) G O (start c) (workspace (O .searched) (tally pairs 0) (marks bounds skips row) c 0)
+      → Holds W (K .searchedMark) (K .otherMark) G O (start c) (workspace (tally pairs 0) (O .searched) (marks bounds skips row) c 0)
   unfolding start searchAfter boundPlace skipPlace waitingPlace networkOf roundsBeginOf
   start-holds c O pairs bounds skips row begins = record {
     tables-are = refl;

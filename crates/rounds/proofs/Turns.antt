@@ -52,10 +52,10 @@ unfolding absorbing
 absorb-is W mark r e T A t c m m′ a b d f = rw (f, d, a, b)
 
 pub round-is-absorbed : (W : ℕ) (links : List ℕ) (mark r : ℕ) (M : Workspace) (e : ℕ) (T : Tables) (t : Tally) (m : Marks) (c n : ℕ) → searched e T ≡ searchTable W links r (M .searched)
-    → absorbed t m c ≡ absorbing W mark r e T (absorbed (M .paired) (M .marked) (M .candidate)) → n ≡ M .searches + 1 → workspace T t m c n ≡ roundOf W links mark r M
+    → absorbed t m c ≡ absorbing W mark r e T (absorbed (M .paired) (M .marked) (M .candidate)) → n ≡ M .searches + 1 → workspace t T m c n ≡ roundOf W links mark r M
 unfolding roundOf absorbOf
 round-is-absorbed W links mark r M e T t m c n s a k =
-    ap₂ (λ (A : Absorbed) (x : ℕ). workspace T (A .paired) (A .marked) (A .candidate) x) a k
+    ap₂ (λ (A : Absorbed) (x : ℕ). workspace (A .paired) T (A .marked) (A .candidate) x) a k
     ∙ ap (λ (X : Searched). absorbOf W mark r (X .depth) (X .left) M) s
 
 -- ---- the start
@@ -75,7 +75,7 @@ begun-counted W other members B p m pos most l e =
     holds-counted {P = λ u v. false} (record { is = ap₂ tally (ap (λ (X : RoundsBegun). X .pairs) e) (sym (count-no-pairs (64 * W))) }) pos most l
 
 pub round-counted : (W : ℕ) (links : List ℕ) (mark r : ℕ) (M : Workspace) (T : Tables) (t : List ℕ) (n c k : ℕ) (m : Marks) → Counted W (M .paired .pairs) (M .paired .count)
-    → workspace T (tally t n) m c k ≡ roundOf W links mark r M → Counted W t n
+    → workspace (tally t n) T m c k ≡ roundOf W links mark r M → Counted W t n
 unfolding roundOf absorbOf absorbing
 round-counted W links mark r M T t n c k m h e = settle-counted W _ r _ (M .candidate) (M .paired .pairs) t (M .paired .count) n h (ap (λ (X : Workspace). X .paired) e)
 
@@ -171,7 +171,7 @@ at-start W links mark M k = record {
 }
 
 pub at-next : (W : ℕ) (links : List ℕ) (mark : ℕ) (M₀ M : Workspace) (T : Tables) (t : List ℕ) (n : ℕ) (m : Marks) (c s r : ℕ) → AtRound W links mark M₀ M → pickIn W links (M .marked .waiting) ≡ some r
-    → W ≤ length (M .marked .waiting) → workspace T (tally t n) m c s ≡ roundOf W links mark r M → AtRound W links mark M₀ (workspace T (tally t n) m c s)
+    → W ≤ length (M .marked .waiting) → workspace (tally t n) T m c s ≡ roundOf W links mark r M → AtRound W links mark M₀ (workspace (tally t n) T m c s)
 unfolding roundOf absorbOf
 at-next W links mark M₀ M T t n m c s r A q w e =
     let p = picked-in W links (M .marked .waiting) r q in
@@ -179,14 +179,14 @@ at-next W links mark M₀ M T t n m c s r A q w e =
     subst (λ (X : Workspace). countb (rowBit W (X .marked .waiting)) (range (64 * W)) < countb (rowBit W (M .marked .waiting)) (range (64 * W))) (sym e) (round-fewer W links mark r M (p .1) (p .0) w) in
     let k : s ≡ M .searches + 1 = ap (λ (X : Workspace). X .searches) e in
     record {
-      going = going-on W links mark M₀ M (workspace T (tally t n) m c s) r (A .going) q w e;
+      going = going-on W links mark M₀ M (workspace (tally t n) T m c s) r (A .going) q w e;
       counted = round-counted W links mark r M T t n c s m (A .counted) e;
       spare = omega (arith, A .spare);
     }
 
 -- the measure: fewer depots remain
 pub fewer-remain : (W : ℕ) (links : List ℕ) (mark : ℕ) (M : Workspace) (T : Tables) (t : Tally) (m : Marks) (c s r : ℕ) → pickIn W links (M .marked .waiting) ≡ some r → W ≤ length (M .marked .waiting)
-    → workspace T t m c s ≡ roundOf W links mark r M → countb (rowBit W (m .waiting)) (range (64 * W)) < countb (rowBit W (M .marked .waiting)) (range (64 * W))
+    → workspace t T m c s ≡ roundOf W links mark r M → countb (rowBit W (m .waiting)) (range (64 * W)) < countb (rowBit W (M .marked .waiting)) (range (64 * W))
 fewer-remain W links mark M T t m c s r q w e =
     let p = picked-in W links (M .marked .waiting) r q in
     subst (λ (X : Workspace). countb (rowBit W (X .marked .waiting)) (range (64 * W)) < countb (rowBit W (M .marked .waiting)) (range (64 * W))) (sym e) (round-fewer W links mark r M (p .1) (p .0) w)

@@ -12,7 +12,7 @@ use Rattle.rounds.specs.Workspace.{Workspace, workspace}
 
 abbrev pub workspaceAt : ℕ → Slice → Slice → Slice → Slice → Slice → Slice → Slice → ℕ → ℕ → ℕ → Workspace
 workspaceAt W pairs hops bounds skips even odd ranks candidate count searches =
-    workspace (tablesAt hops even odd) (tally (now pairs) count) (marksAt W bounds skips ranks) candidate searches
+    workspace (tally (now pairs) count) (tablesAt hops even odd) (marksAt W bounds skips ranks) candidate searches
 
 abbrev pub workspaceBefore : ℕ → Moments → Moments → Moments → Moments → Moments → Moments → Moments → ℕ → ℕ → ℕ → Workspace
 workspaceBefore W pairs hops bounds skips even odd ranks =

@@ -17,8 +17,8 @@ use Rattle.bounds.specs.Bounds.{Marks, marks, leaveOf, relaxOf}
 use Rattle.ranks.specs.Ranks.{pickIn}
 
 pub record Workspace : Type 0 where
-  pub searched : Tables
   pub paired : Tally
+  pub searched : Tables
   pub marked : Marks
   pub candidate : ℕ
   pub searches : ℕ
@@ -27,8 +27,8 @@ pub record Workspace : Type 0 where
 abbrev pub lastRow : ℕ → Tables → List ℕ
 lastRow e T = cond (eqb (e % 2) 0) (T .even) (T .odd)
 
-abbrev pub workspace : Tables → Tally → Marks → ℕ → ℕ → Workspace
-workspace T t m c n = record { searched = T; paired = t; marked = m; candidate = c; searches = n }
+abbrev pub workspace : Tally → Tables → Marks → ℕ → ℕ → Workspace
+workspace t T m c n = record { paired = t; searched = T; marked = m; candidate = c; searches = n }
 
 -- what a finished search from r, with its last layer at distance e and its tables T, does to pairs, marks and candidate
 pub record Absorbed : Type 0 where
@@ -51,7 +51,7 @@ absorbing W mark r e T A =
 unfoldable pub absorbOf : ℕ → ℕ → ℕ → ℕ → Tables → Workspace → Workspace
 absorbOf W mark r e T M =
     let A = absorbing W mark r e T (absorbed (M .paired) (M .marked) (M .candidate)) in
-    workspace T (A .paired) (A .marked) (A .candidate) (M .searches + 1)
+    workspace (A .paired) T (A .marked) (A .candidate) (M .searches + 1)
 
 unfoldable pub roundOf : ℕ → List ℕ → ℕ → ℕ → Workspace → Workspace
 roundOf W links mark r M = let S = searchTable W links r (M .searched) in absorbOf W mark r (S .depth) (S .left) M

@@ -22,8 +22,8 @@ use Rattle.rounds.proofs.run_rounds.Tie as tie
 abbrev Inv-loop : tie.InvT-loop
 Inv-loop links pairs₀ hops₀ bounds₀ skips₀ even₀ odd₀ seen₀ next₀ ranks₀ words mark now₀ pairs hops bounds skips even odd seen next ranks now =
     AtRound words links mark
-    (workspace (tables hops₀ even₀ odd₀) (tally pairs₀ (now₀ .count)) (marks bounds₀ skips₀ (waitingOf words ranks₀)) (now₀ .candidate) (now₀ .searches))
-    (workspace (tables hops even odd) (tally pairs (now .count)) (marks bounds skips (waitingOf words ranks)) (now .candidate) (now .searches))
+    (workspace (tally pairs₀ (now₀ .count)) (tables hops₀ even₀ odd₀) (marks bounds₀ skips₀ (waitingOf words ranks₀)) (now₀ .candidate) (now₀ .searches))
+    (workspace (tally pairs (now .count)) (tables hops even odd) (marks bounds skips (waitingOf words ranks)) (now .candidate) (now .searches))
     × ((length hops ≡ length hops₀)
     × (length even ≡ length even₀)
     × (length odd ≡ length odd₀)
