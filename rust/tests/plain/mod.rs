@@ -2,6 +2,7 @@
 //! every test compares with, so it is written from the rules alone, and knows nothing of how memory is lent.
 // Each test uses a part of it.
 #![allow(dead_code, unused_imports)]
+pub mod batch;
 pub mod lines;
 pub mod nearby;
 pub mod network;
