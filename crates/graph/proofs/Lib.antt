@@ -16,6 +16,7 @@ pub mod Skipped
 pub mod Theorems
 pub mod SoundFigures
 pub mod Updates
+pub mod Batches
 pub mod Rules
 pub mod Apart
 pub mod Refusals

@@ -8,17 +8,17 @@ use native.Mathlib.Nat.{lt-irrefl}
 use native.Mathlib.Omega.{arith}
 use lib.Dec.{T, ltb}
 use lib.ListN.{length, getD}
-use borrow.Author.Tests.{ltb-true, lt-ltb, ltb-false, not-true, not-false}
-use Rattle.lists.specs.Lists.{allb, memb, firstOf}
+use borrow.Author.Tests.{ltb-true, lt-ltb, ltb-false}
+use Rattle.lists.specs.Lists.{memb, firstOf}
 use Rattle.lists.specs.Conditions.{FirstHolds}
-use Rattle.lists.proofs.Tests.{clash, t→true, true→t, false→not}
-use Rattle.lists.proofs.Members.{all-elim, all-fails, in-memb}
+use Rattle.lists.proofs.Tests.{clash, t→true, true→t}
+use Rattle.lists.proofs.Members.{in-memb}
 use Rattle.lists.proofs.Distinct.{memb-nil}
-use Rattle.lists.proofs.Conditions.{Decides, decides-test, decides-and, Tells, tells-first}
+use Rattle.lists.proofs.Conditions.{Decides, decides-test, decides-and, decides-fails, Tells, tells-first}
 use Rattle.graph.specs.Network.{Network, IsSound}
 use Rattle.graph.specs.Distance.{vertices}
 use Rattle.graph.specs.Opening.{Notice, strictlyRising, isEmpty, noticeFaults, openFaults}
-use Rattle.graph.specs.Refusals.{IsUnsorted, IsUnknown, noticeConditions, ownConditions}
+use Rattle.graph.specs.Refusals.{IsUnsorted, noticeConditions, ownConditions}
 use Rattle.graph.specs.Updates.{Update, opens, updateFaults}
 
 -- 6: no neighbours, and some depot
@@ -28,10 +28,10 @@ decides-none [] = record { holds = λ e. refl; fails = λ e q. clash refl e }
 decides-none (x ∷ xs) = record { holds = λ e. absurd (clash e refl); fails = λ e q. lt-irrefl 0 (let z : suc (length xs) ≡ 0 = ap length q in omega arith) }
 
 -- a network whose open depots are those listed
-abbrev AreListed : Network → Type 0
+abbrev pub AreListed : Network → Type 0
 AreListed G = (u : ℕ) → G .isOpen u ≡ memb u (vertices G)
 
-decides-some : (G : Network) → AreListed G → Decides (ltb 0 (length (vertices G))) ((u : ℕ) × T (G .isOpen u))
+pub decides-some : (G : Network) → AreListed G → Decides (ltb 0 (length (vertices G))) ((u : ℕ) × T (G .isOpen u))
 decides-some G listed = go (vertices G) refl
   where
     go : (vs : List ℕ) → vertices G ≡ vs → Decides (ltb 0 (length vs)) ((u : ℕ) × T (G .isOpen u))
@@ -59,13 +59,6 @@ decides-unsorted (x ∷ y ∷ ys) = go (ltb x y) refl (decides-unsorted (y ∷ y
         at e zero l g = omega (arith, ltb-true x y t, g)
         at e (suc i) l g = d .fails e (i, omega (arith, l), g)
 
--- 8: a neighbour that is closed
-decides-unknown : (G : Network) (ns : List ℕ) → Decides (not (allb (G .isOpen) ns)) (IsUnknown G ns)
-decides-unknown G ns = record {
-  holds = λ e. let r = all-fails (G .isOpen) ns (not-true (allb (G .isOpen) ns) e) in (r .0, r .1, false→not (r .2));
-  fails = λ e x. x .2 (true→t (all-elim (G .isOpen) ns (not-false (allb (G .isOpen) ns) e) (x .1)));
-}
-
 pub notice-tells : (G : Network) → AreListed G → (o : Notice) → Tells (openFaults G o) (noticeConditions G o)
 unfolding openFaults noticeFaults
 notice-tells G listed o = (
@@ -74,7 +67,7 @@ notice-tells G listed o = (
   λ f5. (
     refl,
     decides-and (isEmpty (o .neighbours)) (decides-none (o .neighbours)) (decides-some G listed),
-    λ f6. (refl, decides-unsorted (o .neighbours), λ f7. (refl, decides-unknown G (o .neighbours), λ f8. tt)),
+    λ f6. (refl, decides-unsorted (o .neighbours), λ f7. (refl, decides-fails (G .isOpen) (o .neighbours), λ f8. tt)),
   ),
 )
 

@@ -13,11 +13,15 @@ pub mod Opening
 pub mod Correct
 -- 7. what a call asks of the network, and what each kind of update owes
 pub mod Updates
--- 8. the refusals that speak of the network alone, by the words of 1
+-- 8. openings handed over together
+pub mod Batch
+-- 9. the refusals that speak of the network alone, by the words of 1
 pub mod Refusals
--- 9. depots near one: within so many links, and the nearest of a list
+-- 10. depots near one: within so many links, and the nearest of a list
 pub mod Nearby
--- 10. the worked cases of the rules, computed; crate `cases` cites their inputs (`path`, `sevenLines`) and `AnswerLine`
+-- 11. the worked cases of the rules, computed; crate `cases` cites their inputs (`path`, `sevenLines`) and `AnswerLine`
 pub mod Cases
--- 11. further cases, one for each rule that those leave open. Nobody has to believe this file
+-- 12. further cases, one for each rule that those leave open. Nobody has to believe this file
 pub mod RuleCases
+-- 13. batches worked by hand. Nobody has to believe this file
+pub mod BatchCases

@@ -3,13 +3,14 @@
 use mathlib.Core.Path.{_≡_, refl, sym, ap, _∙_}
 use mathlib.Core.Logic.{_⊎_, inl, inr, _↔_}
 use mathlib.Core.Bool.{Bool, true, false, not, cond, _&&_}
-use mathlib.Core.List.{List, [], _∷_}
+use mathlib.Core.List.{List, [], _∷_, List·Memᴰ}
 use Prim.Native.Nat.{ℕ, suc, _<_}
 use lib.Dec.{T, leb}
-use borrow.Author.Tests.{leb-false, lt-leb}
+use borrow.Author.Tests.{leb-false, lt-leb, not-true, not-false}
 use Rattle.lists.specs.Lists.{allb, firstOf}
 use Rattle.lists.specs.Conditions.{FirstHolds, Refuses, IsShort}
-use Rattle.lists.proofs.Tests.{clash, t→true, true→t}
+use Rattle.lists.proofs.Tests.{clash, t→true, true→t, false→not}
+use Rattle.lists.proofs.Members.{all-elim, all-fails}
 
 -- the test b tells whether C holds
 pub record Decides (b : Bool) (C : Type 0) : Type 0 where
@@ -38,6 +39,13 @@ decides-nand true b {P} {Q} p q = record { holds = λ e. inr (decides-not b q .h
     go e (inl n) = n (p .holds refl)
     go e (inr n) = decides-not b q .fails e n
 decides-nand false b p q = record { holds = λ e. inl (p .fails refl); fails = λ e. absurd (clash refl e) }
+
+-- all pass, or one fails
+pub decides-fails : {A : Type 0} (p : A → Bool) (xs : List A) → Decides (not (allb p xs)) ((x : A) × List·Memᴰ x xs × (T (p x) → ⊥))
+decides-fails p xs = record {
+  holds = λ e. let r = all-fails p xs (not-true (allb p xs) e) in (r .0, r .1, false→not (r .2));
+  fails = λ e x. x .2 (true→t (all-elim p xs (not-false (allb p xs) e) (x .1)));
+}
 
 -- every buffer has its named size, or one is short
 abbrev pub allFit : List (ℕ × ℕ) → Bool

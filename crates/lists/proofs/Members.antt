@@ -206,3 +206,14 @@ first-passed (c ∷ cs) ys p z = let q = and-true (ltb 0 (c .1)) (allb (λ c. lt
         let l : 0 < c .1 = ltb-true 0 (c .1) (and-true (ltb 0 (c .1)) (allb (λ c. ltb 0 (c .1)) cs) p .0) in
         absurd (lt-irrefl 0 (omega arith))
     go false z ih = ih z
+
+-- those that pass two tests, one after the other
+pub filter-twice {ℓ} : {A : Type ℓ} (p q : A → Bool) (xs : List A) → filterb p (filterb q xs) ≡ filterb (λ x. q x && p x) xs
+unfolding filterb
+filter-twice p q [] = refl
+filter-twice p q (x ∷ xs) = go (q x) (filter-twice p q xs)
+  where
+    go : (b : Bool) → filterb p (filterb q xs) ≡ filterb (λ x. q x && p x) xs
+        → filterb p (cond b (x ∷ filterb q xs) (filterb q xs)) ≡ cond (b && p x) (x ∷ filterb (λ x. q x && p x) xs) (filterb (λ x. q x && p x) xs)
+    go true ih = ap (λ r. cond (p x) (x ∷ r) r) ih
+    go false ih = ih

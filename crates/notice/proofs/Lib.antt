@@ -6,5 +6,7 @@ pub mod Tests
 pub mod Answers
 -- The theorems: reader and writer undo each other, so each frame has exactly one line.
 pub mod Theorems
+-- What the reader's answer says of the line, for callers of the reader.
+pub mod Readings
 -- The line of rule 7.2, computed.
 pub mod Examples

@@ -41,3 +41,11 @@ garbledLine = 9
 -- nobody: no depot of a list is open
 abbrev pub nobodyOpen : ℕ
 nobodyOpen = 10
+
+-- overfull: a batch has more lines than it may have
+abbrev pub overfullBatch : ℕ
+overfullBatch = 11
+
+-- bare: no depot is open
+abbrev pub bareMap : ℕ
+bareMap = 12

@@ -24,6 +24,10 @@ pub const GARBLED: u8 = 9;
 
 pub const NOBODY: u8 = 10;
 
+pub const OVERFULL: u8 = 11;
+
+pub const BARE: u8 = 12;
+
 // ---- the answer
 
 // How the longest chain changed with an accepted opening.

@@ -3,7 +3,7 @@
 use mathlib.Core.Path.{_≡_, refl, ap}
 use mathlib.Core.Logic.{_⊎_, inl, inr}
 use mathlib.Core.Bool.{Bool, true, false, not, _&&_, _||_}
-use mathlib.Core.List.{List, _∷_}
+use mathlib.Core.List.{List, _∷_, _++_}
 use Prim.Native.Nat.{ℕ, suc, _+_, _≤_, _<_}
 use native.Mathlib.Omega.{arith}
 use lib.Dec.{T, eqb}
@@ -146,19 +146,24 @@ module _ (K : Shape) (shape : IsShape K) (G : Network) (held : IsHeld K G) where
       pub connected-pass : connected (mapNetwork K rec links) ≡ true
       connected-pass = rw (s .network) (connected-iff G (held .net .sound) (held .net .small) .1 (held .net .connected))
 
-    -- it need store them only where the sizes are enough
-    module _ (rec : Record) (links pairs : List ℕ) (sizes : Sizes) (o : Update) (says : longEnough K sizes ≡ true → Stores K G D P rec links pairs) where
+    -- it need store them only where the sizes are enough: then the call's own faults alone are left, read off the network
+    module _ (rec : Record) (links pairs : List ℕ) (long : Bool) (says : long ≡ true → Stores K G D P rec links pairs) (faults : Network → List (Bool × ℕ)) where
       abbrev R : Network
       R = mapNetwork K rec links
 
-      pub refused-alike : updateRefusal K rec links pairs sizes o ≡ firstOf ((not (longEnough K sizes), 1) ∷ updateFaults G o)
-      unfolding updateRefusal lentFaults firstOf
-      refused-alike = go (longEnough K sizes) refl
+      pub lent-alike : firstOf (lentFaults K long true rec links pairs ++ faults R) ≡ firstOf ((not long, 1) ∷ faults G)
+      unfolding lentFaults firstOf
+      lent-alike = go long refl
         where
-          go : (b : Bool) → longEnough K sizes ≡ b
-              → firstOf ((not b, 1) ∷ (not (soundLinks (places K) R (rec .number) && soundFigures (places K) R (tableBit (K .words) pairs) (rec .chain) (rec .count)), 2) ∷ (not (connected R), 3) ∷ updateFaults R o)
-              ≡ firstOf ((not b, 1) ∷ updateFaults G o)
+          go : (b : Bool) → long ≡ b
+              → firstOf ((not b, 1) ∷ (not (soundLinks (places K) R (rec .number) && soundFigures (places K) R (tableBit (K .words) pairs) (rec .chain) (rec .count)), 2) ∷ (not (connected R), 3) ∷ faults R)
+              ≡ firstOf ((not b, 1) ∷ faults G)
           go false e = refl
           go true e =
               let s = says e in
-              rw (links-pass rec links pairs s, figures-pass rec links pairs s, connected-pass rec links pairs s) (ap (λ (X : Network). firstOf (updateFaults X o)) (s .network))
+              rw (links-pass rec links pairs s, figures-pass rec links pairs s, connected-pass rec links pairs s) (ap (λ (X : Network). firstOf (faults X)) (s .network))
+
+    pub refused-alike : (rec : Record) (links pairs : List ℕ) (sizes : Sizes) (o : Update) → (longEnough K sizes ≡ true → Stores K G D P rec links pairs)
+        → updateRefusal K rec links pairs sizes o ≡ firstOf ((not (longEnough K sizes), 1) ∷ updateFaults G o)
+    unfolding updateRefusal
+    refused-alike rec links pairs sizes o says = lent-alike rec links pairs (longEnough K sizes) says (λ X. updateFaults X o)

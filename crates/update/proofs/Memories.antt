@@ -12,7 +12,7 @@ use Rattle.lists.specs.Lists.{range, filterb, countb, overwrite}
 use Rattle.lists.proofs.Members.{filter-ext, filter-out, range-out, length-range}
 use Rattle.lists.proofs.Counts.{count-le-length, length-count}
 use Rattle.rows.specs.Rows.{rowBit, tableBit, encodeRow, encodeTable}
-use Rattle.rows.proofs.Written.{row-at, row-within, table-at, table-within, encode-table-length}
+use Rattle.rows.proofs.Written.{row-at, row-within, table-at, table-within, encode-row-length, encode-table-length}
 use Rattle.graph.specs.Network.{Network, IsFarthest, delivers}
 use Rattle.graph.specs.Distance.{vertices}
 use Rattle.graph.specs.Chart.{diameter, Pairs, farthest, countPairs}
@@ -25,6 +25,7 @@ use Rattle.rounds.proofs.Reading.{pairs-read}
 use Rattle.update.specs.Memory.{Memory}
 use Rattle.update.specs.Represents.{Represents}
 use Rattle.lists.proofs.Buffers.{overwrite-all}
+use Rattle.lists.proofs.Fills.{overwrite-twice}
 use Rattle.graph.proofs.Delivers.{delivers-open}
 
 -- ---- networks and memories are equal by their fields
@@ -153,3 +154,18 @@ memory-written K G =
     (sym (overwrite-all (encodeTable (K .words) (G .linked)) (encodeTable (K .words) (G .linked)) refl))
     (sym (overwrite-all (encodeTable (K .words) (farthest G)) (encodeTable (K .words) (farthest G)) refl))
     (record-path (sym (overwrite-all (encodeRow (K .words) (G .isOpen)) (encodeRow (K .words) (G .isOpen)) refl)) refl refl refl)
+
+-- a map written over a map
+table-twice : (W : ℕ) (f g : ℕ → ℕ → Bool) (old : List ℕ) → overwrite (encodeTable W f) (overwrite (encodeTable W g) old) ≡ overwrite (encodeTable W f) old
+table-twice W f g old = overwrite-twice (encodeTable W f) (encodeTable W g) old (omega (arith, encode-table-length W f, encode-table-length W g))
+
+row-twice : (W : ℕ) (f g : ℕ → Bool) (old : List ℕ) → overwrite (encodeRow W f) (overwrite (encodeRow W g) old) ≡ overwrite (encodeRow W f) old
+row-twice W f g old = overwrite-twice (encodeRow W f) (encodeRow W g) old (omega (arith, encode-row-length W f, encode-row-length W g))
+
+pub written-twice : (K : Shape) (G H : Network) (M : Memory) → writeMap K H (writeMap K G M) ≡ writeMap K H M
+unfolding writeMap
+written-twice K G H M =
+    memory-path
+    (table-twice (K .words) (H .linked) (G .linked) (M .links))
+    (table-twice (K .words) (farthest H) (farthest G) (M .pairs))
+    (record-path (row-twice (K .words) (H .isOpen) (G .isOpen) (M .rec .members)) refl refl refl)

@@ -4,7 +4,8 @@ use mathlib.Core.List.{List}
 use Prim.Native.Nat.{ℕ}
 use native.Mathlib.Omega.{arith}
 use Rattle.notice.specs.Lines.{frame, readLine}
-use Rattle.stream.proofs.Answers.{FrameStands, frame-read, garbled-read, answered-frame, answered-garbled}
+use Rattle.notice.proofs.Readings.{FrameStands, frame-read, garbled-read}
+use Rattle.stream.proofs.Answers.{answered-frame, answered-garbled}
 use borrow.Author.Needs.{needs}
 use Rattle.stream.proofs.answer_line.Statement.{statement}
 use Rattle.stream.proofs.answer_line.Tie as tie
@@ -27,8 +28,7 @@ read : (c : tie.After-known-told) →
     let after-read-notice : tie.After-read-notice = search back in
     let start : tie.Start = search back in
     (f : List ℕ)
-    × (v : ℕ)
-    × (readLine (start .args .text .now) ≡ frame f v)
+    × (readLine (start .args .text .now) ≡ frame f (after-got .got .given .0 .1 .0))
     × FrameStands f (after-got .got .given .0 .0) (after-read-notice .read-notice .last .0)
 read c =
     let after-got : tie.After-got = search back in
@@ -40,25 +40,25 @@ read c =
 sub-open-sound : tie.Need-sub-open-sound
 sub-open-sound c =
     let after-known-told : tie.After-known-told = search back in
-    read after-known-told .3 .long
+    read after-known-told .2 .long
 
 part-open-sound-start : tie.Need-part-open-sound-start
 part-open-sound-start c =
     let after-known-told : tie.After-known-told = search back in
-    read after-known-told .3 .long
+    read after-known-told .2 .long
 
 part-open-sound-end : tie.Need-part-open-sound-end
 part-open-sound-end c =
     let after-known-told : tie.After-known-told = search back in
     let after-read-notice : tie.After-read-notice = search back in
     let after-frame : tie.After-frame = search back in
-    omega (arith, read after-known-told .3 .fits, slice-aggregate-read-notice after-frame, after-read-notice .read-notice .kept)
+    omega (arith, read after-known-told .2 .fits, slice-aggregate-read-notice after-frame, after-read-notice .read-notice .kept)
 
 returns : tie.Need-returns
 returns c =
     let after-open-sound : tie.After-open-sound = search back in
     let after-known-told : tie.After-known-told = search back in
-    answered-frame _ _ _ _ _ _ (read after-known-told .2) (read after-known-told .3) (after-open-sound .open-sound .ensures)
+    answered-frame _ _ _ _ _ _ (read after-known-told .1) (read after-known-told .2) (after-open-sound .open-sound .ensures)
 
 returns-2 : tie.Need-returns-2
 returns-2 c =
