@@ -2,7 +2,7 @@
 -- Assumes nothing.
 use mathlib.Core.Path.{_≡_, refl, sym, ap, ap₂, _∙_}
 use mathlib.Core.Bool.{true}
-use mathlib.Core.List.{List, [], _∷_, List·Memᴰ·head, List·Memᴰ·tail}
+use mathlib.Core.List.{List, [], _∷_, List·Memᴰ, List·Memᴰ·head, List·Memᴰ·tail}
 use Prim.Native.Nat.{ℕ, zero, suc, _<_}
 use native.Mathlib.Omega.{arith}
 use lib.ListN.{length}
@@ -21,18 +21,16 @@ use Rattle.map.specs.Memory.{base}
 use Rattle.map.specs.declared.Record.{Record}
 use Rattle.map.specs.Room.{Lent, sizesOf, longEnough}
 use Rattle.outcome.specs.Outcome as Outcome
-use Rattle.update.specs.UpdateCall.{updateRefusal, networkAfter, updatedBy, UpdateLeft, updateGiven, updateCall}
-use Rattle.history.specs.PlainRun.{plainRefusal}
+use Rattle.update.specs.UpdateCall.{updateRefusal, networkAfter, updatedBy, UpdateLeft, updateGiven, updateCall, IsWithin}
 use Rattle.plain_list.specs.PlainList.{plainNext}
 use Rattle.update.specs.Memory.{Memory}
-use Rattle.history.specs.History.{Call, lend, lentOf, callStep, memoryAfter, feedOf}
-use Rattle.history.specs.Demand3.{IsCall, AreCalls}
+use Rattle.batch_update.specs.BatchCall.{memoryLeft}
+use Rattle.history.specs.History.{lend, lentTo, memoryAfter, lentSizes}
 use Rattle.update.proofs.Memories.{IsHeld, Stores, memoryFor, depots-few}
 use Rattle.update.proofs.Grants.{held-after}
-use Rattle.history.proofs.Steps.{lent-says, refusal-is, one-step}
-use Rattle.history.proofs.Runs.{call-memory}
+use Rattle.history.proofs.Steps.{lent-says, refusal-is, IsUpdated, updated}
 use Rattle.update.proofs.Keeps.{left-ends, left-stores}
-use Rattle.cases.specs.Results.{pairsIn, answerOf, answersOf, asksOf, AllLong}
+use Rattle.cases.specs.Results.{pairsIn, answerOf, LentUpdate, leftOn, answersOf, updatesOf, AllLong}
 use Rattle.cases.proofs.Listings.{pairs-open, count-open}
 use Rattle.map.proofs.Theorems.{base-shape}
 use Rattle.graph.proofs.Delivers.{delivers-open}
@@ -109,31 +107,31 @@ opened-is G D P rec links stored o s = (rw (s .network), rw (s .network, s .chai
 
 -- ---- ONE CALL
 
-module _ (G : Network) (held : IsHeld base G) (c : Call) (call : IsCall base c) (long : longEnough base (feedOf base c .sizes) ≡ true) where
+module _ (G : Network) (held : IsHeld base G) (c : LentUpdate) (within : IsWithin base (c .update)) (long : longEnough base (lentSizes base (c .lending)) ≡ true) where
   abbrev o : Update
-  o = c .ask
+  o = c .update
 
   abbrev R : Record
   R = memoryFor base G .rec
 
   abbrev L : List ℕ
-  L = lend (c .links) (memoryFor base G .links)
+  L = lend (c .lending .links) (memoryFor base G .links)
 
   abbrev B : Lent
-  B = lentOf (memoryFor base G) c
+  B = lentTo (memoryFor base G) (c .lending) .lent
 
   abbrev N : Network
-  N = applied G (c .ask)
+  N = applied G (c .update)
 
   abbrev y : Opened
-  y = steps (chart (applied G (c .ask))) (c .ask) (diameter G) (farthest G)
+  y = steps (chart (applied G (c .update))) (c .update) (diameter G) (farthest G)
 
   says : Stores base G (diameter G) (farthest G) R L (B .pairs)
-  says = lent-says base base-shape G held c long
+  says = lent-says base base-shape G held (c .lending) long
 
-  plain-is : plainRefusal base G (feedOf base c) ≡ firstOf (updateFaults G o)
-  unfolding plainRefusal feedOf firstOf
-  plain-is = rw long
+  plain-is : updateRefusal base R L (B .pairs) (sizesOf L B) o ≡ firstOf (updateFaults G o)
+  unfolding firstOf
+  plain-is = refusal-is base base-shape G held (c .lending) o ∙ rw long
 
   -- ---- accepted
 
@@ -148,7 +146,7 @@ module _ (G : Network) (held : IsHeld base G) (c : Call) (call : IsCall base c) 
     x = updatedBy base R L (B .pairs) o
 
     ends : (u v : ℕ) → x .final .pairs u v ≡ true → (H .isOpen u ≡ true) × (H .isOpen v ≡ true)
-    ends u v h = let e = left-ends base R L B o base-shape ok (call .within) u v (true→t h) in (t→true (H .isOpen u) (e .0), t→true (H .isOpen v) (e .1))
+    ends u v h = let e = left-ends base R L B o base-shape ok within u v (true→t h) in (t→true (H .isOpen u) (e .0), t→true (H .isOpen v) (e .1))
 
     given-line : lineFor (Outcome.letterOf (l .report .outcome)) (Outcome.refusalOf (l .report .outcome)) (l .report .searches) (figuredBy H x) ≡ lineBy H x
     unfolding updateGiven
@@ -157,7 +155,7 @@ module _ (G : Network) (held : IsHeld base G) (c : Call) (call : IsCall base c) 
     accepted-line : answerOf (updateGiven zero base R L B o) ≡ followOne zero (figuredFor G) o .1
     accepted-line =
         let same = opened-is G (diameter G) (farthest G) R L (B .pairs) o says in
-        line-read H (x .final .candidate) (x .final .pairs) (held-after base base-shape R L (B .pairs) (sizesOf L B) o ok (call .within) .depots) ends l (left-stores base R L B o base-shape ok (call .within))
+        line-read H (x .final .candidate) (x .final .pairs) (held-after base base-shape R L (B .pairs) (sizesOf L B) o ok within .depots) ends l (left-stores base R L B o base-shape ok within)
         ∙ given-line
         ∙ ap₂ lineBy (same .0) (same .1)
         ∙ sym (ap (λ (r : PlainMap × AnswerLine). r .1) (accepted-is (figuredFor G) o))
@@ -187,9 +185,9 @@ module _ (G : Network) (held : IsHeld base G) (c : Call) (call : IsCall base c) 
 
   -- ---- either
 
-  call-line : answerOf (callStep (updateCall base) (memoryFor base G) c) ≡ followOne (firstOf (updateFaults G o)) (figuredFor G) o .1
-  unfolding callStep updateCall
-  call-line = go (updateRefusal base R L (B .pairs) (sizesOf L B) o) refl ∙ ap (λ (k : ℕ). followOne k (figuredFor G) o .1) (refusal-is base base-shape G held c ∙ plain-is)
+  call-line : answerOf (leftOn (updateCall base) (memoryFor base G) c) ≡ followOne (firstOf (updateFaults G o)) (figuredFor G) o .1
+  unfolding leftOn updateCall
+  call-line = go (updateRefusal base R L (B .pairs) (sizesOf L B) o) refl ∙ ap (λ (k : ℕ). followOne k (figuredFor G) o .1) plain-is
     where
       go : (k : ℕ) → updateRefusal base R L (B .pairs) (sizesOf L B) o ≡ k → answerOf (updateGiven k base R L B o) ≡ followOne k (figuredFor G) o .1
       go zero ok = accepted-line ok
@@ -203,10 +201,18 @@ module _ (G : Network) (held : IsHeld base G) (c : Call) (call : IsCall base c) 
       go zero ok = accepted-next ok
       go (suc k) ko = ap (λ (r : PlainMap × AnswerLine). r .0) (refused-is k (figuredFor G) o)
 
+  -- what the call leaves, by the plain list
+  call-left : IsUpdated base base-shape G held (c .lending) (c .update) (firstOf (updateFaults G (c .update))) (updateRefusal base R L (B .pairs) (sizesOf L B) (c .update))
+  call-left = updated base base-shape G held (c .lending) (c .update) within (firstOf (updateFaults G (c .update))) plain-is
+
+  call-memory : memoryAfter (memoryFor base G) (c .lending) (memoryLeft (leftOn (updateCall base) (memoryFor base G) c)) ≡ memoryFor base (plainNext (firstOf (updateFaults G (c .update))) G (c .update))
+  unfolding leftOn updateCall
+  call-memory = call-left .memory
+
 -- ---- A LIST OF CALLS
 
-lines-cons : (M : Memory) (c : Call) (cs : List Call)
-    → answersOf (updateCall base) M (c ∷ cs) ≡ answerOf (callStep (updateCall base) M c) ∷ answersOf (updateCall base) (memoryAfter M c (callStep (updateCall base) M c)) cs
+lines-cons : (M : Memory) (c : LentUpdate) (cs : List LentUpdate)
+    → answersOf (updateCall base) M (c ∷ cs) ≡ answerOf (leftOn (updateCall base) M c) ∷ answersOf (updateCall base) (memoryAfter M (c .lending) (memoryLeft (leftOn (updateCall base) M c))) cs
 unfolding answersOf
 lines-cons M c cs = refl
 
@@ -214,16 +220,19 @@ lines-nil : (M : Memory) (F : PlainMap) → answersOf (updateCall base) M [] ≡
 unfolding answersOf followAll
 lines-nil M F = refl
 
-pub lines-are : (G : Network) → IsHeld base G → (cs : List Call) → AreCalls base cs → AllLong cs → answersOf (updateCall base) (memoryFor base G) cs ≡ followAll (figuredFor G) (asksOf cs)
-unfolding asksOf
+-- the codes that the updates open are codes of the map
+abbrev pub AreWithin : List LentUpdate → Type 0
+AreWithin cs = (c : LentUpdate) → List·Memᴰ c cs → IsWithin base (c .update)
+
+pub lines-are : (G : Network) → IsHeld base G → (cs : List LentUpdate) → AreWithin cs → AllLong cs → answersOf (updateCall base) (memoryFor base G) cs ≡ followAll (figuredFor G) (updatesOf cs)
+unfolding updatesOf
 lines-are G held [] calls lent = lines-nil (memoryFor base G) (figuredFor G)
 lines-are G held (c ∷ cs) calls lent =
-    let call = calls c (List·Memᴰ·head refl) in
+    let within = calls c (List·Memᴰ·head refl) in
     let long = lent c (List·Memᴰ·head refl) in
-    let H = plainNext (plainRefusal base G (feedOf base c)) G (c .ask) in
-    let same = ap (λ (k : ℕ). figuredFor (plainNext k G (c .ask))) (plain-is G held c call long) in
+    let H = plainNext (firstOf (updateFaults G (c .update))) G (c .update) in
     lines-cons (memoryFor base G) c cs
-    ∙ ap₂ (λ (r : AnswerLine) (M : Memory). r ∷ answersOf (updateCall base) M cs) (call-line G held c call long) (call-memory base base-shape G held c call)
-    ∙ ap₂ (λ (r : AnswerLine) (rs : List AnswerLine). r ∷ rs) refl (lines-are H (one-step base base-shape G held c call .isHeld) cs (λ d m. calls d (List·Memᴰ·tail m)) (λ d m. lent d (List·Memᴰ·tail m)))
-    ∙ ap (λ (M : PlainMap). followOne (firstOf (updateFaults G (c .ask))) (figuredFor G) (c .ask) .1 ∷ followAll M (asksOf cs)) (same ∙ sym (call-next G held c call long))
-    ∙ sym (follow-cons (figuredFor G) (c .ask) (asksOf cs))
+    ∙ ap₂ (λ (r : AnswerLine) (M : Memory). r ∷ answersOf (updateCall base) M cs) (call-line G held c within long) (call-memory G held c within long)
+    ∙ ap₂ (λ (r : AnswerLine) (rs : List AnswerLine). r ∷ rs) refl (lines-are H (call-left G held c within long .isHeld) cs (λ d m. calls d (List·Memᴰ·tail m)) (λ d m. lent d (List·Memᴰ·tail m)))
+    ∙ ap (λ (M : PlainMap). followOne (firstOf (updateFaults G (c .update))) (figuredFor G) (c .update) .1 ∷ followAll M (updatesOf cs)) (sym (call-next G held c within long))
+    ∙ sym (follow-cons (figuredFor G) (c .update) (updatesOf cs))

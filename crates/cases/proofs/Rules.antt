@@ -6,10 +6,10 @@ use Rattle.graph.specs.Cases.{followAll, noDepot}
 use Rattle.map.specs.Memory.{base}
 use Rattle.update.specs.UpdateCall.{updateCall}
 use Rattle.cases.specs.Rules.{shrinkLines, shrinkAnswers, RuleCases}
-use Rattle.cases.proofs.Theorems.{areBytes, opened-lines}
+use Rattle.cases.proofs.Theorems.{opensBytes, opened-lines}
 
-shrink-bytes : allb areBytes shrinkLines ≡ true
-unfolding allb areBytes
+shrink-bytes : allb opensBytes shrinkLines ≡ true
+unfolding allb opensBytes
 shrink-bytes = refl
 
 shrink-followed : followAll noDepot shrinkLines ≡ shrinkAnswers

@@ -9,13 +9,13 @@ use lib.Dec.{eqb, ltb, lit≤}
 use lib.ListN.{length}
 use borrow.Author.Tests.{le-ltb, le-leb, ltb-true}
 use Rattle.lists.specs.Lists.{range, allb, countb, mapl, overwrite, firstOf}
-use Rattle.lists.proofs.Tests.{true→t, and-true}
+use Rattle.lists.proofs.Tests.{and-true}
 use Rattle.lists.proofs.Members.{filter-ext, filter-none}
 use Rattle.rows.specs.Rows.{encodeRow, encodeTable}
 use Rattle.graph.specs.Chart.{chart, countPairs}
 use Rattle.graph.specs.Rounds.{reckon}
 use Rattle.graph.specs.Opening.{emptyNetwork}
-use Rattle.graph.specs.Updates.{opens}
+use Rattle.graph.specs.Updates.{Update, opens}
 use Rattle.graph.specs.Cases as Graph
 use Rattle.map.specs.Memory.{base, networkOf}
 use Rattle.map.specs.Empty.{emptyRefusal, emptyGiven, emptyCall}
@@ -27,8 +27,6 @@ use Rattle.outcome.specs.Outcome.{letterOf, refusalOf}
 use Rattle.update.specs.UpdateCall.{updateCall, IsWithin}
 use Rattle.plain_list.specs.PlainList.{moved}
 use Rattle.update.specs.Memory.{Memory, emptyMemory}
-use Rattle.history.specs.History.{Call}
-use Rattle.history.specs.Demand3.{NamesCodes, IsCall, AreCalls}
 use Rattle.update.proofs.Memories.{network-path, network-read}
 use Rattle.update.proofs.Empties.{empty-held, none-diameter, none-farthest, empty-memory}
 use Rattle.hexadecimal.specs.Hex.{isDigit, digitValue, bytesOf}
@@ -38,12 +36,11 @@ use Rattle.report.specs.Line.{outcomeText, field, figuresText}
 use Rattle.transcript.specs.Transcript.{transcript}
 use Rattle.stream.proofs.Theorems.{pieces-alike}
 use Rattle.transcript.specs.Texts.{bytesIn}
-use Rattle.cases.specs.Results.{answersOf, asksOf, AllLong}
+use Rattle.cases.specs.Results.{LentUpdate, answersOf, updatesOf, AllLong}
 use Rattle.cases.specs.Table.{emptyResult, singleResult, sevenResult, sevenAnswers, sevenInput, sevenOutput, Cases}
 use Rattle.cases.proofs.Paths.{path-held}
 use Rattle.cases.proofs.Reckonings.{pathResult, path-result}
-use Rattle.cases.proofs.Lines.{figuredFor, lines-are}
-use Rattle.history.specs.PlainRun.{Ask}
+use Rattle.cases.proofs.Lines.{figuredFor, AreWithin, lines-are}
 
 -- ---- the paths reckoned, by the rules on the network
 
@@ -89,24 +86,24 @@ module _ (rec : Record) (links pairs : List ℕ) (l : 1024 ≤ length links) (p 
 
 -- ---- the seven lines
 
--- calls whose codes and neighbours are bytes
-unfoldable pub areBytes : Ask → Bool
-areBytes (opens o) = ltb (o .code) 256 && allb (λ v. ltb v 256) (o .neighbours)
+-- updates that open bytes
+unfoldable pub opensBytes : Update → Bool
+opensBytes (opens o) = ltb (o .code) 256
 
-calls-of : (cs : List Call) → allb areBytes (asksOf cs) ≡ true → AreCalls base cs
-unfolding asksOf allb areBytes
-calls-of [] h c m = absurd (List·Memᴰ·not-nil m)
-calls-of (d ∷ cs) h c m = go (and-true (areBytes (d .ask)) (allb areBytes (asksOf cs)) h) (List·Memᴰ·cases-cons m) (calls-of cs)
+within-of : (cs : List LentUpdate) → allb opensBytes (updatesOf cs) ≡ true → AreWithin cs
+unfolding updatesOf allb opensBytes
+within-of [] h c m = absurd (List·Memᴰ·not-nil m)
+within-of (d ∷ cs) h c m = go (and-true (opensBytes (d .update)) (allb opensBytes (updatesOf cs)) h) (List·Memᴰ·cases-cons m) (within-of cs)
   where
-    bytes : (a : Ask) → areBytes a ≡ true → IsWithin base a × NamesCodes base a
-    bytes (opens o) k = let b = and-true (ltb (o .code) 256) (allb (λ v. ltb v 256) (o .neighbours)) k in (ltb-true (o .code) 256 (b .0), true→t (b .1))
+    low : (u : Update) → opensBytes u ≡ true → IsWithin base u
+    low (opens o) k = ltb-true (o .code) 256 k
 
-    go : (areBytes (d .ask) ≡ true) × (allb areBytes (asksOf cs) ≡ true) → (c ≡ d) ⊎ List·Memᴰ c cs → (allb areBytes (asksOf cs) ≡ true → AreCalls base cs) → IsCall base c
-    go k (inl q) ih = let b = bytes (d .ask) (k .0) in subst (IsCall base) (sym q) (record { within = b .0; named = b .1 })
+    go : (opensBytes (d .update) ≡ true) × (allb opensBytes (updatesOf cs) ≡ true) → (c ≡ d) ⊎ List·Memᴰ c cs → (allb opensBytes (updatesOf cs) ≡ true → AreWithin cs) → IsWithin base (c .update)
+    go k (inl q) ih = subst (λ (x : LentUpdate). IsWithin base (x .update)) (sym q) (low (d .update) (k .0))
     go k (inr n) ih = ih (k .1) c n
 
-seven-bytes : allb areBytes Graph.sevenLines ≡ true
-unfolding allb areBytes
+seven-bytes : allb opensBytes Graph.sevenLines ≡ true
+unfolding allb opensBytes
 seven-bytes = refl
 
 start-figured : figuredFor emptyNetwork ≡ Graph.noDepot
@@ -114,15 +111,15 @@ unfolding Graph.noDepot
 start-figured = λ i. record { net = emptyNetwork; chain = none-diameter base base-shape i; pairs = none-farthest base base-shape i }
 
 -- updates from the empty map give the lines of the network's own
-pub opened-lines : (os : List Ask) → allb areBytes os ≡ true → (cs : List Call) → asksOf cs ≡ os → AllLong cs
+pub opened-lines : (os : List Update) → allb opensBytes os ≡ true → (cs : List LentUpdate) → updatesOf cs ≡ os → AllLong cs
     → answersOf (updateCall base) (emptyMemory base) cs ≡ Graph.followAll Graph.noDepot os
 opened-lines os bytes cs e lent =
-    let calls = calls-of cs (ap (allb areBytes) e ∙ bytes) in
+    let calls = within-of cs (ap (allb opensBytes) e ∙ bytes) in
     ap (λ (M : Memory). answersOf (updateCall base) M cs) (empty-memory base base-shape)
     ∙ lines-are emptyNetwork (empty-held base base-shape) cs calls lent
     ∙ ap₂ Graph.followAll start-figured e
 
-stream-holds : (cs : List Call) → asksOf cs ≡ Graph.sevenLines → AllLong cs → answersOf (updateCall base) (emptyMemory base) cs ≡ sevenAnswers
+stream-holds : (cs : List LentUpdate) → updatesOf cs ≡ Graph.sevenLines → AllLong cs → answersOf (updateCall base) (emptyMemory base) cs ≡ sevenAnswers
 stream-holds cs e lent = opened-lines Graph.sevenLines seven-bytes cs e lent ∙ ap (λ (t : Graph.NetworkCases). t .stream) Graph.cases
 
 -- ---- the stream's bytes, by computation

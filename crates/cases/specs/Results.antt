@@ -18,8 +18,9 @@ use Rattle.reckon.specs.ReckonCall.{reckoningNumber, searchesOf, ReckonLeft}
 use Rattle.outcome.specs.Outcome as Outcome
 use Rattle.update.specs.UpdateCall.{UpdateLeft, Step}
 use Rattle.update.specs.Memory.{Memory}
-use Rattle.history.specs.History.{Call, callStep, memoryAfter, feedOf}
-use Rattle.history.specs.PlainRun.{Ask}
+use Rattle.graph.specs.Updates.{Update}
+use Rattle.batch_update.specs.BatchCall.{memoryLeft}
+use Rattle.history.specs.History.{Lending, lentTo, memoryAfter, lentSizes}
 
 -- the pairs whose bits stand in a pair table
 unfoldable pub pairsIn : List ℕ → List (ℕ × ℕ)
@@ -80,16 +81,24 @@ answerOf l = record {
   pairs = pairsIn (l .lent .pairs);
 }
 
--- the lines of a list of calls, each lent the map as it stands after the one before, of a program whose update call is `step`
-unfoldable pub answersOf : Step → Memory → List Call → List AnswerLine
+-- an update with what its call is lent
+pub record LentUpdate : Type 0 where
+  pub update : Update
+  pub lending : Lending
+
+-- what it leaves, of a program whose update call is `step`, on the map M
+unfoldable pub leftOn : Step → Memory → LentUpdate → UpdateLeft
+leftOn step M c = let N = lentTo M (c .lending) in step (N .rec) (N .links) (N .lent) (c .update)
+
+-- the lines of a list of updates, each lent the map as it stands after the one before
+unfoldable pub answersOf : Step → Memory → List LentUpdate → List AnswerLine
 answersOf step M [] = []
-answersOf step M (c ∷ cs) = let l = callStep step M c in answerOf l ∷ answersOf step (memoryAfter M c l) cs
+answersOf step M (c ∷ cs) = let l = leftOn step M c in answerOf l ∷ answersOf step (memoryAfter M (c .lending) (memoryLeft l)) cs
 
--- what the calls ask for
-unfoldable pub asksOf : List Call → List Ask
-asksOf [] = []
-asksOf (c ∷ cs) = c .ask ∷ asksOf cs
+unfoldable pub updatesOf : List LentUpdate → List Update
+updatesOf [] = []
+updatesOf (c ∷ cs) = c .update ∷ updatesOf cs
 
--- every buffer that a call is lent has its named size
-abbrev pub AllLong : List Call → Type 0
-AllLong cs = (c : Call) → List·Memᴰ c cs → longEnough base (feedOf base c .sizes) ≡ true
+-- every buffer that an update is lent has its named size
+abbrev pub AllLong : List LentUpdate → Type 0
+AllLong cs = (c : LentUpdate) → List·Memᴰ c cs → longEnough base (lentSizes base (c .lending)) ≡ true

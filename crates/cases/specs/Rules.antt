@@ -4,17 +4,15 @@
 -- Assumes nothing.
 use mathlib.Core.Path.{_≡_}
 use mathlib.Core.List.{List, [], _∷_}
-use Rattle.graph.specs.Updates.{opens}
+use Rattle.graph.specs.Updates.{Update, opens}
 use Rattle.graph.specs.Cases.{AnswerLine}
 use Rattle.map.specs.Memory.{base}
 use Rattle.update.specs.Memory.{emptyMemory}
-use Rattle.history.specs.History.{Call}
 use Rattle.update.specs.UpdateCall.{Step}
-use Rattle.cases.specs.Results.{answersOf, asksOf, AllLong}
-use Rattle.history.specs.PlainRun.{Ask}
+use Rattle.cases.specs.Results.{LentUpdate, answersOf, updatesOf, AllLong}
 
 -- the path of six, then depot 6 beside 1 and 4
-abbrev pub shrinkLines : List Ask
+abbrev pub shrinkLines : List Update
 shrinkLines =
     opens (record { code = 0; neighbours = [] })
     ∷ opens (record { code = 1; neighbours = 0 ∷ [] })
@@ -39,4 +37,4 @@ shrinkAnswers =
 
 -- of a program whose opening call is `opening`: each call is lent the map as it stands after the one before, and any other memory that is long enough
 pub record RuleCases (opening : Step) : Type 0 where
-  pub shrunk : (cs : List Call) → asksOf cs ≡ shrinkLines → AllLong cs → answersOf opening (emptyMemory base) cs ≡ shrinkAnswers
+  pub shrunk : (cs : List LentUpdate) → updatesOf cs ≡ shrinkLines → AllLong cs → answersOf opening (emptyMemory base) cs ≡ shrinkAnswers

@@ -16,13 +16,12 @@ use Rattle.map.specs.declared.Emptying.the-variants.{Done}
 use Rattle.map.specs.Room.{Lent}
 use Rattle.reckon.specs.ReckonCall.{ReckonLeft}
 use Rattle.update.specs.Memory.{emptyMemory}
-use Rattle.history.specs.History.{Call}
 use Rattle.update.specs.UpdateCall.{Step}
 use Rattle.report.specs.Line.{bufferLimit}
 use Rattle.transcript.specs.Transcript.{transcript}
 use Rattle.stream.specs.Pieces.{Standing, Turn, standsAfter, usedBy, writtenBy, lastWritten, HasBegun}
 use Rattle.transcript.specs.Texts.{bytesIn}
-use Rattle.cases.specs.Results.{repeated, IsMapOf, Result, resultOf, answersOf, asksOf, AllLong}
+use Rattle.cases.specs.Results.{repeated, IsMapOf, Result, resultOf, LentUpdate, answersOf, updatesOf, AllLong}
 
 -- ---- the numbers
 
@@ -101,7 +100,7 @@ pub record Cases (emptying : Record → List ℕ → List ℕ → EmptyLeft) (re
       × (networkOf (base .words) (emptying rec links pairs .after .members) (emptying rec links pairs .links) ≡ path 0)
       × (emptying rec links pairs .after .number ≡ 0)
   -- opened from the empty map, each call lent the map as it stands after the one before, and any other memory that is long enough
-  pub stream : (cs : List Call) → asksOf cs ≡ sevenLines → AllLong cs → answersOf opening (emptyMemory base) cs ≡ sevenAnswers
+  pub stream : (cs : List LentUpdate) → updatesOf cs ≡ sevenLines → AllLong cs → answersOf opening (emptyMemory base) cs ≡ sevenAnswers
   -- the stream's bytes: the whole output of the whole input; and on lent memory, however the input is cut into pieces
   pub text : transcript (bytesIn sevenInput) ≡ bytesIn sevenOutput
   pub pieces : (s : Standing) → HasBegun s → (ts : List Turn) (out : List ℕ) → bufferLimit ≤ length out → usedBy s ts ≡ bytesIn sevenInput

@@ -2,43 +2,74 @@
 use mathlib.Core.Path.{_≡_, refl, sym, ap, _∙_, fun-ext}
 use mathlib.Core.Logic.{_↔_}
 use mathlib.Core.Bool.{Bool, true, false, _&&_, _||_}
-use mathlib.Core.List.{List, [], _∷_, List·Memᴰ}
+use mathlib.Core.List.{List, [], _∷_, _++_, List·Memᴰ}
+use mathlib.Core.Option.{Option, none, some}
 use Prim.Native.Nat.{ℕ, zero, suc}
 use lib.Dec.{eqb}
+use lib.ListN.{length}
 use Rattle.lists.specs.Lists.{range, filterb, anyb, memb}
 use Rattle.lists.proofs.Tests.{same-test}
 use Rattle.lists.proofs.Members.{any-intro, any-elim}
 use Rattle.graph.specs.Network.{Network}
 use Rattle.graph.specs.Opening.{withDepot}
-use Rattle.graph.specs.Updates.{opens, applied}
+use Rattle.graph.specs.Updates.{Update, opens, applied}
+use Rattle.graph.specs.Batch.{Entry, Batch, firstFit, without, batchEnd, orEnd, batchBy, batchOf}
 use Rattle.map.specs.Memory.{Shape, places}
-use Rattle.history.specs.PlainRun.{Ask, Feed, plainRefusal, joining, plainRun}
+use Rattle.batch.specs.Lines.{entriesOf}
+use Rattle.history.specs.PlainRun.{Ask, update, batch, Feed, plainRefusal, askNext, openingsOf, askAccepted, plainRun}
 use Rattle.plain_list.specs.PlainList.{plainNext}
 use Rattle.update.proofs.Memories.{IsHeld, network-path}
 
--- ---- the network with what a list asks for added, one after the other
+-- ---- the network with a list of updates made, one after the other
 
-addAll : Network → List Ask → Network
+addAll : Network → List Update → Network
 addAll G [] = G
-addAll G (o ∷ os) = addAll (applied G o) os
+addAll G (u ∷ us) = addAll (applied G u) us
+
+added-append : (G : Network) (us vs : List Update) → addAll G (us ++ vs) ≡ addAll (addAll G us) vs
+unfolding addAll
+added-append G [] vs = refl
+added-append G (u ∷ us) vs = added-append (applied G u) us vs
+
+-- a batch's network is that of the openings accepted in it
+turns-added : (k : ℕ) (G : Network) (es : List Entry) → batchBy k G es .network ≡ addAll G (openingsOf (batchBy k G es .accepted))
+unfolding batchBy orEnd addAll openingsOf
+turns-added zero G es = refl
+turns-added (suc k) G es = go (firstFit G es) (λ H fs. turns-added k H fs)
+  where
+    rest : Entry → Batch
+    rest e = batchBy k (applied G (opens (e .notice))) (without (e .number) es)
+
+    go : (o : Option Entry) → ((H : Network) (fs : List Entry) → batchBy k H fs .network ≡ addAll H (openingsOf (batchBy k H fs .accepted)))
+        → orEnd o (batchEnd G es) rest .network ≡ addAll G (openingsOf (orEnd o (batchEnd G es) rest .accepted))
+    go none ih = refl
+    go (some e) ih = ih (applied G (opens (e .notice))) (without (e .number) es)
+
+ask-added : (k : ℕ) (G : Network) (a : Ask) → askNext k G a ≡ addAll G (askAccepted k G a)
+unfolding askNext askAccepted plainNext addAll batchOf
+ask-added zero G (update u) = refl
+ask-added zero G (batch lines) = turns-added (length (entriesOf lines)) G (entriesOf lines)
+ask-added (suc k) G (update u) = refl
+ask-added (suc k) G (batch lines) = refl
 
 -- the plain list's network is that of what it accepted
 plain-added : (K : Shape) (G : Network) (fs : List Feed) → plainRun K G fs .network ≡ addAll G (plainRun K G fs .accepted)
 unfolding plainRun addAll
 plain-added K G [] = refl
-plain-added K G (f ∷ fs) = go (plainRefusal K G f) (λ H. plain-added K H fs)
-  where
-    go : (k : ℕ) → ((H : Network) → plainRun K H fs .network ≡ addAll H (plainRun K H fs .accepted))
-        → plainRun K (plainNext k G (f .ask)) fs .network ≡ addAll G (joining k (f .ask) (plainRun K (plainNext k G (f .ask)) fs .accepted))
-    go zero ih = ih (applied G (f .ask))
-    go (suc k) ih = ih G
+plain-added K G (f ∷ fs) =
+    let k = plainRefusal K G f in
+    let H = askNext k G (f .ask) in
+    let rest = plainRun K H fs .accepted in
+    plain-added K H fs
+    ∙ ap (λ (N : Network). addAll N rest) (ask-added k G (f .ask))
+    ∙ sym (added-append G (askAccepted k G (f .ask)) rest)
 
 -- ---- its codes and links are those of any of them
 
-newDepot : ℕ → Ask → Bool
+newDepot : ℕ → Update → Bool
 newDepot v (opens o) = eqb v (o .code)
 
-newLink : ℕ → ℕ → Ask → Bool
+newLink : ℕ → ℕ → Update → Bool
 newLink u v (opens o) = (eqb u (o .code) && memb v (o .neighbours)) || (eqb v (o .code) && memb u (o .neighbours))
 
 or-swap : (a b c : Bool) → ((a || b) || c) ≡ (b || (a || c))
@@ -51,19 +82,19 @@ or-false : (b : Bool) → b ≡ (b || false)
 or-false true = refl
 or-false false = refl
 
-added-open : (G : Network) (os : List Ask) (v : ℕ) → addAll G os .isOpen v ≡ (G .isOpen v || anyb (newDepot v) os)
+added-open : (G : Network) (os : List Update) (v : ℕ) → addAll G os .isOpen v ≡ (G .isOpen v || anyb (newDepot v) os)
 unfolding addAll applied withDepot anyb newDepot
 added-open G [] v = or-false (G .isOpen v)
 added-open G (opens o ∷ os) v = added-open (applied G (opens o)) os v ∙ or-swap (eqb v (o .code)) (G .isOpen v) (anyb (newDepot v) os)
 
-added-linked : (G : Network) (os : List Ask) (u v : ℕ) → addAll G os .linked u v ≡ (G .linked u v || anyb (newLink u v) os)
+added-linked : (G : Network) (os : List Update) (u v : ℕ) → addAll G os .linked u v ≡ (G .linked u v || anyb (newLink u v) os)
 unfolding addAll applied withDepot anyb newLink
 added-linked G [] u v = or-false (G .linked u v)
 added-linked G (opens o ∷ os) u v =
     added-linked (applied G (opens o)) os u v
     ∙ or-swap ((eqb u (o .code) && memb v (o .neighbours)) || (eqb v (o .code) && memb u (o .neighbours))) (G .linked u v) (anyb (newLink u v) os)
 
-any-same : (p : Ask → Bool) (os qs : List Ask) → ((o : Ask) → List·Memᴰ o os ↔ List·Memᴰ o qs) → anyb p os ≡ anyb p qs
+any-same : (p : Update → Bool) (os qs : List Update) → ((o : Update) → List·Memᴰ o os ↔ List·Memᴰ o qs) → anyb p os ≡ anyb p qs
 any-same p os qs h =
     same-test (anyb p os) (anyb p qs)
     (λ e. let x = any-elim p os e in any-intro p qs (h (x .0) .0 (x .1)) (x .2))
@@ -73,17 +104,17 @@ any-same p os qs h =
 
 -- the depots of both lists stand in rising order, so that their list follows from which are open
 pub order-free : (K : Shape) (G : Network) (fs gs : List Feed) → IsHeld K (plainRun K G fs .network) → IsHeld K (plainRun K G gs .network)
-    → ((o : Ask) → List·Memᴰ o (plainRun K G fs .accepted) ↔ List·Memᴰ o (plainRun K G gs .accepted)) → plainRun K G fs .network ≡ plainRun K G gs .network
+    → ((o : Update) → List·Memᴰ o (plainRun K G fs .accepted) ↔ List·Memᴰ o (plainRun K G gs .accepted)) → plainRun K G fs .network ≡ plainRun K G gs .network
 order-free K G fs gs f g h =
     network-path
     (f .depots ∙ ap (λ (p : ℕ → Bool). filterb p (range (places K))) (fun-ext same-open) ∙ sym (g .depots))
     same-open
     same-linked
   where
-    os : List Ask
+    os : List Update
     os = plainRun K G fs .accepted
 
-    qs : List Ask
+    qs : List Update
     qs = plainRun K G gs .accepted
 
     same-open : (v : ℕ) → plainRun K G fs .network .isOpen v ≡ plainRun K G gs .network .isOpen v

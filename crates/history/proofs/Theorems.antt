@@ -5,50 +5,51 @@ use Rattle.graph.specs.Network.{Network}
 use Rattle.graph.specs.Opening.{emptyNetwork}
 use Rattle.graph.proofs.Theorems.{diameter-is}
 use Rattle.map.specs.Memory.{Shape, IsShape, base}
-use Rattle.update.specs.UpdateCall.{updateCall, referencesOf}
-use Rattle.history.specs.PlainRun.{plainRefusal}
-use Rattle.plain_list.specs.PlainList.{plainNext}
+use Rattle.map.proofs.Theorems.{base-shape}
+use Rattle.update.specs.UpdateCall.{updateCall}
 use Rattle.update.specs.Memory.{Memory}
-use Rattle.history.specs.History.{Call, lend, lentOf, callStep, runMemory, runAnswers, feedOf, feedsOf}
-use Rattle.update.specs.Represents.{Represents, IsMarked}
-use Rattle.history.specs.Demand3.{IsCall, AreCalls, memoryAfterAll, plainAfterAll, searchedIn, Demand3}
+use Rattle.update.specs.Represents.{Represents}
 use Rattle.update.proofs.Memories.{written-represents, memoryFor, memory-written}
 use Rattle.update.proofs.Empties.{empty-held, empty-memory}
+use Rattle.batch_update.specs.Marks.{IsLeftBy}
+use Rattle.history.specs.History.{Call, lentTo, Program, rulesProgram, callLeft, runMemory, runAnswers, feedsOf}
+use Rattle.history.specs.Demand3.{OpensCodes, AreCalls, memoryAfterAll, plainAfterAll, lastUpdate, LeavesMarks, Demand3}
 use Rattle.history.proofs.Runs.{fed-snoc, call-marked, IsRun, run}
 use Rattle.history.proofs.Orders.{order-free}
-use Rattle.map.proofs.Theorems.{base-shape}
 
 -- ---- DEMAND 3
 
 module _ (K : Shape) (shape : IsShape K) where
+  abbrev P : Program
+  P = rulesProgram K
+
   -- from the empty map: answers and memory are the plain list's
   all-run : (cs : List Call) → AreCalls K cs → IsRun K shape emptyNetwork cs
   all-run cs calls = run K shape emptyNetwork (empty-held K shape) cs calls
 
-  memory-is : (cs : List Call) → AreCalls K cs → memoryAfterAll K (updateCall K) cs ≡ memoryFor K (plainAfterAll K cs .network)
-  memory-is cs calls = ap (λ (M : Memory). runMemory (updateCall K) M cs) (empty-memory K shape) ∙ all-run cs calls .memory
+  memory-is : (cs : List Call) → AreCalls K cs → memoryAfterAll K (rulesProgram K) cs ≡ memoryFor K (plainAfterAll K cs .network)
+  memory-is cs calls = ap (λ (M : Memory). runMemory P M cs) (empty-memory K shape) ∙ all-run cs calls .memory
 
   -- the map at the end represents the plain list's network
-  end-represents : (cs : List Call) → AreCalls K cs → Represents K (memoryAfterAll K (updateCall K) cs) (plainAfterAll K cs .network)
+  end-represents : (cs : List Call) → AreCalls K cs → Represents K (memoryAfterAll K (rulesProgram K) cs) (plainAfterAll K cs .network)
   end-represents cs calls =
       let G = plainAfterAll K cs .network in
       subst (λ (M : Memory). Represents K M G) (sym (memory-is cs calls ∙ memory-written K G)) (written-represents K G (all-run cs calls .isHeld) (memoryFor K G))
 
   -- the marks of the last call
-  last-marked : (cs : List Call) (c : Call) → AreCalls K (cs ++ (c ∷ []))
-      → IsMarked K (plainAfterAll K (cs ++ (c ∷ [])) .network) (searchedIn K (updateCall K) cs c) (callStep (updateCall K) (memoryAfterAll K (updateCall K) cs) c)
+  last-marked : (cs : List Call) (c : Call) → AreCalls K (cs ++ (c ∷ [])) → LeavesMarks K (rulesProgram K) cs (memoryAfterAll K (rulesProgram K) cs) c
   last-marked cs c calls =
       let before : AreCalls K cs = λ x m. calls x (Memᴰ·append-left (c ∷ []) m) in
-      let call : IsCall K c = calls c (Memᴰ·append-right cs (List·Memᴰ·head refl)) in
+      let call : OpensCodes K (c .ask) = calls c (Memᴰ·append-right cs (List·Memᴰ·head refl)) in
       let G = plainAfterAll K cs .network in
-      let H = plainNext (plainRefusal K G (feedOf K c)) G (c .ask) in
-      subst (λ (N : Network). IsMarked K N (searchedIn K (updateCall K) cs c) (callStep (updateCall K) (memoryAfterAll K (updateCall K) cs) c)) (sym (fed-snoc K emptyNetwork cs c))
-      (subst (λ (M : Memory). IsMarked K H (referencesOf K (M .rec) (lend (c .links) (M .links)) (lentOf M c) (c .ask)) (callStep (updateCall K) M c)) (sym (memory-is cs before))
+      subst (λ (M : Memory). LeavesMarks K P cs M c) (sym (memory-is cs before))
+      (subst (λ (H : Network). IsLeftBy K (updateCall K) H (lentTo (memoryFor K G) (c .lending)) (callLeft P (memoryFor K G) c .memory) (lastUpdate K (lentTo (memoryFor K G) (c .lending)) (c .lending .left) (c .ask)))
+      (sym (fed-snoc K emptyNetwork cs c))
       (call-marked K shape G (all-run cs before .isHeld) c call))
 
-pub demand3 : (K : Shape) → IsShape K → Demand3 K (updateCall K)
+pub demand3 : (K : Shape) → IsShape K → Demand3 K (rulesProgram K)
 demand3 K shape = record {
-  answers = λ cs calls. ap (λ (M : Memory). runAnswers (updateCall K) M cs) (empty-memory K shape) ∙ all-run K shape cs calls .answers;
+  answers = λ cs calls. ap (λ (M : Memory). runAnswers (rulesProgram K) M cs) (empty-memory K shape) ∙ all-run K shape cs calls .answers;
   published = λ cs calls. diameter-is (plainAfterAll K cs .network) (all-run K shape cs calls .isHeld .net);
   figures = end-represents K shape;
   marks = last-marked K shape;
@@ -60,5 +61,5 @@ demand3 K shape = record {
 
 -- ---- the rules' map
 
-pub demand3-base : Demand3 base (updateCall base)
+pub demand3-base : Demand3 base (rulesProgram base)
 demand3-base = demand3 base base-shape

@@ -1,56 +1,67 @@
--- DEMAND 3 (rules 9.4 to 9.7 and 11.3), one statement over lists of calls from the empty map. `Demand3 base step` is that of the rules' map,
--- of a program whose call is `step`: the code's contract makes it `updateCall base`, by one equation for result and every byte lent. That equation also fixes what these
--- four parts leave open: the order of the references, bound, hop and layer tables, refused calls, words past the named sizes.
+-- DEMAND 3 (rules 9.4 to 9.7, 11.3 and 14.6), one statement over lists of calls of every kind from the empty map. `Demand3 base P` is that of the rules'
+-- map, of a program whose calls are P: the code's contracts make it `rulesProgram base`, each by one equation for result and every byte lent. Those equations
+-- also fix what these four parts leave open: the order of the references, bound, hop and layer tables, refused calls, words past the named sizes.
 -- Assumes nothing.
 use mathlib.Core.Path.{_≡_}
 use mathlib.Core.Logic.{_↔_}
 use mathlib.Core.List.{List, [], _∷_, _++_, List·Memᴰ}
-use Prim.Native.Nat.{ℕ}
-use lib.Dec.{T, ltb}
-use Rattle.lists.specs.Lists.{allb}
+use mathlib.Core.Option.{Option, none, some}
+use Prim.Native.Nat.{ℕ, zero, suc}
+use lib.ListN.{length}
 use Rattle.graph.specs.Network.{IsDiameter, delivers}
 use Rattle.graph.specs.Chart.{diameter}
 use Rattle.graph.specs.Opening.{emptyNetwork}
-use Rattle.graph.specs.Updates.{opens}
-use Rattle.map.specs.Memory.{Shape, places}
-use Rattle.update.specs.UpdateCall.{referencesOf, IsWithin, Step}
-use Rattle.history.specs.PlainRun.{Ask, PlainRun, plainRun}
+use Rattle.graph.specs.Updates.{Update}
+use Rattle.map.specs.Memory.{Shape}
+use Rattle.map.specs.Room.{sizesOf}
+use Rattle.update.specs.UpdateCall.{IsWithin}
 use Rattle.update.specs.Memory.{Memory, emptyMemory}
-use Rattle.history.specs.History.{Call, lend, lentOf, callStep, runMemory, runAnswers, feedsOf}
-use Rattle.update.specs.Represents.{Represents, IsMarked}
+use Rattle.update.specs.Represents.{Represents}
+use Rattle.batch_update.specs.BatchCall.{batchRefusal, LentMemory}
+use Rattle.batch_update.specs.Demand2.{AreCodes}
+use Rattle.batch_update.specs.Marks.{UpdateOn, lastOpening, IsLeftBy}
+use Rattle.history.specs.PlainRun.{Ask, update, batch, PlainRun, plainRun}
+use Rattle.history.specs.History.{Call, Program, lentTo, callLeft, runMemory, runAnswers, feedsOf}
 
--- what is asked for names codes of the map: bytes where it has 256
-abbrev pub NamesCodes : Shape → Ask → Type 0
-NamesCodes K (opens o) = T (allb (λ v. ltb v (places K)) (o .neighbours))
-
-pub record IsCall (K : Shape) (c : Call) : Type 0 where
-  pub within : IsWithin K (c .ask)
-  pub named : NamesCodes K (c .ask)
+-- the codes that a call may open are codes of the map: bytes where it has 256, as those of lines are (`codes-base`, batch_update)
+abbrev pub OpensCodes : Shape → Ask → Type 0
+OpensCodes K (update u) = IsWithin K u
+OpensCodes K (batch lines) = AreCodes K lines
 
 abbrev pub AreCalls : Shape → List Call → Type 0
-AreCalls K cs = (c : Call) → List·Memᴰ c cs → IsCall K c
+AreCalls K cs = (c : Call) → List·Memᴰ c cs → OpensCodes K (c .ask)
 
-abbrev pub memoryAfterAll : Shape → Step → List Call → Memory
-memoryAfterAll K step cs = runMemory step (emptyMemory K) cs
+abbrev pub memoryAfterAll : Shape → Program → List Call → Memory
+memoryAfterAll K P cs = runMemory P (emptyMemory K) cs
 
 -- the plain list fed with the calls
 abbrev pub plainAfterAll : Shape → List Call → PlainRun
 plainAfterAll K cs = plainRun K emptyNetwork (feedsOf K cs)
 
--- the depots searched in the call c after the calls cs, by the rules
-abbrev pub searchedIn : Shape → Step → List Call → Call → List ℕ
-searchedIn K step cs c =
-    let M = memoryAfterAll K step cs in
-    referencesOf K (M .rec) (lend (c .links) (M .links)) (lentOf M c) (c .ask)
+-- the update whose marks a call leaves: its own; of a batch the last accepted opening, if any
+unfoldable pub lastOfBatch : ℕ → Shape → LentMemory → List ℕ → Option UpdateOn
+lastOfBatch zero K N lines = lastOpening K (N .rec) (N .links) (N .lent) lines
+lastOfBatch (suc k) K N lines = none
 
-pub record Demand3 (K : Shape) (step : Step) : Type 0 where
+unfoldable pub lastUpdate : Shape → LentMemory → List ℕ → Ask → Option UpdateOn
+lastUpdate K N left (update u) = some (record { before = N; update = u })
+lastUpdate K N left (batch lines) = lastOfBatch (batchRefusal K (N .rec) (N .links) (N .lent .pairs) (sizesOf (N .links) (N .lent)) (length left) lines) K N lines
+
+-- the call c leaves, of the memory M, the marks of its last update (`IsLeftBy`): marks, number of searches, and after a shrink the cover of what it did
+-- not search; the memory as it was lent where there is none
+abbrev pub LeavesMarks : Shape → Program → List Call → Memory → Call → Type 0
+LeavesMarks K P cs M c =
+    let N = lentTo M (c .lending) in
+    IsLeftBy K (P .update) (plainAfterAll K (cs ++ (c ∷ [])) .network) N (callLeft P M c .memory) (lastUpdate K N (c .lending .left) (c .ask))
+
+pub record Demand3 (K : Shape) (P : Program) : Type 0 where
   -- (A) each answer is the plain list's, whose longest chain is the published diameter
-  pub answers : (cs : List Call) → AreCalls K cs → runAnswers step (emptyMemory K) cs ≡ plainAfterAll K cs .answers
+  pub answers : (cs : List Call) → AreCalls K cs → runAnswers P (emptyMemory K) cs ≡ plainAfterAll K cs .answers
   pub published : (cs : List Call) → AreCalls K cs → IsDiameter (plainAfterAll K cs .network) (delivers (plainAfterAll K cs .network)) (diameter (plainAfterAll K cs .network))
   -- (B) the map is that of the network of what was accepted
-  pub figures : (cs : List Call) → AreCalls K cs → Represents K (memoryAfterAll K step cs) (plainAfterAll K cs .network)
-  -- (C) the last call's marks, and after a shrink the cover of what it did not search
-  pub marks : (cs : List Call) (c : Call) → AreCalls K (cs ++ (c ∷ [])) → IsMarked K (plainAfterAll K (cs ++ (c ∷ [])) .network) (searchedIn K step cs c) (callStep step (memoryAfterAll K step cs) c)
+  pub figures : (cs : List Call) → AreCalls K cs → Represents K (memoryAfterAll K P cs) (plainAfterAll K cs .network)
+  -- (C) the marks of the last call
+  pub marks : (cs : List Call) (c : Call) → AreCalls K (cs ++ (c ∷ [])) → LeavesMarks K P cs (memoryAfterAll K P cs) c
   -- (D) arrival order: with the same accepted, two lists leave the same record, link table and pair table
-  pub order : (cs ds : List Call) → AreCalls K cs → AreCalls K ds → ((o : Ask) → List·Memᴰ o (plainAfterAll K cs .accepted) ↔ List·Memᴰ o (plainAfterAll K ds .accepted))
-      → memoryAfterAll K step cs ≡ memoryAfterAll K step ds
+  pub order : (cs ds : List Call) → AreCalls K cs → AreCalls K ds → ((o : Update) → List·Memᴰ o (plainAfterAll K cs .accepted) ↔ List·Memᴰ o (plainAfterAll K ds .accepted))
+      → memoryAfterAll K P cs ≡ memoryAfterAll K P ds

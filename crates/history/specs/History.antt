@@ -1,15 +1,19 @@
--- LISTS OF CALLS on one map (rule 9.4): how each call is lent the map, and what the map is after it. `step` is the call: `updateCall K` of the
+-- LISTS OF CALLS on one map (rule 9.4): how each call is lent the map, and what the map is after it. A program is its calls: those of the
 -- specification, or the code's own.
 -- Assumes nothing.
 use mathlib.Core.List.{List, [], _∷_, _++_}
 use Prim.Native.Nat.{ℕ, _+_, min}
 use lib.ListN.{length, take, drop}
-use Rattle.map.specs.Room.{Tables, Lent}
+use Rattle.map.specs.Room.{Tables, Sizes}
 use Rattle.map.specs.Memory.{Shape, tableWords}
-use Rattle.outcome.specs.declared.Outcome.{Outcome}
-use Rattle.update.specs.UpdateCall.{UpdateLeft, Step}
-use Rattle.history.specs.PlainRun.{Ask, Feed}
+use Rattle.outcome.specs.declared.Outcome.the-variants.{Refused as RefusedUpdate}
+use Rattle.update.specs.UpdateCall.{Step, updateCall}
 use Rattle.update.specs.Memory.{Memory}
+use Rattle.batch_update.specs.BatchCall.{LentMemory, memoryLeft, batchCall}
+use Rattle.batch_update.specs.Refusals.{BatchStep}
+use Rattle.batch_update.specs.declared.BatchAnswer.{BatchAnswer}
+use Rattle.batch_update.specs.declared.BatchAnswer.the-variants.{Opened, Refused}
+use Rattle.history.specs.PlainRun.{Ask, update, batch, Answer, told, leftOver, Feed}
 
 -- how a table of the map is lent: its first k words alone, or whole, with further words of the caller's behind it
 pub data Part : Type 0 where
@@ -25,55 +29,86 @@ unfoldable pub restore : Part → List ℕ → List ℕ → List ℕ
 restore (first k) t l = l ++ drop k t
 restore (whole xs) t l = take (length t) l
 
--- a call: what it asks for, how the two tables are lent, and the other lent memory, which may hold anything
-pub record Call : Type 0 where
-  pub ask : Ask
+-- what a call is lent: of the map its two tables, and other memory, which may hold anything; `left` are the places of a batch
+pub record Lending : Type 0 where
   pub links : Part
   pub pairs : Part
   pub searched : Tables
   pub bounds : List ℕ
   pub skips : List ℕ
+  pub left : List ℕ
 
-unfoldable pub lentOf : Memory → Call → Lent
-lentOf M c = record { pairs = lend (c .pairs) (M .pairs); searched = c .searched; bounds = c .bounds; skips = c .skips }
+pub record Call : Type 0 where
+  pub ask : Ask
+  pub lending : Lending
 
-unfoldable pub callStep : Step → Memory → Call → UpdateLeft
-callStep step M c = step (M .rec) (lend (c .links) (M .links)) (lentOf M c) (c .ask)
+abbrev pub lentTo : Memory → Lending → LentMemory
+lentTo M c = record {
+  rec = M .rec;
+  links = lend (c .links) (M .links);
+  lent = record { pairs = lend (c .pairs) (M .pairs); searched = c .searched; bounds = c .bounds; skips = c .skips };
+}
 
-unfoldable pub memoryAfter : Memory → Call → UpdateLeft → Memory
-memoryAfter M c l = record {
-  links = restore (c .links) (M .links) (l .links);
-  pairs = restore (c .pairs) (M .pairs) (l .lent .pairs);
-  rec = l .after;
+-- the calls of a program, a field for each kind; those of the specification
+pub record Program : Type 0 where
+  pub update : Step
+  pub batch : BatchStep
+
+abbrev pub rulesProgram : Shape → Program
+rulesProgram K = record { update = updateCall K; batch = batchCall K }
+
+-- what a call leaves: its answer, and the lent memory
+pub record CallLeft : Type 0 where
+  pub answer : Answer
+  pub memory : LentMemory
+
+-- a batch's answer with the places that it left
+unfoldable pub batchAnswer : BatchAnswer → List ℕ → Answer
+batchAnswer (Opened n) left = leftOver (take n left)
+batchAnswer (Refused k) left = told (RefusedUpdate k)
+
+unfoldable pub askLeft : Program → LentMemory → List ℕ → Ask → CallLeft
+askLeft P N left (update u) = let l = P .update (N .rec) (N .links) (N .lent) u in record { answer = told (l .report .outcome); memory = memoryLeft l }
+askLeft P N left (batch lines) = let l = P .batch (N .rec) (N .links) (N .lent) left lines in record { answer = batchAnswer (l .answer) (l .left); memory = l .memory }
+
+unfoldable pub callLeft : Program → Memory → Call → CallLeft
+callLeft P M c = askLeft P (lentTo M (c .lending)) (c .lending .left) (c .ask)
+
+-- the map after the lent memory was left as N
+unfoldable pub memoryAfter : Memory → Lending → LentMemory → Memory
+memoryAfter M c N = record {
+  links = restore (c .links) (M .links) (N .links);
+  pairs = restore (c .pairs) (M .pairs) (N .lent .pairs);
+  rec = N .rec;
 }
 
 -- the memory after a list of calls, each lent the map as it stands after the one before; their answers
-unfoldable pub runMemory : Step → Memory → List Call → Memory
-runMemory step M [] = M
-runMemory step M (c ∷ cs) = runMemory step (memoryAfter M c (callStep step M c)) cs
+unfoldable pub runMemory : Program → Memory → List Call → Memory
+runMemory P M [] = M
+runMemory P M (c ∷ cs) = runMemory P (memoryAfter M (c .lending) (callLeft P M c .memory)) cs
 
-unfoldable pub runAnswers : Step → Memory → List Call → List Outcome
-runAnswers step M [] = []
-runAnswers step M (c ∷ cs) = let l = callStep step M c in l .report .outcome ∷ runAnswers step (memoryAfter M c l) cs
+unfoldable pub runAnswers : Program → Memory → List Call → List Answer
+runAnswers P M [] = []
+runAnswers P M (c ∷ cs) = let l = callLeft P M c in l .answer ∷ runAnswers P (memoryAfter M (c .lending) (l .memory)) cs
 
 -- what the plain list is fed of a call
 unfoldable pub lentSize : ℕ → Part → ℕ
 lentSize size (first k) = min k size
 lentSize size (whole xs) = size + length xs
 
-unfoldable pub feedOf : Shape → Call → Feed
-feedOf K c = record {
-  ask = c .ask;
-  sizes = record {
-    links = lentSize (tableWords K) (c .links);
-    pairs = lentSize (tableWords K) (c .pairs);
-    hops = length (c .searched .hops);
-    bounds = length (c .bounds);
-    skips = length (c .skips);
-    even = length (c .searched .even);
-    odd = length (c .searched .odd);
-  };
+unfoldable pub lentSizes : Shape → Lending → Sizes
+lentSizes K c = record {
+  links = lentSize (tableWords K) (c .links);
+  pairs = lentSize (tableWords K) (c .pairs);
+  hops = length (c .searched .hops);
+  bounds = length (c .bounds);
+  skips = length (c .skips);
+  even = length (c .searched .even);
+  odd = length (c .searched .odd);
 }
+
+unfoldable pub feedOf : Shape → Call → Feed
+feedOf K c = record { ask = c .ask; sizes = lentSizes K (c .lending); left = length (c .lending .left) }
 
 unfoldable pub feedsOf : Shape → List Call → List Feed
 feedsOf K [] = []

@@ -1,0 +1,37 @@
+-- `batch::opening_length` meets its contract, by the reader's two answers. Assumes nothing.
+use mathlib.Core.Path.{sym, ap}
+use native.Mathlib.Omega.{arith}
+use Rattle.notice.proofs.Readings.{frame-read, garbled-read}
+use Rattle.batch.specs.Steps.{openingLength}
+use borrow.Author.Needs.{needs}
+use Rattle.batch.proofs.opening_length.Statement.{statement}
+use Rattle.batch.proofs.opening_length.Tie as tie
+
+slice-aggregate-read-notice : tie.Need-slice-aggregate-read-notice
+slice-aggregate-read-notice c = search needs
+
+returns : tie.Need-returns
+unfolding openingLength
+returns c =
+    let after-got : tie.After-got = search in
+    let after-read-notice : tie.After-read-notice = search in
+    let after-frame : tie.After-frame = search in
+    sym (ap openingLength (frame-read _ _ (omega (arith, slice-aggregate-read-notice after-frame)) (after-got .got .given .1)
+    (after-read-notice .read-notice .ensures) .1))
+
+returns-2 : tie.Need-returns-2
+unfolding openingLength
+returns-2 c =
+    let after-read-notice : tie.After-read-notice = search in
+    let after-frame : tie.After-frame = search in
+    sym (ap openingLength (garbled-read _ _ (omega (arith, slice-aggregate-read-notice after-frame)) (c .enum-told .given .1)
+    (after-read-notice .read-notice .ensures) .0))
+
+pub opening-length-spec : {M : Type 1} → statement M
+opening-length-spec =
+    tie.close
+    (tie.spec
+    slice-aggregate-read-notice
+    (λ c. search needs) (λ c. search needs) (λ c. search needs)  -- read-notice-requires, enum-known-got, enum-told
+    returns
+    returns-2)

@@ -1,0 +1,2 @@
+-- Small words for contracts; the call itself is `batchCall` (batch_update/specs). Nobody has to believe this file.
+pub mod Steps
