@@ -41,7 +41,7 @@ static void try_versions(void)
 static void try_words(void)
 {
     static const char *const words[] = {"", "short", "spoilt", "apart", "absent", "taken", "lonely", "unsorted", "unknown", "garbled",
-                                        "nobody"};
+                                        "nobody", "overfull", "bare"};
     for (unsigned number = 0; number < 600; number++) {
         const char *expected = number < sizeof words / sizeof words[0] ? words[number] : "";
         expect("each refusal has its word, other numbers none", strcmp(zorpedi_refusal_word(number), expected) == 0);
@@ -86,6 +86,23 @@ static void try_near(void)
     expect("the lower of two as near", found == 1 && distance == 2);
 }
 
+/* Batches of two lines, of none, whose pointer may be null, and on a map without a depot. */
+static void try_batches(void)
+{
+    static const char lines[] = "01020101\n01010100\n";
+    uint8_t left[ZORPEDI_BATCH_SIZE], count = 77;
+    zorpedi_map_empty(&map);
+    memset(left, 99, sizeof left);
+    expect("no depot is open", zorpedi_map_open_batch(&map, left, &count, NULL, 0) == ZORPEDI_BARE);
+    expect("a refused batch leaves the count", count == 77 && left[0] == 99);
+    zorpedi_map_opened(&map, 0, NULL, 0);
+    expect("a batch", zorpedi_map_open_batch(&map, left, &count, (const uint8_t *)lines, sizeof lines - 1) == ZORPEDI_DONE);
+    expect("both are opened", count == 0 && map.record[ZORPEDI_CHAIN] == 2 && map.skips[2] == ZORPEDI_SEARCHED);
+    expect("again", zorpedi_map_open_batch(&map, left, &count, (const uint8_t *)lines, sizeof lines - 1) == ZORPEDI_DONE);
+    expect("both are left over, and no place behind", count == 2 && left[0] == 0 && left[1] == 1 && left[2] == 99);
+    expect("no lines", zorpedi_map_open_batch(&map, left, &count, NULL, 0) == ZORPEDI_DONE && count == 0);
+}
+
 /* Whether the walk has each bit of the pair table once, in rising order, and then none. */
 static int walks_all(void)
 {
@@ -125,6 +142,7 @@ int main(void)
     try_versions();
     try_words();
     try_near();
+    try_batches();
     try_openings();
     try_pairs();
     puts(differences == 0 ? "the helpers are as the header says" : "the helpers DIFFER from the header");

@@ -18,12 +18,13 @@
  * HOW MEMORY IS LENT
  * A buffer is a pointer and its length in elements, in this order. Most buffers have a named size. A longer one is allowed: only its first part
  * is used, and the rest keeps its value. A shorter one is refused with 1, even where the call would not have filled it. `neighbours`, `input`,
- * `piece`, `listed` and the frame that is written as a line have no named size; the `out` of a stream is used as far as it goes. Every function takes
- * what it is lent in one order: record, links, pairs, hops, bounds, skips, even, odd, then other buffers, then single numbers; then what it is asked.
+ * `piece`, `listed`, `lines` and the frame that is written as a line have no named size; the `out` of a stream is used as far as it goes. Every
+ * function takes what it is lent in one order: record, links, pairs, hops, bounds, skips, even, odd, then other buffers, then single numbers; then
+ * what it is asked.
  *
  * REFUSALS
- * A refused call answers a number from 1 to 10: the first of its own that applies, in rising order. It changes nothing that was lent, scratch
- * memory and single numbers included.
+ * A refused call answers a number from 1 to 12: the first of its own that applies, in rising order, but that a batch looks for 11 and 12 before 9. It
+ * changes nothing that was lent, scratch memory and single numbers included.
  *
  * VERSIONS
  * ZORPEDI_VERSION is the version of this header, zorpedi_version() that of the archive: a thousand times the major number, and the minor number.
@@ -48,7 +49,7 @@ extern "C" {
 /* ---- the version of the interface */
 
 #define ZORPEDI_VERSION_MAJOR 2
-#define ZORPEDI_VERSION_MINOR 1
+#define ZORPEDI_VERSION_MINOR 2
 #define ZORPEDI_VERSION (ZORPEDI_VERSION_MAJOR * 1000 + ZORPEDI_VERSION_MINOR)
 
 /* The version of the archive. Where both are of one delivery it is ZORPEDI_VERSION. */
@@ -69,6 +70,7 @@ static inline int zorpedi_version_serves(uint32_t version)
 #define ZORPEDI_FRAME_SIZE 258   /* uint8_t: the frame of a notice */
 #define ZORPEDI_LINE_SIZE 517    /* uint8_t: a notice line; the line buffer of a stream */
 #define ZORPEDI_REPORT_SIZE 48   /* uint8_t: a report line; the least room for the reports of a stream */
+#define ZORPEDI_BATCH_SIZE 64    /* uint8_t: the places for the lines left over of a batch; the most lines of one */
 #define ZORPEDI_LINES_LIMIT 1000000 /* the most lines of one stream */
 
 /* ---- the record: seven words */
@@ -89,7 +91,7 @@ static inline int zorpedi_version_serves(uint32_t version)
 enum zorpedi_answer {
     ZORPEDI_DONE = 0,     /* done, for every call but zorpedi_open */
     ZORPEDI_SHORT = 1,    /* short: a lent buffer is shorter than its size */
-    ZORPEDI_SPOILT = 2,   /* spoilt: links are not sound; for an opening and the stream, links or figures */
+    ZORPEDI_SPOILT = 2,   /* spoilt: links are not sound; for an opening, a batch and the stream, links or figures */
     ZORPEDI_APART = 3,    /* apart: the links are sound, but no walk leads from the lowest open code to some open depot */
     ZORPEDI_ABSENT = 4,   /* absent: the depot to be searched from, or whose near depots are asked, is not open */
     ZORPEDI_TAKEN = 5,    /* taken: the depot to be opened is open already */
@@ -99,12 +101,14 @@ enum zorpedi_answer {
     ZORPEDI_GARBLED = 9,  /* garbled: a line has no 0A among its first 517 bytes, or what stands before it does not spell a frame of kind 01 in
                              the digits 0-9 and A-F; for the writer, the bytes are no such frame */
     ZORPEDI_NOBODY = 10,  /* nobody: no depot of a list is open */
+    ZORPEDI_OVERFULL = 11, /* overfull: a batch has more than 64 lines */
+    ZORPEDI_BARE = 12,    /* bare: a batch, and no depot is open */
     ZORPEDI_GREW = 71,    /* 'G', grew, zorpedi_open only: accepted, and the longest chain is greater than before */
     ZORPEDI_KEPT = 75,    /* 'K', kept, zorpedi_open only: accepted, and it is the same */
     ZORPEDI_SHRANK = 83   /* 'S', shrank, zorpedi_open only: accepted, and it is neither; where the figures were true it is smaller */
 };
 
-/* The trade's word for a refusal, as above: "short" for 1 to "nobody" for 10, and "" for every number that is no refusal of this header. The text
+/* The trade's word for a refusal, as above: "short" for 1 to "bare" for 12, and "" for every number that is no refusal of this header. The text
  * stays for as long as the program runs. */
 static inline const char *zorpedi_refusal_word(unsigned number)
 {
@@ -129,6 +133,10 @@ static inline const char *zorpedi_refusal_word(unsigned number)
         return "garbled";
     case ZORPEDI_NOBODY:
         return "nobody";
+    case ZORPEDI_OVERFULL:
+        return "overfull";
+    case ZORPEDI_BARE:
+        return "bare";
     default:
         return "";
     }
@@ -143,12 +151,12 @@ static inline const char *zorpedi_refusal_word(unsigned number)
  * Links are sound (rule 1.8) if the open set has as many codes as the record says, every code in a row is open and not the row's own, the rows
  * of closed codes are empty, and v is in row u exactly if u is in row v. Figures are sound if every code v in row u of the pair table has u <
  * v and both open, the pair table has as many bits as the record counts pairs, and the chain is 255 or less. A record word beyond these is
- * spoilt (2) in every call that looks at it: search, the calls on near depots, reckoning, opening and stream look at the open set and the number;
- * opening and stream at chain and pair count too.
+ * spoilt (2) in every call that looks at it: search, the calls on near depots, reckoning, opening, batch and stream look at the open set and the
+ * number; opening, batch and stream at chain and pair count too.
  *
- * The map of a program is the record, the link table and the pair table. All zero is the empty map. A map that only zorpedi_open and the stream
- * have written since it was emptied is never spoilt or apart, and its figures are true: those of its links. A reckoning leaves the links as they
- * are and writes true figures.
+ * The map of a program is the record, the link table and the pair table. All zero is the empty map. A map that only zorpedi_open,
+ * zorpedi_open_batch and the stream have written since it was emptied is never spoilt or apart, and its figures are true: those of its links. A
+ * reckoning leaves the links as they are and writes true figures.
  */
 
 /* ---- the map */
@@ -214,6 +222,20 @@ uint8_t zorpedi_open(uint64_t *record, size_t record_size, uint64_t *links, size
                      uint16_t *hops, size_t hops_size, uint16_t *bounds, size_t bounds_size, uint16_t *skips, size_t skips_size,
                      uint64_t *even, size_t even_size, uint64_t *odd, size_t odd_size, uint16_t *searches, uint8_t code,
                      const uint8_t *neighbours, size_t neighbours_size);
+
+/* Opens depots by up to 64 notice lines, which may come in any order. `lines` is one line after the other, each with its 0A; bytes behind the last
+ * 0A are a line too, a garbled one.
+ * 0: again and again, seen from the first line every time, the first line that zorpedi_open would accept by then is opened as zorpedi_open opens it,
+ * until it would accept none. No order of these lines opens a code that is not open then. The first *count bytes of `left` are the numbers of the
+ * lines not opened, from 0, rising; the bytes behind them keep their values. hops, bounds, skips, even and odd are as the last opening leaves them,
+ * and unchanged if no line was opened. No lines at all are a batch that opens nothing.
+ * Refused: 1 (sizes as for zorpedi_reckon, left below 64; the lines have none), 2 (links or figures), 3, 11, 12, 9 (some line is one that
+ * zorpedi_read_notice refuses), looked for in this order. The number of a refusal stands for the whole batch (section 14 of the
+ * rules). */
+uint8_t zorpedi_open_batch(uint64_t *record, size_t record_size, uint64_t *links, size_t links_size, uint64_t *pairs, size_t pairs_size,
+                           uint16_t *hops, size_t hops_size, uint16_t *bounds, size_t bounds_size, uint16_t *skips, size_t skips_size,
+                           uint64_t *even, size_t even_size, uint64_t *odd, size_t odd_size, uint8_t *left, size_t left_size,
+                           uint8_t *count, const uint8_t *lines, size_t lines_size);
 
 /* ---- lines
  *
@@ -315,6 +337,17 @@ static inline zorpedi_opened zorpedi_map_opened(zorpedi_map *map, uint8_t code, 
     return opened;
 }
 
+/* `left` is lent whole: ZORPEDI_BATCH_SIZE bytes. `lines` may be null where `size` is 0. */
+static inline uint8_t zorpedi_map_open_batch(zorpedi_map *map, uint8_t left[ZORPEDI_BATCH_SIZE], uint8_t *count, const uint8_t *lines,
+                                             size_t size)
+{
+    const uint8_t none = 0;
+    return zorpedi_open_batch(map->record, ZORPEDI_RECORD_SIZE, map->links, ZORPEDI_TABLE_SIZE, map->pairs, ZORPEDI_TABLE_SIZE, map->hops,
+                              ZORPEDI_CODES_SIZE, map->bounds, ZORPEDI_CODES_SIZE, map->skips, ZORPEDI_CODES_SIZE, map->even,
+                              ZORPEDI_ROW_SIZE, map->odd, ZORPEDI_ROW_SIZE, left, ZORPEDI_BATCH_SIZE, count, size == 0 ? &none : lines,
+                              size);
+}
+
 static inline uint8_t zorpedi_map_search(zorpedi_map *map, uint8_t code, uint16_t *eccentricity)
 {
     return zorpedi_search(map->record, ZORPEDI_RECORD_SIZE, map->links, ZORPEDI_TABLE_SIZE, map->hops, ZORPEDI_CODES_SIZE, map->even,
@@ -382,7 +415,8 @@ static inline int zorpedi_map_is_farthest(const zorpedi_map *map, uint8_t u, uin
  *
  * zorpedi_pairs_next answers 1 and sets u and v to the next bit v of row u of the pair table, by rising u, and for each u by rising v; or it answers
  * 0 and leaves them, when there is none. Each bit comes once, so that on sound figures u < v, and as many come as the record's pair count says. It
- * looks at the map's own table: a call that may write the pairs (opening, reckoning, emptying, stream) ends the walk, and a new one is to begin. */
+ * looks at the map's own table: a call that may write the pairs (opening, batch, reckoning, emptying, stream) ends the walk, and a new one is to
+ * begin. */
 typedef struct zorpedi_pairs {
     const uint64_t *table; /* the map's pair table */
     uint32_t place;        /* where the next look begins: 256 u + v */

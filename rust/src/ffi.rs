@@ -150,6 +150,35 @@ pub fn open(m: &mut Memory, searches: &mut u16, code: u8, neighbours: &[u8]) -> 
     }
 }
 
+pub fn open_batch(m: &mut Memory, left: &mut [u8; 64], count: &mut u8, lines: &[u8]) -> u8 {
+    // SAFETY: whole arrays of one struct, each named once, and an array, a number and a slice beside them.
+    unsafe {
+        c::zorpedi_open_batch(
+            m.record.as_mut_ptr(),
+            m.record.len(),
+            m.links.as_mut_ptr(),
+            m.links.len(),
+            m.pairs.as_mut_ptr(),
+            m.pairs.len(),
+            m.hops.as_mut_ptr(),
+            m.hops.len(),
+            m.bounds.as_mut_ptr(),
+            m.bounds.len(),
+            m.skips.as_mut_ptr(),
+            m.skips.len(),
+            m.even.as_mut_ptr(),
+            m.even.len(),
+            m.odd.as_mut_ptr(),
+            m.odd.len(),
+            left.as_mut_ptr(),
+            left.len(),
+            count,
+            lines.as_ptr(),
+            lines.len(),
+        )
+    }
+}
+
 pub fn read_notice(frame: &mut [u8], length: &mut usize, used: &mut usize, input: &[u8]) -> u8 {
     // SAFETY: two slices and two numbers, by their references.
     unsafe { c::zorpedi_read_notice(frame.as_mut_ptr(), frame.len(), length, used, input.as_ptr(), input.len()) }

@@ -279,6 +279,36 @@ impl Map {
         Ok(Opened { change, searches })
     }
 
+    /// Opens the depots of up to 64 notice lines, which may come in any order: again and again the first line that can be opened by then is opened,
+    /// as [`Map::open`] opens it, until none can. Answers the numbers of the lines left over, from 0, rising. No order of
+    /// these lines opens a depot that is not open then. Each line ends with its 0A.
+    ///
+    /// Refused with `Spoilt`, `Apart`, `Overfull` (more than 64 lines), `Bare` (no depot is open yet) or, if any line is no notice, `Garbled`; the
+    /// first two only on a map made by `from_parts`.
+    ///
+    /// ```
+    /// use zorpedi::{Map, Refusal};
+    ///
+    /// let mut map = Map::new();
+    /// assert_eq!(map.open_batch(b"01010100\n"), Err(Refusal::Bare));
+    /// map.open(0, &[])?;
+    ///
+    /// // 3 opens beside 2, 2 beside 1, 1 beside 0, and 9 beside 8, which no line opens.
+    /// let left = map.open_batch(b"01030102\n01090108\n01020101\n01010100\n")?;
+    /// assert_eq!(left, [1]);
+    /// assert_eq!((map.depots(), map.chain()), (4, 3));
+    ///
+    /// // A line that does not read refuses the whole batch.
+    /// assert_eq!(map.open_batch(b"01040103\n0105010\n"), Err(Refusal::Garbled));
+    /// assert_eq!(map.depots(), 4);
+    /// # Ok::<(), Refusal>(())
+    /// ```
+    pub fn open_batch(&mut self, lines: &[u8]) -> Result<Vec<u8>, Refusal> {
+        let (mut left, mut count) = ([0; 64], 0);
+        Refusal::check(ffi::open_batch(&mut self.memory, &mut left, &mut count, lines))?;
+        Ok(left[..usize::from(count)].to_vec())
+    }
+
     /// Searches from an open depot: its distance to every depot. The map is only read, and what is found has its own memory, so that several
     /// searches and the map can be looked at together, also a stream's map, and by several threads.
     ///

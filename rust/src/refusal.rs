@@ -28,7 +28,7 @@ use std::fmt;
 pub enum Refusal {
     /// 1: a lent buffer is too small.
     Short,
-    /// 2: links are not sound; for an opening and the stream, links or figures.
+    /// 2: links are not sound; for an opening, a batch and the stream, links or figures.
     Spoilt,
     /// 3: links are sound, but no walk leads from the lowest open code to some open depot.
     Apart,
@@ -46,13 +46,17 @@ pub enum Refusal {
     Garbled,
     /// 10: no depot of a list is open.
     Nobody,
+    /// 11: a batch has more than 64 lines.
+    Overfull,
+    /// 12: a batch, and no depot is open.
+    Bare,
     /// Any other number, from an archive that is newer than this crate. Only the crate makes one, and [`Refusal::number`] gives the number.
     #[non_exhaustive]
     Other(u8),
 }
 
 /// The refusals that have a name, by their numbers, which begin at 1.
-const NAMED: [Refusal; 10] = [
+const NAMED: [Refusal; 12] = [
     Refusal::Short,
     Refusal::Spoilt,
     Refusal::Apart,
@@ -63,6 +67,8 @@ const NAMED: [Refusal; 10] = [
     Refusal::Unknown,
     Refusal::Garbled,
     Refusal::Nobody,
+    Refusal::Overfull,
+    Refusal::Bare,
 ];
 
 impl Refusal {
@@ -78,7 +84,7 @@ impl Refusal {
         NAMED.into_iter()
     }
 
-    /// The refusal's number: 1 to 10 for those that have a name.
+    /// The refusal's number: 1 to 12 for those that have a name.
     ///
     /// ```
     /// assert_eq!(zorpedi::Refusal::Garbled.number(), 9);
@@ -95,6 +101,8 @@ impl Refusal {
             Refusal::Unknown => 8,
             Refusal::Garbled => 9,
             Refusal::Nobody => 10,
+            Refusal::Overfull => 11,
+            Refusal::Bare => 12,
             Refusal::Other(number) => number,
         }
     }
@@ -128,6 +136,8 @@ impl Refusal {
             Refusal::Unknown => "unknown",
             Refusal::Garbled => "garbled",
             Refusal::Nobody => "nobody",
+            Refusal::Overfull => "overfull",
+            Refusal::Bare => "bare",
             Refusal::Other(_) => "",
         }
     }
@@ -144,6 +154,8 @@ impl Refusal {
             Refusal::Unknown => "some neighbour is not open",
             Refusal::Garbled => "a line that spells no frame, or bytes that are no frame",
             Refusal::Nobody => "no depot of a list is open",
+            Refusal::Overfull => "a batch has more than 64 lines",
+            Refusal::Bare => "a batch, and no depot is open",
             Refusal::Other(_) => "the archive is newer than the crate, which has no word for it",
         }
     }

@@ -23,7 +23,7 @@ mod ffi {
     use std::cell::Cell;
 
     thread_local! {
-        pub static VERSION: Cell<u32> = const { Cell::new(2001) };
+        pub static VERSION: Cell<u32> = const { Cell::new(2002) };
         pub static ANSWER: Cell<u8> = const { Cell::new(0) };
     }
 
@@ -70,6 +70,10 @@ mod ffi {
         ANSWER.get()
     }
 
+    pub fn open_batch(_: &mut Memory, _: &mut [u8; 64], _: &mut u8, _: &[u8]) -> u8 {
+        ANSWER.get()
+    }
+
     pub fn read_notice(_: &mut [u8], _: &mut usize, _: &mut usize, _: &[u8]) -> u8 {
         ANSWER.get()
     }
@@ -103,6 +107,7 @@ fn answers(number: u8) -> Vec<Option<Refusal>> {
     let (mut map, mut stream) = (Map::new(), Stream::new());
     vec![
         map.open(1, &[]).err(),
+        map.open_batch(b"").err(),
         map.search(1).err(),
         map.within(1, 1).err(),
         map.nearest(1, &[1]).err(),
@@ -122,13 +127,13 @@ fn numbers_without_a_name() {
         let said = answers(number);
         let is_letter = b"GKS".contains(&number);
         assert_eq!(said[0], (!is_letter).then_some(expected));
-        assert_eq!(said[1..], vec![Some(expected); 8]);
+        assert_eq!(said[1..], vec![Some(expected); 9]);
         assert_eq!(expected.number(), number);
-        assert_eq!(expected.word().is_empty(), number > 10);
+        assert_eq!(expected.word().is_empty(), number > 12);
         assert!(expected.to_string().contains(&format!("({number})")));
     }
-    assert_eq!(answers(0)[1..], vec![None; 8]);
-    assert_eq!(Refusal::of(11).to_string(), "refused (11): the archive is newer than the crate, which has no word for it");
+    assert_eq!(answers(0)[1..], vec![None; 9]);
+    assert_eq!(Refusal::of(13).to_string(), "refused (13): the archive is newer than the crate, which has no word for it");
 }
 
 #[test]
@@ -146,13 +151,14 @@ fn archives_of_other_versions() {
     let ways: [fn(); 4] =
         [|| drop(Map::new()), || drop(Stream::new()), || drop(notice::read(b"010000\n")), || drop(notice::write(&[1, 0, 0]))];
     for (version, serves) in [
-        (2001, true),
         (2002, true),
+        (2003, true),
         (2999, true),
         (0, false),
         (1000, false),
         (1999, false),
         (2000, false),
+        (2001, false),
         (3000, false),
         (3001, false),
         (u32::MAX, false),
@@ -166,5 +172,5 @@ fn archives_of_other_versions() {
     ffi::VERSION.set(3003);
     let said = catch_unwind(Map::new).expect_err("it does not serve");
     let text = said.downcast_ref::<String>().expect("a text");
-    assert_eq!(text, "libzorpedi.a has version 3.3, this crate was written for 2.1");
+    assert_eq!(text, "libzorpedi.a has version 3.3, this crate was written for 2.2");
 }

@@ -68,6 +68,9 @@ fn each_refusal() -> Result<(), Refusal> {
     assert_eq!(map.open(13, &[12, 10]), Err(Refusal::Unsorted));
     assert_eq!(map.open(13, &[12, 13]), Err(Refusal::Unknown));
     assert_eq!(map.search(13), Err(Refusal::Absent));
+    assert_eq!(map.open_batch(b"01140113\n0"), Err(Refusal::Garbled));
+    assert_eq!(map.open_batch(&[b'\n'; 65]), Err(Refusal::Overfull));
+    assert_eq!(Map::new().open_batch(b"010000\n"), Err(Refusal::Bare));
     assert_eq!(notice::read(b"x\n"), Err(Refusal::Garbled));
     assert_eq!(Stream::new().feed(b"", &mut []), Err(Refusal::Short));
     assert!(map == before);
@@ -78,6 +81,7 @@ fn each_refusal() -> Result<(), Refusal> {
     record.number += 1;
     let mut apart = Map::from_parts(record, map.links(), map.pairs());
     assert_eq!(apart.open(13, &[12]), Err(Refusal::Apart));
+    assert_eq!(apart.open_batch(b""), Err(Refusal::Apart));
     assert_eq!(apart.search(10), Err(Refusal::Apart));
     assert_eq!(apart.reckon(), Err(Refusal::Apart));
 
@@ -85,6 +89,7 @@ fn each_refusal() -> Result<(), Refusal> {
     links[4 * 10] = 0;
     let mut spoilt = Map::from_parts(map.record(), &links, map.pairs());
     assert_eq!(spoilt.open(13, &[12]), Err(Refusal::Spoilt));
+    assert_eq!(spoilt.open_batch(b""), Err(Refusal::Spoilt));
     assert_eq!(spoilt.search(10), Err(Refusal::Spoilt));
     assert_eq!(spoilt.reckon(), Err(Refusal::Spoilt));
     spoilt.empty();
@@ -96,7 +101,7 @@ fn each_refusal() -> Result<(), Refusal> {
 /// Each refusal has the number and the word of the trade, and every other number has none.
 #[test]
 fn the_refusals_that_have_a_name() {
-    let words = ["short", "spoilt", "apart", "absent", "taken", "lonely", "unsorted", "unknown", "garbled", "nobody"];
+    let words = ["short", "spoilt", "apart", "absent", "taken", "lonely", "unsorted", "unknown", "garbled", "nobody", "overfull", "bare"];
     let named: Vec<(u8, &str)> = Refusal::all().map(|refusal| (refusal.number(), refusal.word())).collect();
     assert_eq!(named, (1..).zip(words).collect::<Vec<_>>());
     for refusal in Refusal::all() {
@@ -128,6 +133,23 @@ fn figures_that_were_lost_are_reckoned() -> Result<(), Refusal> {
     assert_eq!(again.pairs(), map.pairs());
     let marked = (0..=255).filter(|&code| matches!(again.mark(code), Mark::Searched { .. })).count();
     assert_eq!(usize::from(searches), marked);
+    Ok(())
+}
+
+/// A batch in any order leaves the map of its notices one by one; what it could not open is left over.
+#[test]
+fn a_batch_in_two_orders() -> Result<(), Refusal> {
+    let start = path(0..4)?;
+    let lines: [&[u8]; 4] = [b"01050104\n", b"01040103\n", b"01040100\n", b"01070106\n"];
+    let (mut one, mut other, mut single) = (start.clone(), start.clone(), start.clone());
+    assert_eq!(one.open_batch(&lines.concat())?, [2, 3]);
+    assert_eq!(other.open_batch(&[lines[3], lines[1], lines[2], lines[0]].concat())?, [0, 2]);
+    single.open(4, &[3])?;
+    single.open(5, &[4])?;
+    assert_eq!((&one, &other), (&single, &single));
+    assert_eq!(one.mark(5), single.mark(5));
+    assert_eq!(one.open_batch(b"")?, []);
+    assert_eq!(one, single);
     Ok(())
 }
 

@@ -4,7 +4,9 @@ pub mod Lines
 pub mod Answers
 -- What the calls on depots near one leave.
 pub mod Nears
+-- What openings in a batch leave.
+pub mod BatchOuts
 -- What a step of the stream leaves.
 pub mod Steps
--- The theorem: the opening is the opening call on the record in the words.
+-- The theorems: opening and batch are the calls of the same names on the record in the words.
 pub mod Theorems

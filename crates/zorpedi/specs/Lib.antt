@@ -6,7 +6,9 @@ pub mod Lines
 pub mod Outs
 -- 3. the calls on depots near one
 pub mod Nears
--- 4. the step of the stream
+-- 4. openings in a batch
+pub mod BatchOuts
+-- 5. the step of the stream
 pub mod Feeds
--- 5. the version of the interface
+-- 6. the version of the interface
 pub mod Version

@@ -7,7 +7,7 @@ majorVersion = 2
 
 -- rises where something was added and all that was there stayed; 0 again with a new major number
 abbrev pub minorVersion : ℕ
-minorVersion = 1
+minorVersion = 2
 
 -- both as one number
 abbrev pub interfaceVersion : ℕ

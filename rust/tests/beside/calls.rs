@@ -1,5 +1,5 @@
 //! The calls on a map, by chance: lists of openings, true and false figures, damaged maps, any memory.
-use crate::both::{empty, open, reckon, search};
+use crate::both::{empty, open, open_batch, reckon, search};
 use crate::expected::{network, store_map};
 use crate::inputs::growths::some_size;
 use crate::inputs::{Dice, Growth, SHAPES};
@@ -216,13 +216,15 @@ fn short_and_long_buffers() {
                 let (code, neighbours) = some_notice(&mut dice, &network.open);
                 let opened = open(&mut m.clone(), code, &neighbours);
                 assert_eq!(opened == 1, lent < size);
+                let batched = open_batch(&mut m.clone(), b"");
+                assert_eq!(batched == 1, lent < size);
                 let reckoned = reckon(&mut m.clone());
                 assert_eq!(reckoned == 1, lent < size);
                 let searched = search(&mut m.clone(), dice.byte());
                 assert_eq!(searched == 1, lent < size && ![2, 4, 5].contains(&which));
                 let emptied = empty(&mut m);
                 assert_eq!(emptied == 1, lent < size && which < 3);
-                for answer in [opened, reckoned, searched, emptied] {
+                for answer in [opened, batched, reckoned, searched, emptied] {
                     tally.count(answer);
                 }
             }
@@ -245,6 +247,7 @@ fn several_short_buffers() {
         }
         let (code, neighbours) = some_notice(&mut dice, &network.open);
         open(&mut m.clone(), code, &neighbours);
+        open_batch(&mut m.clone(), b"");
         search(&mut m.clone(), code);
         reckon(&mut m.clone());
         empty(&mut m);

@@ -215,6 +215,30 @@ pub fn open(m: &mut Lent, code: u8) -> u8 {
     }
 }
 
+/// Scratch is as the last accepted opening leaves it, which writes all of it; where no line is accepted nothing of the map is written.
+pub fn open_batch(m: &mut Lent) -> u8 {
+    if is_map_short(m) || is_short(&m.left, 64) {
+        return 1;
+    }
+    let refusal = map_refusal(m);
+    if refusal != 0 {
+        return refusal;
+    }
+    let mut map = map(m);
+    match map.open_batch(&m.input()) {
+        Err(refusal) => refusal,
+        Ok(batch) => {
+            if let Some(work) = &batch.last {
+                store_map(m, &map);
+                store_work(m, work);
+            }
+            m.left.data[..batch.left.len()].copy_from_slice(&batch.left);
+            m.left_count = batch.left.len() as u8;
+            0
+        }
+    }
+}
+
 // ---- the lines
 
 pub fn read_notice(m: &mut Lent) -> u8 {

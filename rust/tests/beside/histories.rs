@@ -1,6 +1,8 @@
-//! Histories of openings: a network of a shape grows depot by depot, and before each opening come calls that are bent so that they are refused.
-use crate::both::{empty, open};
+//! Histories of openings: a network of a shape grows depot by depot, and before each opening come calls that are bent so that they are refused. In some
+//! the depots open in batches too, whose lines are shuffled.
+use crate::both::{empty, open, open_batch, reckon};
 use crate::expected::{network, store_figures};
+use crate::inputs::lines::notice_line;
 use crate::inputs::{Dice, Growth, Shape};
 use crate::lent::{Lent, SIZES};
 use crate::maps::any_memory;
@@ -166,6 +168,72 @@ impl History {
     }
 }
 
+impl History {
+    /// One batch, and what has to hold after it: it is refused with this number or, for 0, accepted, and true figures are true again.
+    fn batch(&mut self, lines: &[Vec<u8>], refusal: u8) {
+        self.doubt();
+        self.calls += 1;
+        let answer = open_batch(&mut self.m, &lines.concat());
+        assert_eq!(answer, refusal);
+        self.tally.count(answer);
+        if answer == 0 && self.doubt.is_none() {
+            let mut again = self.m.clone();
+            assert_eq!(reckon(&mut again), 0);
+            assert_eq!((&again.record, &again.pairs), (&self.m.record, &self.m.pairs), "the figures");
+        }
+    }
+
+    /// The lines of the next depots of a growth beside what is open or opens with them, shuffled among bent ones.
+    fn lines(&mut self, growth: &Growth, next: std::ops::Range<usize>, size: usize) -> Vec<Vec<u8>> {
+        let mut known = network(&self.m).open;
+        let closed = growth.order.get(next.end).map_or(growth.order[0], |&later| later) as u8;
+        let mut lines = Vec::new();
+        for i in next {
+            let code = growth.order[i];
+            let mut neighbours = growth.neighbours(&mut self.dice, i, size);
+            neighbours.retain(|&v| known.contains(&v.into()));
+            known.insert(code);
+            lines.push(notice_line(code, &neighbours));
+            if self.dice.once_in(2) {
+                let bent = BENDS[self.bent % BENDS.len()].of(code as u8, &neighbours, growth.order[0] as u8, closed);
+                self.bent += 1;
+                // a frame has at most 255 neighbours
+                lines.push(notice_line(bent.code.into(), &bent.neighbours[..bent.neighbours.len().min(255)]));
+            }
+        }
+        self.dice.shuffle(&mut lines);
+        lines
+    }
+
+    /// Grows a network of `size` depots, the first by an opening, as any map begins; then by openings and by batches of up to 30 depots, in turns as
+    /// the dice have them. Before a batch come others that are refused.
+    fn grow_mixed(mut self, growth: &Growth, size: usize) -> History {
+        self.batch(&[notice_line(growth.order[0], &[])], 12);
+        self.call(&Notice { code: growth.order[0] as u8, neighbours: Vec::new(), short: None });
+        let mut i = 1;
+        while i < size {
+            if self.dice.once_in(3) {
+                let open = network(&self.m).open;
+                let mut neighbours = growth.neighbours(&mut self.dice, i, size);
+                neighbours.retain(|&v| open.contains(&v.into()));
+                self.call(&Notice { code: growth.order[i] as u8, neighbours, short: None });
+                i += 1;
+                continue;
+            }
+            let end = size.min(i + 1 + self.dice.below(30));
+            let lines = self.lines(growth, i..end, size);
+            let mut garbled = lines.clone();
+            garbled.insert(self.dice.below(lines.len() + 1), b"01\n".to_vec());
+            self.batch(&garbled, 9);
+            garbled.resize(65, b"01\n".to_vec());
+            self.batch(&garbled, 11);
+            self.batch(&lines, 0);
+            i = end;
+        }
+        self
+    }
+}
+
 /// Four histories of 40 depots, with three bent calls before each opening.
 fn forty(shape: Shape) -> Tally {
     let mut tally = Tally::new();
@@ -254,6 +322,57 @@ fn all_depots_in_a_path() {
 fn all_depots_linked() {
     let record = all_depots(Shape::Whole, 0).m.record.data;
     assert_eq!(record[4..7], [256, 1, 32_640]);
+}
+
+/// Openings and batches in turns: the network of a shape grows whole, whatever the order of the lines.
+fn in_batches(shape: Shape, size: usize, letters: &[u8]) {
+    let mut tally = Tally::new();
+    for way in 0..4 {
+        let mut history = History::begun(23_000_000 + way as u64, None);
+        let growth = Growth::spread(&mut history.dice, shape, way, 29 * way + 5);
+        let history = history.grow_mixed(&growth, size);
+        assert!(history.m.record.data[4] as usize <= size);
+        tally.add(&history.tally);
+    }
+    tally.assert_all(&[0, 9, 11, 12], 4);
+    tally.assert_all(letters, 1);
+}
+
+#[test]
+fn batches_of_a_path_a_ring_or_a_trail() {
+    in_batches(Shape::Path, 90, b"GK");
+    in_batches(Shape::Ring, 90, b"GK");
+    in_batches(Shape::Trail(12), 90, b"GK");
+}
+
+#[test]
+fn batches_of_a_grid_a_tree_or_at_random() {
+    in_batches(Shape::Grid, 120, b"GK");
+    in_batches(Shape::Heap, 120, b"GK");
+    in_batches(Shape::Random(3), 120, b"GK");
+    in_batches(Shape::Loose(4), 80, b"K");
+    in_batches(Shape::Whole, 60, b"K");
+}
+
+#[test]
+fn batches_up_to_all_depots() {
+    in_batches(Shape::Random(1), 256, b"GK");
+    in_batches(Shape::Path, 256, b"GK");
+}
+
+/// Openings and batches on figures that are made false before every second call.
+#[test]
+fn batches_on_figures_made_false_between() {
+    for shape in [Shape::Path, Shape::Ring, Shape::Trail(15), Shape::Random(5)] {
+        let mut tally = Tally::new();
+        for k in 0..8 {
+            let doubt = Doubt { every: 2, chain: k, percent: 7 * k };
+            let mut history = History::begun(23_500_000 + k as u64, Some(doubt));
+            let growth = Growth::spread(&mut history.dice, shape, k, 31 * k);
+            tally.add(&history.grow_mixed(&growth, 40).tally);
+        }
+        tally.assert_all(&[0, 9, 11], 8);
+    }
 }
 
 /// Histories of 30 depots whose figures are made false before every third call.

@@ -33,13 +33,15 @@ pub struct Lent {
     pub line: Buffer<u8>,
     pub out: Buffer<u8>,
     pub codes: Buffer<u8>,
-    /// What a call is lent to read: neighbours, a list of codes, an input, a frame, a piece.
+    pub left: Buffer<u8>,
+    /// What a call is lent to read: neighbours, a list of codes, an input, a frame, a piece, the lines of a batch.
     pub input: Buffer<u8>,
     pub eccentricity: u16,
     pub searches: u16,
     pub count: u16,
     pub found: u8,
     pub distance: u16,
+    pub left_count: u8,
     pub length: usize,
     pub used: usize,
     pub written: usize,
@@ -48,7 +50,7 @@ pub struct Lent {
 }
 
 /// The named size of each buffer, in the order of `set_lent`.
-pub const SIZES: [usize; 12] = [7, 1024, 1024, 256, 256, 256, 4, 4, 258, 517, 48, 256];
+pub const SIZES: [usize; 13] = [7, 1024, 1024, 256, 256, 256, 4, 4, 258, 517, 48, 256, 64];
 
 impl Lent {
     /// Lends `size` elements of buffer `which`; there have to be that many.
@@ -65,7 +67,8 @@ impl Lent {
             8 => &mut self.frame.lent,
             9 => &mut self.line.lent,
             10 => &mut self.out.lent,
-            _ => &mut self.codes.lent,
+            11 => &mut self.codes.lent,
+            _ => &mut self.left.lent,
         };
         *place = size;
     }
@@ -95,12 +98,14 @@ impl Lent {
             .or_else(|| first("line", &self.line, &other.line))
             .or_else(|| first("out", &self.out, &other.out))
             .or_else(|| first("codes", &self.codes, &other.codes))
+            .or_else(|| first("left", &self.left, &other.left))
             .or_else(|| first("input", &self.input, &other.input))
             .or_else(|| number("eccentricity", self.eccentricity.into(), other.eccentricity.into()))
             .or_else(|| number("searches", self.searches.into(), other.searches.into()))
             .or_else(|| number("count", self.count.into(), other.count.into()))
             .or_else(|| number("found", self.found.into(), other.found.into()))
             .or_else(|| number("distance", self.distance.into(), other.distance.into()))
+            .or_else(|| number("left_count", self.left_count.into(), other.left_count.into()))
             .or_else(|| number("length", self.length as u64, other.length as u64))
             .or_else(|| number("used", self.used as u64, other.used as u64))
             .or_else(|| number("written", self.written as u64, other.written as u64))

@@ -13,6 +13,7 @@ mod raw;
 mod tally;
 mod truth;
 
+mod batches;
 mod calls;
 mod cuts;
 mod few;

@@ -73,6 +73,18 @@ pub fn open(m: &mut Lent, code: u8) -> u8 {
 }
 
 #[rustfmt::skip]
+pub fn open_batch(m: &mut Lent) -> u8 {
+    unsafe {
+        c::zorpedi_open_batch(
+            m.record.pointer(), m.record.lent, m.links.pointer(), m.links.lent, m.pairs.pointer(), m.pairs.lent,
+            m.hops.pointer(), m.hops.lent, m.bounds.pointer(), m.bounds.lent, m.skips.pointer(), m.skips.lent,
+            m.even.pointer(), m.even.lent, m.odd.pointer(), m.odd.lent, m.left.pointer(), m.left.lent, &mut m.left_count,
+            m.input.pointer(), m.input.lent,
+        )
+    }
+}
+
+#[rustfmt::skip]
 pub fn read_notice(m: &mut Lent) -> u8 {
     unsafe {
         c::zorpedi_read_notice(

@@ -1,5 +1,6 @@
 //! Buffers one element below their named size, at it and one above it, in every combination, for every call.
-use crate::both::{empty, feed, finish, nearest, open, read, reckon, report, search, within, write};
+use crate::both::{empty, feed, finish, nearest, open, open_batch, read, reckon, report, search, within, write};
+use crate::inputs::lines::notice_line;
 use crate::inputs::Dice;
 use crate::lent::{Lent, SIZES};
 use crate::maps::{any_memory, true_map};
@@ -51,7 +52,7 @@ fn of_a_search() {
     every_combination(&m, &[0, 1, 3, 6, 7], 3, |m| search(m, code));
     // nothing else is asked for
     let mut m = m;
-    for which in [2, 4, 5, 8, 9, 10, 11] {
+    for which in [2, 4, 5, 8, 9, 10, 11, 12] {
         m.set_lent(which, 0);
     }
     assert_eq!(search(&mut m, code), 0);
@@ -69,11 +70,32 @@ fn of_a_reckoning() {
     every_combination(&small_map(200).0, &MAP, 3, reckon);
 }
 
+fn closed_code(m: &Lent) -> u8 {
+    (0..=255).find(|&v| m.record.data[usize::from(v / 64)] >> (v % 64) & 1 == 0).expect("some code is closed")
+}
+
 #[test]
 fn of_an_opening() {
     let (m, code) = small_map(300);
-    let closed = (0..=255).find(|&v| m.record.data[usize::from(v / 64)] >> (v % 64) & 1 == 0).expect("some code is closed");
+    let closed = closed_code(&m);
     every_combination(&m, &MAP, 3, |m| open(m, closed, &[code]));
+}
+
+/// The places for the lines left over are asked for even where none is, and where there is no line.
+#[test]
+fn of_a_batch() {
+    let (m, code) = small_map(600);
+    let line = notice_line(closed_code(&m).into(), &[code]);
+    let mut buffers = MAP.to_vec();
+    buffers.push(12);
+    every_combination(&m, &buffers, 3, |m| open_batch(m, &line));
+    every_combination(&m, &[12], 3, |m| open_batch(m, b""));
+    // nothing else is asked for
+    let mut m = m;
+    for which in [8, 9, 10, 11] {
+        m.set_lent(which, 0);
+    }
+    assert_eq!(open_batch(&mut m, &line), 0);
 }
 
 #[test]
