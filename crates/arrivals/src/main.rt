@@ -1,9 +1,11 @@
 // The arrival orders of the customer's first sentence: two notices A and B, three scanner lines with a map each, eight orders. It prints each order
-// with the figures of its three lines (depots open, chain, pairs), and whether the three maps are equal word for word.
+// with the figures of its three lines (depots open, chain, pairs), and whether the three maps are equal word for word. The third time each line hands
+// its two notices over as one batch, so that nothing is refused.
 mod maps;
 
 use maps::Map;
 use maps::first_answer;
+use maps::hand_over;
 use maps::line;
 use plain_search::tables::same_words;
 
@@ -59,18 +61,31 @@ fn print_agreement(agree: bool) {
     }
 }
 
-// One order of the three lines, B being beside the depot `near`.
-fn try_order(first: bool, second: bool, third: bool, near: u8) {
-    let one = line(first, near);
-    let two = line(second, near);
-    let three = line(third, near);
-    print_order(first);
-    print_order(second);
-    print_order(third);
+// The figures of three lines' maps, and whether they agree.
+fn print_lines(one: Map, two: Map, three: Map) {
     print_figures(one);
     print_figures(two);
     print_figures(three);
     print_agreement(both(same(one, two), same(two, three)));
+}
+
+// One order of the three lines, B being beside the depot `near`.
+fn try_order(first: bool, second: bool, third: bool, near: u8) {
+    print_order(first);
+    print_order(second);
+    print_order(third);
+    print_lines(line(first, near), line(second, near), line(third, near));
+}
+
+// The same with batches.
+fn try_batches(first: bool, second: bool, third: bool) {
+    let one = hand_over(first);
+    let two = hand_over(second);
+    let three = hand_over(third);
+    print_order(first);
+    print_order(second);
+    print_order(third);
+    print_lines(one.map, two.map, three.map);
 }
 
 // The eight orders.
@@ -83,6 +98,28 @@ fn all_orders(near: u8) {
     try_order(false, true, false, near);
     try_order(false, false, true, near);
     try_order(false, false, false, near);
+}
+
+fn all_batches() {
+    try_batches(true, true, true);
+    try_batches(true, true, false);
+    try_batches(true, false, true);
+    try_batches(true, false, false);
+    try_batches(false, true, true);
+    try_batches(false, true, false);
+    try_batches(false, false, true);
+    try_batches(false, false, false);
+}
+
+// What a batch is answered in either order: its refusal, 0 for none, and how many lines are left over.
+fn print_batch(a_first: bool) {
+    let got = hand_over(a_first);
+    print_order(a_first);
+    io::write_all(1, b"as a batch is refused with: ");
+    io::print_decimal(1, got.refusal as u64);
+    io::write_all(1, b" (0: accepted), left over: ");
+    io::print_decimal(1, got.left as u64);
+    io::write_all(1, b"\n");
 }
 
 // What B is answered where it comes first, 0 for an opening that is accepted.
@@ -99,4 +136,11 @@ fn main() {
     io::write_all(1, b"A opens 3 beside 2, B opens 4 beside 3\n");
     print_first(3);
     all_orders(3);
+    io::write_all(
+        1,
+        b"A opens 3 beside 2, B opens 4 beside 3, handed over together\n",
+    );
+    print_batch(true);
+    print_batch(false);
+    all_batches();
 }

@@ -1,4 +1,5 @@
 // A line's map, and the notices that it takes.
+use batch_update::BatchAnswer;
 use map::Record;
 use outcome::Outcome;
 
@@ -92,4 +93,58 @@ pub fn line(a_first: bool, near: u8) -> Map {
 pub fn first_answer(near: u8) -> u8 {
     let got = take(begin(), false, near);
     got.refusal
+}
+
+// What a batch leaves: the map, the number of the refusal, 0 for none, and how many lines were left over.
+pub struct Handed {
+    pub map: Map,
+    pub refusal: u8,
+    pub left: u8,
+}
+
+// Lines handed over as one batch, with scratch of its own.
+fn open_batch(m: Map, lines: &[u8]) -> Handed {
+    let mut links = m.links;
+    let mut pairs = m.pairs;
+    let mut hops = [0u16; map::PLACES];
+    let mut bounds = [0u16; map::PLACES];
+    let mut skips = [0u16; map::PLACES];
+    let mut even = [0u64; map::WORDS];
+    let mut odd = [0u64; map::WORDS];
+    let mut left = [0u8; batch::LIMIT];
+    let got = batch_opening::open_batch(
+        m.rec,
+        &mut links,
+        &mut pairs,
+        &mut hops,
+        &mut bounds,
+        &mut skips,
+        &mut even,
+        &mut odd,
+        &mut left,
+        lines,
+    );
+    let rec = got.after;
+    let map = Map { links, pairs, rec };
+    let answer = got.answer;
+    match answer {
+        BatchAnswer::Opened(n) => Handed {
+            map: map,
+            refusal: 0,
+            left: n,
+        },
+        BatchAnswer::Refused(k) => Handed {
+            map: map,
+            refusal: k,
+            left: 0,
+        },
+    }
+}
+
+// A and B in one order, handed over as one batch; B opens beside A's depot.
+pub fn hand_over(a_first: bool) -> Handed {
+    if a_first {
+        return open_batch(begin(), b"01030102\n01040103\n");
+    }
+    open_batch(begin(), b"01040103\n01030102\n")
 }
