@@ -11,7 +11,7 @@ use borrow.Author.Tests.{ne-eqb}
 use Rattle.lists.proofs.Tests.{t→true, true→t, or-right}
 use Rattle.graph.specs.Network.{Network, Walk, stay, step, IsDist}
 use Rattle.graph.specs.Opening.{addDepot}
-use Rattle.graph.proofs.Walks.{cast, append}
+use Rattle.graph.proofs.Walks.{cast, append, dist-unique, dist-self}
 
 -- G' has the links of G, and further links at a alone: an opening of a (below), and a later link of a to another open depot.
 pub record IsGrownAt (G G' : Network) (a : ℕ) : Type 0 where
@@ -53,6 +53,29 @@ module _ (G G' : Network) (a : ℕ) (grown : IsGrownAt G G' a) where
           let n : y ≤ w .1 = r .least (w .1) (w .4) in
           let e : w .0 + w .1 ≡ k = w .2 in
           omega arith
+
+  -- the same from a itself: it holds wherever the walk starts
+  pub insertion-anywhere : {u v d x y : ℕ} → IsDist G u v d → IsDist G' u a x → IsDist G' a v y → IsDist G' u v (min d (x + y))
+  insertion-anywhere {u} {v} {d} {x} {y} p q r = go (ℕ-discrete u a)
+    where
+      go : Dec (u ≡ a) → IsDist G' u v (min d (x + y))
+      go (yes e) =
+          let z : x ≡ 0 = dist-unique q (subst (λ (w : ℕ). IsDist G' u w 0) e dist-self) in
+          let s : IsDist G' u v y = subst (λ (w : ℕ). IsDist G' w v y) (sym e) r in
+          let l : y ≤ d = s .least d (walk-old (p .walk)) in
+          let m : y ≡ min d (x + y) = omega arith in
+          subst (λ (k : ℕ). IsDist G' u v k) m s
+      go (no n) = insertion n p q r
+
+-- with further links that are both at a alone and at b alone, the ways through both are as good: d'(u,v) is the least of all three
+module _ (G G' : Network) (a b : ℕ) (at-a : IsGrownAt G G' a) (at-b : IsGrownAt G G' b) where
+  pub insertion-both : {u v d x y z w : ℕ} → IsDist G u v d → IsDist G' u a x → IsDist G' a v y → IsDist G' u b z → IsDist G' b v w
+      → IsDist G' u v (min d (min (x + y) (z + w)))
+  insertion-both {u} {v} {d} {x} {y} {z} {w} p q r s t =
+      let one = insertion-anywhere G G' a at-a p q r in
+      let e : min d (x + y) ≡ min d (z + w) = dist-unique one (insertion-anywhere G G' b at-b p s t) in
+      let m : min d (x + y) ≡ min d (min (x + y) (z + w)) = omega arith in
+      subst (λ (k : ℕ). IsDist G' u v k) m one
 
 -- opening a depot
 pub opened-grown : (key : ℕ → ℕ) (G : Network) (a : ℕ) (beside : ℕ → Bool) → IsGrownAt G (addDepot key G a beside) a

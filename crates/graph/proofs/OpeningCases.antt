@@ -1,20 +1,19 @@
 -- AN OPENING IS RIGHT, over metric spaces: if the stored figures are right, and the new distances are the old ones or the ways through a, then chain, pairs and letter are right after it. Assumes nothing.
 use mathlib.Core.Path.{_≡_, refl, sym, ap, _∙_, subst}
 use mathlib.Core.Logic.{_⊎_, inl, inr}
-use mathlib.Core.Bool.{Bool, true, false, cond, not, _||_}
+use mathlib.Core.Bool.{Bool, true, false, not, _||_}
 use mathlib.Core.List.{List·Memᴰ}
-use Prim.Native.Nat.{ℕ, _+_, _≤_, _<_, min, zero-le}
-use native.Mathlib.Nat.{le-antisymm, le-refl, le-trans, le-of-lt, lt-irrefl}
-use native.Mathlib.Decide.{decLe, decLt}
+use Prim.Native.Nat.{ℕ, _+_, _≤_, _<_, min}
+use native.Mathlib.Nat.{le-refl, le-trans, le-of-lt, lt-irrefl}
 use native.Mathlib.Omega.{arith}
 use lib.Dec.{eqb, ltb}
 use lib.ListN.{length}
 use lib.Arith.{lt-of-le-ne}
 use borrow.Author.Tests.{ltb-true, ltb-false, lt-ltb, le-ltb, eqb-true, eqb-false, not-true}
-use Rattle.lists.specs.Lists.{anyb, maxOf, memb}
+use Rattle.lists.specs.Lists.{anyb, memb}
 use Rattle.lists.proofs.Tests.{clash, and-true, and-intro, or-true, or-left, or-right}
 use Rattle.lists.proofs.Members.{any-intro, any-elim}
-use Rattle.lists.proofs.Counts.{max-le-of, count-le-length}
+use Rattle.lists.proofs.Counts.{count-le-length}
 use Rattle.graph.specs.Chart.{Chart, ecc, greatestEcc, Pairs, ownPairs}
 use Rattle.graph.specs.Rounds.{isWaiting, State, round, rounds, start}
 use Rattle.graph.specs.Opening.{Opened, via, stayingPairs, anyPair, shrunkCandidate, searchedOnce, openCase, opening}
@@ -22,7 +21,8 @@ use Rattle.graph.specs.Correct.{Moved}
 use Rattle.graph.proofs.Metric.{IsMetric, ecc-ge, ecc-at}
 use Rattle.graph.proofs.Round.{Invariant, own-is, own-left, own-right, round-keeps}
 use Rattle.graph.proofs.Rounds.{waitingCount, rounds-right, start-fine}
-use Rattle.graph.proofs.Right.{IsFar, IsRight, greatest-ge, greatest-small, greatest-pair, settled}
+use Rattle.graph.proofs.Right.{IsFar, IsRight, greatest-ge, greatest-small, greatest-pair, right-below, settled}
+use Rattle.graph.proofs.Candidates.{candidate-le}
 
 -- C is C₀ with the destination a
 pub record IsInserted (C₀ C : Chart) (a : ℕ) : Type 0 where
@@ -31,14 +31,6 @@ pub record IsInserted (C₀ C : Chart) (a : ℕ) : Type 0 where
   pub old : (v : ℕ) → C₀ .isDestination v ≡ true → C .isDestination v ≡ true
   pub back : (v : ℕ) → C .isDestination v ≡ true → (v ≡ a) ⊎ (C₀ .isDestination v ≡ true)
   pub through : (u v : ℕ) → C₀ .isDestination u ≡ true → C₀ .isDestination v ≡ true → C .distance u v ≡ min (C₀ .distance u v) (C .distance a u + C .distance a v)
-
-trichotomy : (u v : ℕ) → (u ≡ v) ⊎ ((u < v) ⊎ (v < u))
-trichotomy u v = go (decLe u v) (decLe v u)
-  where
-    go : Dec (u ≤ v) → Dec (v ≤ u) → (u ≡ v) ⊎ ((u < v) ⊎ (v < u))
-    go (yes p) (yes q) = inl (le-antisymm p q)
-    go (yes p) (no q) = inr (inl (omega arith))
-    go (no p) q = inr (inr (omega arith))
 
 start-free : (c r : ℕ) → memb r (start c .references) ≡ false
 unfolding start memb anyb
@@ -214,18 +206,14 @@ module _ (C₀ C : Chart) (metric : IsMetric C) (a D : ℕ) (P : Pairs) (was : I
       }
 
   -- the candidate after a shrink is a distance
-  shrunkCandidate-le : shrunkCandidate (C .depots) (via C a) D P ≤ (greatestEcc C)
-  unfolding shrunkCandidate
-  shrunkCandidate-le =
-      max-le-of (λ u. maxOf (λ v. cond (P u v) (min D (via C a u v)) 0) (C .depots)) (C .depots) (greatestEcc C)
-      (λ u mu. max-le-of (λ v. cond (P u v) (min D (via C a u v)) 0) (C .depots) (greatestEcc C) (λ v mv. go u v (P u v) refl))
+  shrunkCandidate-le : shrunkCandidate (C .depots) (via C a) D P ≤ greatestEcc C
+  shrunkCandidate-le = candidate-le (C .depots) (via C a) D P (greatestEcc C) at
     where
-      go : (u v : ℕ) (b : Bool) → P u v ≡ b → cond b (min D (via C a u v)) 0 ≤ (greatestEcc C)
-      go u v false h = zero-le
-      go u v true h =
+      at : (u v : ℕ) → P u v ≡ true → min D (via C a u v) ≤ greatestEcc C
+      at u v h =
           let p = was .isFar u v h in
           let s : C .distance u v ≡ min D (via C a u v) = stored u v h in
-          let k : C .distance u v ≤ (greatestEcc C) = greatest-pair C metric u v (ins .old u (p .first)) (ins .old v (p .second)) in
+          let k : C .distance u v ≤ greatestEcc C = greatest-pair C metric u v (ins .old u (p .first)) (ins .old v (p .second)) in
           omega arith
 
   pub shrunk : State
@@ -240,27 +228,6 @@ module _ (C₀ C : Chart) (metric : IsMetric C) (a D : ℕ) (P : Pairs) (was : I
       rounds-right C metric (greatestEcc C) (greatest-ge C metric) (greatest-small C metric) (length (C .depots)) (round C a S) J
       (count-le-length (λ v. isWaiting (round C a S .status v)) (C .depots))
 
-  -- the chain is below D if no pair is left
-  smaller : (c : ℕ) (Q : Pairs) → IsRight C c Q → e < D → ((u v : ℕ) → IsFar C D u v → ⊥) → c < D
-  smaller c Q r l no-far = go (decLt c D) (r .attained)
-    where
-      pair : (u v : ℕ) → C .isDestination u ≡ true → C .isDestination v ≡ true → C .distance u v ≡ D → (u ≡ v) ⊎ ((u < v) ⊎ (v < u)) → ⊥
-      pair u v tu tv f (inl q) =
-          let z : C .distance u u ≡ 0 = metric .self u (metric .inside u tu) in
-          let k : C .distance u v ≡ C .distance u u = ap (C .distance u) (sym q) in
-          lt-irrefl 0 (omega arith)
-      pair u v tu tv f (inr (inl b)) = no-far u v record { before = b; first = tu; second = tv; far = f }
-      pair u v tu tv f (inr (inr b)) =
-          no-far v u record { before = b; first = tv; second = tu; far = metric .symmetric v u (metric .inside v tv) (metric .inside u tu) ∙ f }
-
-      go : Dec (c < D) → (c ≡ 0) ⊎ ((u v : ℕ) × (C .isDestination u ≡ true) × (C .isDestination v ≡ true) × (C .distance u v ≡ c)) → c < D
-      go (yes p) t = p
-      go (no p) (inl z) = omega arith
-      go (no p) (inr x) =
-          let f : C .distance (x .0) (x .1) ≡ c = x .4 in
-          let k : C .distance (x .0) (x .1) ≤ D = upper-by D (le-refl D) (le-of-lt l) (x .0) (x .1) (x .2) (x .3) in
-          absurd (pair (x .0) (x .1) (x .2) (x .3) (omega arith) (trichotomy (x .0) (x .1)))
-
   no-left : e < D → anyPair (C .depots) (stayingPairs (via C a) D P) ≡ false → (u v : ℕ) → IsFar C D u v → ⊥
   unfolding anyPair
   no-left l h u v p =
@@ -273,7 +240,10 @@ module _ (C₀ C : Chart) (metric : IsMetric C) (a D : ℕ) (P : Pairs) (was : I
   unfolding openCase shrunk
   case-shrank l h =
       let r = settled C metric shrunk (shrunk-settled .0) (shrunk-settled .1) in
-      record { right = r; letter = smaller (shrunk .candidate) (shrunk .pairs) r l (no-left l h) }
+      record {
+        right = r;
+        letter = right-below C metric (shrunk .candidate) D (shrunk .pairs) r (omega arith) (upper-by D (le-refl D) (le-of-lt l)) (no-left l h);
+      }
 
   -- THE OPENING IS RIGHT
   pub opening-right : IsRightAfter C D (opening C a D P)

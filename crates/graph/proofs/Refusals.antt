@@ -1,4 +1,4 @@
--- A NOTICE IS REFUSED by the first condition of rule 8.1 that holds. Assumes nothing.
+-- A NOTICE, AND A LINK, IS REFUSED by the first condition of rule 8.1 that holds. Assumes nothing.
 use mathlib.Core.Path.{_≡_, refl, sym, ap, _∙_}
 use mathlib.Core.Logic.{_↔_}
 use mathlib.Core.Bool.{Bool, true, false, not, _&&_}
@@ -6,19 +6,20 @@ use mathlib.Core.List.{List, [], _∷_, List·Memᴰ·head}
 use Prim.Native.Nat.{ℕ, zero, suc, _≤_, _<_}
 use native.Mathlib.Nat.{lt-irrefl}
 use native.Mathlib.Omega.{arith}
-use lib.Dec.{T, ltb}
+use lib.Dec.{T, eqb, ltb}
 use lib.ListN.{length, getD}
-use borrow.Author.Tests.{ltb-true, lt-ltb, ltb-false}
+use borrow.Author.Tests.{ltb-true, lt-ltb, ltb-false, eqb-true, eq-eqb}
 use Rattle.lists.specs.Lists.{memb, firstOf}
 use Rattle.lists.specs.Conditions.{FirstHolds}
 use Rattle.lists.proofs.Tests.{clash, t→true, true→t}
 use Rattle.lists.proofs.Members.{in-memb}
 use Rattle.lists.proofs.Distinct.{memb-nil}
-use Rattle.lists.proofs.Conditions.{Decides, decides-test, decides-and, decides-fails, Tells, tells-first}
+use Rattle.lists.proofs.Conditions.{Decides, decides-iff, decides-test, decides-nand, decides-and, decides-fails, Tells, tells-first}
 use Rattle.graph.specs.Network.{Network, IsSound}
 use Rattle.graph.specs.Distance.{vertices}
 use Rattle.graph.specs.Opening.{Notice, strictlyRising, isEmpty, noticeFaults, openFaults}
-use Rattle.graph.specs.Refusals.{IsUnsorted, noticeConditions, ownConditions}
+use Rattle.graph.specs.Linking.{linkFaults}
+use Rattle.graph.specs.Refusals.{IsUnsorted, IsItself, noticeConditions, linkConditions, ownConditions}
 use Rattle.graph.specs.Updates.{Update, opens, updateFaults}
 
 -- 6: no neighbours, and some depot
@@ -77,3 +78,19 @@ notice-refusals G sound o k = tells-first (openFaults G o) (noticeConditions G o
 pub update-tells : (G : Network) → AreListed G → (o : Update) → Tells (updateFaults G o) (ownConditions G o)
 unfolding updateFaults
 update-tells G listed (opens o) = notice-tells G listed o
+
+-- ---- a link
+
+decides-itself : (a b : ℕ) → Decides (eqb a b) (IsItself a b)
+decides-itself a b = decides-iff (eqb-true a b, eq-eqb a b)
+
+pub link-tells : (G : Network) (a b : ℕ) → Tells (linkFaults G a b) (linkConditions G a b)
+unfolding linkFaults
+link-tells G a b = (
+  refl,
+  decides-nand (G .isOpen a) (G .isOpen b) (decides-test (G .isOpen a)) (decides-test (G .isOpen b)),
+  λ f4. (refl, decides-itself a b, λ f13. (refl, decides-test (G .linked a b), λ f14. tt)),
+)
+
+pub link-refusals : (G : Network) (a b k : ℕ) → (firstOf (linkFaults G a b) ≡ k) ↔ FirstHolds (linkConditions G a b) k
+link-refusals G a b k = tells-first (linkFaults G a b) (linkConditions G a b) (link-tells G a b) k

@@ -1,5 +1,5 @@
 -- Right figures of a chart: the greatest distance between destinations, and the pairs at it. The whole reckoning leaves them. Assumes nothing.
-use mathlib.Core.Path.{_≡_, sym, _∙_, subst}
+use mathlib.Core.Path.{_≡_, sym, ap, _∙_, subst}
 use mathlib.Core.Logic.{_⊎_, inl, inr}
 use mathlib.Core.Bool.{true}
 use mathlib.Core.List.{List·Memᴰ}
@@ -83,6 +83,29 @@ module _ (C : Chart) (metric : IsMetric C) where
       go : (c ≡ 0) ⊎ ((u v : ℕ) × (C .isDestination u ≡ true) × (C .isDestination v ≡ true) × (C .distance u v ≡ c)) → c ≤ greatestEcc C
       go (inl z) = omega arith
       go (inr x) = subst (λ (n : ℕ). n ≤ greatestEcc C) (x .4) (greatest-pair (x .0) (x .1) (x .2) (x .3))
+
+  -- right figures lie below D, if no distance is above D and no pair is at D
+  pub right-below : (c D : ℕ) (P : Pairs) → IsRight C c P → 0 < D
+      → ((u v : ℕ) → C .isDestination u ≡ true → C .isDestination v ≡ true → C .distance u v ≤ D) → ((u v : ℕ) → IsFar C D u v → ⊥) → c < D
+  right-below c D P R positive most none-far = go (decLt c D) (R .attained)
+    where
+      apart : (u v : ℕ) → C .isDestination u ≡ true → C .isDestination v ≡ true → C .distance u v ≡ D → Dec (u < v) → Dec (v < u) → ⊥
+      apart u v tu tv f (yes b) o = none-far u v record { before = b; first = tu; second = tv; far = f }
+      apart u v tu tv f (no n) (yes b) =
+          none-far v u record { before = b; first = tv; second = tu; far = metric .symmetric v u (metric .inside v tv) (metric .inside u tu) ∙ f }
+      apart u v tu tv f (no n) (no o) =
+          let e : v ≡ u = le-antisymm (omega arith) (omega arith) in
+          let z : C .distance u u ≡ 0 = metric .self u (metric .inside u tu) in
+          let k : C .distance u v ≡ C .distance u u = ap (C .distance u) e in
+          lt-irrefl 0 (omega arith)
+
+      go : Dec (c < D) → (c ≡ 0) ⊎ ((u v : ℕ) × (C .isDestination u ≡ true) × (C .isDestination v ≡ true) × (C .distance u v ≡ c)) → c < D
+      go (yes p) t = p
+      go (no p) (inl z) = omega arith
+      go (no p) (inr x) =
+          let f : C .distance (x .0) (x .1) ≡ c = x .4 in
+          let k : C .distance (x .0) (x .1) ≤ D = most (x .0) (x .1) (x .2) (x .3) in
+          absurd (apart (x .0) (x .1) (x .2) (x .3) (omega arith) (decLt (x .0) (x .1)) (decLt (x .1) (x .0)))
 
   -- what the rounds leave is right
   pub settled : (S : State) → Invariant C metric (greatestEcc C) S → waitingCount C metric S ≡ 0 → IsRight C (S .candidate) (S .pairs)

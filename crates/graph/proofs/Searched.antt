@@ -1,24 +1,29 @@
--- References, marks and cover after a reckoning and after an opening, over metric spaces, whatever figures were stored. Assumes nothing.
+-- References, marks and cover after a reckoning, an opening and a link, over metric spaces, whatever figures were stored. Assumes nothing.
 use mathlib.Core.Path.{_≡_, refl, sym, ap, _∙_}
+use mathlib.Core.Logic.{_⊎_, inl, inr}
 use mathlib.Core.Bool.{Bool, true, false, cond, _||_}
 use mathlib.Core.List.{List, [], _∷_, List·Memᴰ, Memᴰ·cast}
-use Prim.Native.Nat.{ℕ, _+_, _≤_, _<_, min, zero-le}
-use native.Mathlib.Nat.{le-refl, le-of-lt, lt-irrefl}
+use Prim.Native.Nat.{ℕ, _+_, _≤_, _<_, zero-le}
+use native.Mathlib.Nat.{le-refl, le-trans, le-of-lt, lt-irrefl}
 use native.Mathlib.Omega.{arith}
 use lib.Dec.{eqb, ltb}
 use lib.ListN.{length}
-use borrow.Author.Tests.{eqb-true}
-use Rattle.lists.specs.Lists.{anyb, maxOf, memb}
-use Rattle.lists.proofs.Counts.{max-le-of, count-le-length}
+use borrow.Author.Tests.{eqb-true, ne-eqb}
+use Rattle.lists.specs.Lists.{anyb, memb}
+use Rattle.lists.proofs.Tests.{or-true, or-left, or-right}
+use Rattle.lists.proofs.Counts.{count-le-length}
 use Rattle.lists.proofs.Distinct.{IsCounted, counted-nil, counted-snoc}
 use Rattle.graph.specs.Distance.{unreached}
 use Rattle.graph.specs.Chart.{Chart, ecc, Pairs, ownPairs}
 use Rattle.graph.specs.Rounds.{Status, waiting, skipped, searched, isWaiting, State, round, rounds, start, reckon}
 use Rattle.graph.specs.Opening.{via, stayingPairs, anyPair, shrunkCandidate, searchedOnce, openCase, opening}
+use Rattle.graph.specs.Linking.{viaEither, pairsLeft, searchedTwice, firstTwo, linkCase, linking}
 use Rattle.outcome.specs.declared.Change.the-variants.{Shrank}
 use Rattle.graph.proofs.Metric.{IsMetric, ecc-small}
 use Rattle.graph.proofs.Round.{Fine, Invariant, round-keeps}
 use Rattle.graph.proofs.Rounds.{waitingCount, rounds-right, final-cover, start-fine}
+use Rattle.graph.proofs.Candidates.{candidate-le-chain}
+use Rattle.graph.proofs.FirstTwo.{two-settled}
 
 -- where a depot stands, against the references
 abbrev pub StandsIn : Chart → List ℕ → ℕ → Status → Type 0
@@ -90,14 +95,7 @@ module _ (C : Chart) (metric : IsMetric C) where
     in-a = metric .inside a new
 
     candidate-small : shrunkCandidate (C .depots) (via C a) D P ≤ unreached
-    unfolding shrunkCandidate
-    candidate-small =
-        max-le-of (λ u. maxOf (λ v. cond (P u v) (min D (via C a u v)) 0) (C .depots)) (C .depots) unreached
-        (λ u mu. max-le-of (λ v. cond (P u v) (min D (via C a u v)) 0) (C .depots) unreached (λ v mv. go u v (P u v)))
-      where
-        go : (u v : ℕ) (b : Bool) → cond b (min D (via C a u v)) 0 ≤ unreached
-        go u v false = zero-le
-        go u v true = omega (arith, small)
+    candidate-small = le-trans (candidate-le-chain (C .depots) (via C a) D P) small
 
     shrunk : State
     shrunk = rounds C (length (C .depots)) (round C a (start (shrunkCandidate (C .depots) (via C a) D P)))
@@ -149,3 +147,62 @@ module _ (C : Chart) (metric : IsMetric C) where
 
     pub opening-cover : opening C a D P .change ≡ Shrank → CoveredIn C (opening C a D P .final)
     opening-cover q = let s = opening-settled q in settled-cover (opening C a D P .final) (s .0) (s .1)
+
+  -- ---- a link
+
+  module _ (a b : ℕ) (ma : List·Memᴰ a (C .depots)) (mb : List·Memᴰ b (C .depots)) (apart : a ≡ b → ⊥) (D : ℕ) (small : D ≤ unreached) (P : Pairs) where
+    shrunk-linked : State
+    shrunk-linked = rounds C (length (C .depots)) (firstTwo C a b (shrunkCandidate (C .depots) (viaEither C a b) D P))
+
+    linked-settled : Invariant C metric unreached shrunk-linked × (waitingCount C metric shrunk-linked ≡ 0)
+    unfolding shrunk-linked
+    linked-settled =
+        two-settled C metric unreached most (le-refl unreached) a b ma mb apart (shrunkCandidate (C .depots) (viaEither C a b) D P)
+        (le-trans (candidate-le-chain (C .depots) (viaEither C a b) D P) small)
+
+    two-references : (v : ℕ) → memb v (a ∷ b ∷ []) ≡ (eqb v a || eqb v b)
+    unfolding memb anyb
+    two-references v = ap (λ (t : Bool). eqb v a || t) (one-reference b v)
+
+    twice-references : (c : ℕ) (Q : Pairs) → ReferencesIn C (searchedTwice C a b c Q)
+    unfolding searchedTwice
+    twice-references c Q = record {
+      inside = λ v h. in-either v (or-true (eqb v a) (eqb v b) (sym (two-references v) ∙ h));
+      stands = λ v m. go v (eqb v a) (eqb v b) refl refl;
+      counted = counted-snoc (a ∷ []) b (counted-snoc [] a counted-nil (no-reference a)) (one-reference a b ∙ ne-eqb b a (λ e. apart (sym e)));
+    }
+      where
+        in-either : (v : ℕ) → (eqb v a ≡ true) ⊎ (eqb v b ≡ true) → List·Memᴰ v (C .depots)
+        in-either v (inl h) = Memᴰ·cast (eqb-true v a h) ma
+        in-either v (inr h) = Memᴰ·cast (eqb-true v b h) mb
+
+        go : (v : ℕ) (s t : Bool) → eqb v a ≡ s → eqb v b ≡ t
+            → StandsIn C (a ∷ b ∷ []) v (cond s (searched (ecc C a)) (cond t (searched (ecc C b)) (waiting unreached 0)))
+        go v true t h k = (two-references v ∙ or-left (eqb v b) h, ap (ecc C) (sym (eqb-true v a h)))
+        go v false true h k = (two-references v ∙ or-right (eqb v a) k, ap (ecc C) (sym (eqb-true v b k)))
+        go v false false h k = two-references v ∙ rw (h, k)
+
+    pub linking-references : ReferencesIn C (linking C a b D P .final)
+    unfolding linking linkCase shrunk-linked
+    linking-references = go (anyPair (C .depots) (pairsLeft C a b D P) || eqb D 0)
+      where
+        go : (k : Bool) → ReferencesIn C (linkCase k C a b D P .final)
+        go true = twice-references D (pairsLeft C a b D P)
+        go false = settled-references shrunk-linked (linked-settled .0)
+
+    -- after a shrink the rounds have ended
+    pub linking-settled : linking C a b D P .change ≡ Shrank
+        → Invariant C metric unreached (linking C a b D P .final) × (waitingCount C metric (linking C a b D P .final) ≡ 0)
+    unfolding linking linkCase shrunk-linked
+    linking-settled = go (anyPair (C .depots) (pairsLeft C a b D P) || eqb D 0)
+      where
+        never : {A : Type 0} → _≡_ {A = ℕ} 0 1 → A
+        never z = absurd (lt-irrefl 0 (omega arith))
+
+        go : (k : Bool) → linkCase k C a b D P .change ≡ Shrank
+            → Invariant C metric unreached (linkCase k C a b D P .final) × (waitingCount C metric (linkCase k C a b D P .final) ≡ 0)
+        go true q = never (cc)
+        go false q = linked-settled
+
+    pub linking-cover : linking C a b D P .change ≡ Shrank → CoveredIn C (linking C a b D P .final)
+    linking-cover q = let s = linking-settled q in settled-cover (linking C a b D P .final) (s .0) (s .1)

@@ -1,4 +1,4 @@
--- WHAT A RECKONING AND AN OPENING SAY OF EACH DEPOT: the skipped, by the published words; and which search is the first, and the only one.
+-- WHAT A RECKONING, AN OPENING AND A LINK SAY OF EACH DEPOT: the skipped, by the published words; and which searches are the first, and the only ones.
 -- Assumes nothing.
 use mathlib.Core.Path.{_≡_, refl, sym, _∙_}
 use mathlib.Core.Bool.{Bool, true, false, not, _||_}
@@ -17,8 +17,9 @@ use Rattle.graph.specs.Distance.{vertices, unreached}
 use Rattle.graph.specs.Chart.{Chart, chart, ecc, Pairs, ownPairs}
 use Rattle.graph.specs.Rounds.{Status, waiting, skipped, searched, isWaiting, State, round, pick, remaining, orStop, rounds, start, reckon}
 use Rattle.graph.specs.Opening.{Notice, byCode, withDepot, openFaults, stayingPairs, anyPair, shrunkCandidate, searchedOnce, openCase, opening, via}
+use Rattle.graph.specs.Linking.{viaEither, pairsLeft, searchedTwice, unskippedRound, firstTwo, linkCase, linking}
 use Rattle.outcome.specs.declared.Change.the-variants.{Shrank}
-use Rattle.graph.specs.Correct.{IsNet, IsSkipped, AllSkipped, IsOneSearch, IsSettled}
+use Rattle.graph.specs.Correct.{IsNet, IsSkipped, AllSkipped, IsOneSearch, AreTwoSearches, IsSettled}
 use Rattle.graph.proofs.Round.{Fine, Invariant}
 use Rattle.graph.proofs.Rounds.{waitingCount}
 use Rattle.graph.proofs.Charts.{depot-in, depot-out, chart-dist, chart-metric, chart-ecc}
@@ -28,7 +29,7 @@ use Rattle.graph.proofs.Searched.{reckon-settled, opening-settled}
 -- ---- rounds that have ended
 
 module _ (G : Network) (net : IsNet G) where
-  settled-skipped : (S : State) → Invariant (chart G) (chart-metric G net) unreached S → waitingCount (chart G) (chart-metric G net) S ≡ 0 → AllSkipped G S
+  pub settled-skipped : (S : State) → Invariant (chart G) (chart-metric G net) unreached S → waitingCount (chart G) (chart-metric G net) S ≡ 0 → AllSkipped G S
   unfolding waitingCount
   settled-skipped S I z v o n =
       let m = depot-in G net v o in
@@ -98,6 +99,29 @@ module _ (C : Chart) where
         go false true k n = once D (λ u v. stayingPairs (via C a) D P u v || ownPairs C a D u v)
         go false false true n = once D (stayingPairs (via C a) D P)
         go false false false n = absurd (n refl)
+
+  -- ---- a link
+
+  module _ (a b D : ℕ) (P : Pairs) where
+    pub linking-first : (rs : List ℕ) × (linking C a b D P .final .references ≡ a ∷ b ∷ rs)
+    unfolding linking linkCase searchedTwice firstTwo round unskippedRound start
+    linking-first = go (anyPair (C .depots) (pairsLeft C a b D P) || eqb D 0)
+      where
+        go : (k : Bool) → (rs : List ℕ) × (linkCase k C a b D P .final .references ≡ a ∷ b ∷ rs)
+        go true = ([], refl)
+        go false = rounds-after (length (C .depots)) (firstTwo C a b (shrunkCandidate (C .depots) (viaEither C a b) D P))
+
+    twice : (c : ℕ) (Q : Pairs) → AreTwoSearches a b (searchedTwice C a b c Q)
+    unfolding searchedTwice
+    twice c Q = record { only = refl; others = λ v n m. rw (ne-eqb v a n, ne-eqb v b m) tt }
+
+    pub linking-twice : (linking C a b D P .change ≡ Shrank → ⊥) → AreTwoSearches a b (linking C a b D P .final)
+    unfolding linking linkCase
+    linking-twice = go (anyPair (C .depots) (pairsLeft C a b D P) || eqb D 0)
+      where
+        go : (k : Bool) → (linkCase k C a b D P .change ≡ Shrank → ⊥) → AreTwoSearches a b (linkCase k C a b D P .final)
+        go true n = twice D (pairsLeft C a b D P)
+        go false n = absurd (n refl)
 
 module _ (G : Network) (net : IsNet G) (o : Notice) (room : suc (length (vertices G)) < unreached) (ok : firstOf (openFaults G o) ≡ 0)
     (D : ℕ) (small : D ≤ unreached) (P : Pairs) where

@@ -1,26 +1,27 @@
--- SOUND FIGURES STAY SOUND: whatever chain below a limit and pairs of destinations u < v were stored, true or false, an opening leaves such.
--- Assumes nothing.
+-- SOUND FIGURES STAY SOUND: whatever chain below a limit and pairs of destinations u < v were stored, true or false, an opening
+-- or a link leaves such. Assumes nothing.
 use mathlib.Core.Path.{_≡_, refl}
 use mathlib.Core.Logic.{_⊎_, inl, inr}
 use mathlib.Core.Bool.{Bool, true, false, cond, not, _&&_, _||_}
 use mathlib.Core.Option.{Option, none, some}
-use Prim.Native.Nat.{ℕ, zero, suc, _<_, _≤_, max, min, zero-le}
+use Prim.Native.Nat.{ℕ, zero, suc, _<_, max}
+use native.Mathlib.Nat.{lt-of-le-of-lt}
 use native.Mathlib.Omega.{arith}
 use lib.Dec.{T, eqb, ltb}
 use lib.ListN.{length}
-use Rattle.lists.specs.Lists.{maxOf}
 use Rattle.lists.proofs.Tests.{clash, true→t, and-true, or-true}
-use Rattle.lists.proofs.Counts.{max-le-of}
 use Rattle.graph.specs.Network.{Network, IsDist, delivers}
 use Rattle.graph.specs.Distance.{vertices}
 use Rattle.graph.specs.Chart.{Chart, chart, ecc, Pairs, ownPairs}
 use Rattle.graph.specs.Rounds.{State, raise, joinPairs, round, pick, remaining, orStop, rounds, start}
 use Rattle.graph.specs.Opening.{via, stayingPairs, anyPair, shrunkCandidate, searchedOnce, openCase, opening}
+use Rattle.graph.specs.Linking.{viaEither, pairsLeft, searchedTwice, unskippedRound, firstTwo, linkCase, linking}
 use Rattle.graph.specs.Correct.{IsNet}
 use Rattle.graph.proofs.Delivers.{delivers-open}
 use Rattle.graph.proofs.Walks.{dist-self}
 use Rattle.graph.proofs.Metric.{IsMetric}
 use Rattle.graph.proofs.Round.{own-is}
+use Rattle.graph.proofs.Candidates.{candidate-le-chain}
 use Rattle.graph.proofs.Theorems.{distance-below, eccentricity-is}
 
 -- every pair joins two destinations u < v
@@ -45,9 +46,9 @@ module _ (C : Chart) (metric : IsMetric C) where
       go (inl x) = p u v x
       go (inr x) = q u v x
 
-  staying-rising : (a D : ℕ) (P : Pairs) → JoinRising C P → JoinRising C (stayingPairs (via C a) D P)
+  staying-rising : (way : ℕ → ℕ → ℕ) (D : ℕ) (P : Pairs) → JoinRising C P → JoinRising C (stayingPairs way D P)
   unfolding stayingPairs
-  staying-rising a D P p u v h = p u v (and-true (P u v) (not (ltb (via C a u v) D)) h .0)
+  staying-rising way D P p u v h = p u v (and-true (P u v) (not (ltb (way u v) D)) h .0)
 
   joined-rising : (r e c : ℕ) (P : Pairs) → JoinRising C P → JoinRising C (joinPairs C r e c P)
   unfolding joinPairs
@@ -86,25 +87,18 @@ module _ (C : Chart) (metric : IsMetric C) where
         go none ih = s
         go (some r) ih = ih r
 
+    -- the start of a shrink, whatever the ways
+    shrunk-sound : (way : ℕ → ℕ → ℕ) (D : ℕ) (P : Pairs) → SoundIn C limit D P
+        → SoundIn C limit (start (shrunkCandidate (C .depots) way D P) .candidate) (start (shrunkCandidate (C .depots) way D P) .pairs)
+    unfolding start
+    shrunk-sound way D P were = record {
+      below = lt-of-le-of-lt (candidate-le-chain (C .depots) way D P) (were .below);
+      pairs = λ u v h. absurd (clash h refl);
+    }
+
     -- ---- AN OPENING
 
     module _ (a : ℕ) (new : C .isDestination a ≡ true) (D : ℕ) (P : Pairs) (were : SoundIn C limit D P) where
-      shrunk-below : shrunkCandidate (C .depots) (via C a) D P < limit
-      unfolding shrunkCandidate
-      shrunk-below =
-          let l : maxOf (λ u. maxOf (λ v. cond (P u v) (min D (via C a u v)) 0) (C .depots)) (C .depots) ≤ D =
-          max-le-of (λ u. maxOf (λ v. cond (P u v) (min D (via C a u v)) 0) (C .depots)) (C .depots) D
-          (λ u mu. max-le-of (λ v. cond (P u v) (min D (via C a u v)) 0) (C .depots) D (λ v mv. go u v (P u v))) in
-          omega (arith, were .below)
-        where
-          go : (u v : ℕ) (b : Bool) → cond b (min D (via C a u v)) 0 ≤ D
-          go u v false = zero-le
-          go u v true = omega arith
-
-      start-sound : SoundIn C limit (start (shrunkCandidate (C .depots) (via C a) D P) .candidate) (start (shrunkCandidate (C .depots) (via C a) D P) .pairs)
-      unfolding start
-      start-sound = record { below = shrunk-below; pairs = λ u v h. absurd (clash h refl) }
-
       pub opening-sound : SoundIn C limit (opening C a D P .final .candidate) (opening C a D P .final .pairs)
       unfolding opening openCase searchedOnce
       opening-sound = go (ltb D (ecc C a)) (eqb (ecc C a) D) (anyPair (C .depots) (stayingPairs (via C a) D P))
@@ -113,12 +107,35 @@ module _ (C : Chart) (metric : IsMetric C) where
           go true s k = record { below = most a new; pairs = own-rising a (ecc C a) }
           go false true k = record {
             below = were .below;
-            pairs = or-rising (stayingPairs (via C a) D P) (ownPairs C a D) (staying-rising a D P (were .pairs)) (own-rising a D);
+            pairs = or-rising (stayingPairs (via C a) D P) (ownPairs C a D) (staying-rising (via C a) D P (were .pairs)) (own-rising a D);
           }
-          go false false true = record { below = were .below; pairs = staying-rising a D P (were .pairs) }
+          go false false true = record { below = were .below; pairs = staying-rising (via C a) D P (were .pairs) }
           go false false false =
               let S = start (shrunkCandidate (C .depots) (via C a) D P) in
-              rounds-sound (length (C .depots)) (round C a S) (round-sound a S start-sound)
+              rounds-sound (length (C .depots)) (round C a S) (round-sound a S (shrunk-sound (via C a) D P were))
+
+    -- ---- A LINK
+
+    unskipped-sound : (r : ℕ) (S : State) → SoundIn C limit (S .candidate) (S .pairs)
+        → SoundIn C limit (unskippedRound C r S .candidate) (unskippedRound C r S .pairs)
+    unfolding unskippedRound round
+    unskipped-sound r S s = round-sound r S s
+
+    module _ (a b D : ℕ) (P : Pairs) (were : SoundIn C limit D P) where
+      two-sound : SoundIn C limit (firstTwo C a b (shrunkCandidate (C .depots) (viaEither C a b) D P) .candidate)
+          (firstTwo C a b (shrunkCandidate (C .depots) (viaEither C a b) D P) .pairs)
+      unfolding firstTwo
+      two-sound =
+          let S = start (shrunkCandidate (C .depots) (viaEither C a b) D P) in
+          round-sound b (unskippedRound C a S) (unskipped-sound a S (shrunk-sound (viaEither C a b) D P were))
+
+      pub ends-sound : SoundIn C limit (linking C a b D P .final .candidate) (linking C a b D P .final .pairs)
+      unfolding linking linkCase searchedTwice
+      ends-sound = go (anyPair (C .depots) (pairsLeft C a b D P) || eqb D 0)
+        where
+          go : (k : Bool) → SoundIn C limit (linkCase k C a b D P .final .candidate) (linkCase k C a b D P .final .pairs)
+          go true = record { below = were .below; pairs = staying-rising (viaEither C a b) D P (were .pairs) }
+          go false = rounds-sound (length (C .depots)) (firstTwo C a b (shrunkCandidate (C .depots) (viaEither C a b) D P)) two-sound
 
 -- an eccentricity is below the number of depots
 pub ecc-below : (G : Network) → IsNet G → (v : ℕ) → chart G .isDestination v ≡ true → ecc (chart G) v < length (vertices G)

@@ -57,6 +57,15 @@ module _ (G : Network) (net : IsNet G) where
       (λ h. t→true (farthest G u v) (farthest-is u v .1 (were .pairs u v .0 (true→t h))))
       (λ h. t→true (P u v) (were .pairs u v .1 (farthest-is u v .0 (true→t h))))))
 
+  pub true-right : (D : ℕ) (P : Pairs) → AreTrue G (delivers G) D P → IsRight (chart G) D P
+  true-right D P were =
+      subst (λ (c : ℕ). IsRight (chart G) c P) (sym (true-chain D P were))
+      (subst (λ (Q : Pairs). IsRight (chart G) (diameter G) Q) (sym (true-pairs D P were)) (farthest-right G net))
+
+  pub true-small : (D : ℕ) (P : Pairs) → AreTrue G (delivers G) D P → D ≤ unreached
+  unfolding diameter
+  true-small D P were = subst (λ (c : ℕ). c ≤ unreached) (sym (true-chain D P were)) (greatest-small (chart G) (chart-metric G net))
+
   -- a search from r bounds every eccentricity: e(v) ≤ e(r) + d(r,v)
   pub eccentricity-bound : (r v e f d : ℕ) → T (G .isOpen r) → T (G .isOpen v) → IsEcc G (delivers G) v e → IsEcc G (delivers G) r f → IsDist G r v d → e ≤ f + d
   eccentricity-bound r v e f d or ov p q w =
@@ -69,7 +78,7 @@ module _ (G : Network) (net : IsNet G) where
 -- ---- from charts to the published words
 
 module _ (G : Network) (net : IsNet G) where
-  references-of : (S : State) → ReferencesIn (chart G) S → AreReferences G S
+  pub references-of : (S : State) → ReferencesIn (chart G) S → AreReferences G S
   references-of S R = record {
     inside = λ v h. depot-out G net (R .inside v (t→true (memb v (S .references)) h));
     distinct = counted;
@@ -88,7 +97,7 @@ module _ (G : Network) (net : IsNet G) where
           (true→t (ap not (f .0)), true→t (f .1), (ecc (chart G) g, chart G .distance g v, chart-ecc G net g og, chart-dist G net g v og ov, f .2))
       go v ov (searched e) f = (true→t (f .0), subst (λ (n : ℕ). IsEcc G (delivers G) v n) (sym (f .1)) (chart-ecc G net v ov))
 
-  cover-of : (S : State) → ReferencesIn (chart G) S → CoveredIn (chart G) S → AllCovered G S
+  pub cover-of : (S : State) → ReferencesIn (chart G) S → CoveredIn (chart G) S → AllCovered G S
   cover-of S R cover v ov n =
       let x = cover v (depot-in G net v ov) (not-true (memb v (S .references)) (t→true (not (memb v (S .references))) n)) in
       let og = depot-out G net (R .inside (x .0) (x .1)) in
@@ -156,23 +165,14 @@ module _ (G : Network) (net : IsNet G) (o : Notice) (room : suc (length (vertice
       }
 
   module _ (were : AreTrue G (delivers G) D P) where
-    stored-right : IsRight (chart G) D P
-    stored-right =
-        subst (λ (c : ℕ). IsRight (chart G) c P) (sym (true-chain G net D P were))
-        (subst (λ (Q : Pairs). IsRight (chart G) (diameter G) Q) (sym (true-pairs G net D P were)) (farthest-right G net))
-
-    small-chain : D ≤ unreached
-    unfolding diameter
-    small-chain = subst (λ (c : ℕ). c ≤ unreached) (sym (true-chain G net D P were)) (greatest-small (chart G) (chart-metric G net))
-
     pub opening-correct : IsOpened H D (opening (chart H) a D P)
     opening-correct =
-        let r = opening-right (chart G) (chart H) (chart-metric H net-after) a D P stored-right inserted-a in
+        let r = opening-right (chart G) (chart H) (chart-metric H net-after) a D P (true-right G net D P were) inserted-a in
         record {
           figures = record {
             chain = right-diameter H net-after (opening (chart H) a D P .final .candidate) (opening (chart H) a D P .final .pairs) (r .right);
             pairs = right-farthest H net-after (opening (chart H) a D P .final .candidate) (opening (chart H) a D P .final .pairs) (r .right);
           };
           change = r .letter;
-          searched = opening-covered small-chain;
+          searched = opening-covered (true-small G net D P were);
         }

@@ -37,11 +37,12 @@ module _ (G : Network) (limit D : ℕ) (P : Pairs) where
   }
 
 -- the same pairs on a network that has all the destinations
-sound-more : (G H : Network) → ((v : ℕ) → chart G .isDestination v ≡ true → chart H .isDestination v ≡ true) → (limit D : ℕ) (P : Pairs) → SoundIn (chart G) limit D P → SoundIn (chart H) limit D P
+pub sound-more : (G H : Network) → ((v : ℕ) → chart G .isDestination v ≡ true → chart H .isDestination v ≡ true)
+    → (limit D : ℕ) (P : Pairs) → SoundIn (chart G) limit D P → SoundIn (chart H) limit D P
 sound-more G H more limit D P s = record { below = s .below; pairs = λ u v h. let r = s .pairs u v h in (r .0, more u (r .1), more v (r .2)) }
 
 -- eccentricities are below what the number of depots is at most
-below-limit : (H : Network) → IsNet H → (limit : ℕ) → length (vertices H) ≤ limit → (v : ℕ) → chart H .isDestination v ≡ true → ecc (chart H) v < limit
+pub below-limit : (H : Network) → IsNet H → (limit : ℕ) → length (vertices H) ≤ limit → (v : ℕ) → chart H .isDestination v ≡ true → ecc (chart H) v < limit
 below-limit H net limit l v t = lt-of-lt-of-le (ecc-below H net v t) l
 
 -- ---- an opening

@@ -1,6 +1,6 @@
 -- WHAT IS PROVED of the steps above, by the published words of Network.antt. The theorems stand in proofs/Theorems.antt:
--- `reckoning-correct`, `opening-correct` (on true stored figures), `opening-covered` and `opening-says` (on any stored figures). Updates.antt joins
--- what every kind of update owes.
+-- `reckoning-correct`, `opening-correct` (on true stored figures), `opening-covered` and `opening-says` (on any stored figures); those of links in
+-- proofs/LinkTheorems.antt. Updates.antt joins what every kind of update owes.
 -- Assumes nothing.
 use mathlib.Core.Path.{_≡_}
 use mathlib.Core.Bool.{not}
@@ -71,6 +71,11 @@ pub record IsOneSearch (a : ℕ) (S : State) : Type 0 where
   pub only : S .references ≡ a ∷ []
   pub others : (v : ℕ) → (v ≡ a → ⊥) → T (isWaiting (S .status v))
 
+-- the searches from lo and hi alone: no other depot has a bound
+pub record AreTwoSearches (lo hi : ℕ) (S : State) : Type 0 where
+  pub only : S .references ≡ lo ∷ hi ∷ []
+  pub others : (v : ℕ) → (v ≡ lo → ⊥) → (v ≡ hi → ⊥) → T (isWaiting (S .status v))
+
 -- a whole reckoning
 pub record IsReckoned (G : Network) (S : State) : Type 0 where
   pub figures : AreTrue G (delivers G) (S .candidate) (S .pairs)
@@ -92,6 +97,12 @@ pub record IsSearched (H : Network) (o : Opened) : Type 0 where
 pub record IsSettled (H : Network) (a : ℕ) (o : Opened) : Type 0 where
   pub first : (rs : List ℕ) × (o .final .references ≡ a ∷ rs)
   pub once : (o .change ≡ Shrank → ⊥) → IsOneSearch a (o .final)
+  pub skipped : o .change ≡ Shrank → AllSkipped H (o .final)
+
+-- what a link of lo and hi says of each depot, likewise: the searches from both are the first, in this order, and the only ones unless it shrank
+pub record IsLinkSettled (H : Network) (lo hi : ℕ) (o : Opened) : Type 0 where
+  pub first : (rs : List ℕ) × (o .final .references ≡ lo ∷ hi ∷ rs)
+  pub twice : (o .change ≡ Shrank → ⊥) → AreTwoSearches lo hi (o .final)
   pub skipped : o .change ≡ Shrank → AllSkipped H (o .final)
 
 -- an update of a map whose chain D was true

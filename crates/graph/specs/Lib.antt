@@ -9,19 +9,23 @@ pub mod Chart
 pub mod Rounds
 -- 5. the opening of a depot
 pub mod Opening
--- 6. what is proved of 2 to 5, by the words of 1. Calls on lent memory cite `IsCovered` and `IsSkipped`; nobody has to believe the others
+-- 6. a link added later; no call makes one yet. Nobody has to believe this file
+pub mod Linking
+-- 7. what is proved of 2 to 6, by the words of 1. Calls on lent memory cite `IsCovered` and `IsSkipped`; nobody has to believe the others
 pub mod Correct
--- 7. what a call asks of the network, and what each kind of update owes
+-- 8. what a call asks of the network, and what each kind of update owes
 pub mod Updates
--- 8. openings handed over together
+-- 9. openings handed over together
 pub mod Batch
--- 9. the refusals that speak of the network alone, by the words of 1
+-- 10. the refusals that speak of the network alone, by the words of 1
 pub mod Refusals
--- 10. depots near one: within so many links, and the nearest of a list
+-- 11. depots near one: within so many links, and the nearest of a list
 pub mod Nearby
--- 11. the worked cases of the rules, computed; crate `cases` cites their inputs (`path`, `sevenLines`) and `AnswerLine`
+-- 12. the worked cases of the rules, computed; crate `cases` cites their inputs (`path`, `sevenLines`) and `AnswerLine`
 pub mod Cases
--- 12. further cases, one for each rule that those leave open. Nobody has to believe this file
+-- 13. further cases, one for each rule that those leave open. Nobody has to believe this file
 pub mod RuleCases
--- 13. batches worked by hand. Nobody has to believe this file
+-- 14. links worked by hand. Nobody has to believe this file
+pub mod LinkCases
+-- 15. batches worked by hand. Nobody has to believe this file
 pub mod BatchCases

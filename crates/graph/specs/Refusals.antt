@@ -1,12 +1,14 @@
--- THE CONDITIONS OF RULE 8.1 that speak of the network and a notice, 3 to 8, in the published words.
--- `notice-refusals` (proofs/Refusals) says that `openFaults` gives the first of 5 to 8 that holds, and 0 exactly if none does.
+-- THE CONDITIONS OF RULE 8.1 that speak of the network and a notice, 3 to 8, in the published words; and those of a link, 4, 13 and 14.
+-- `notice-refusals` (proofs/Refusals) says that `openFaults` gives the first of 5 to 8 that holds, and 0 exactly if none does; `link-refusals` says it of
+-- `linkFaults`.
 -- Assumes nothing.
 use mathlib.Core.Path.{_≡_}
+use mathlib.Core.Logic.{_⊎_}
 use mathlib.Core.List.{List, [], _∷_, List·Memᴰ}
 use Prim.Native.Nat.{ℕ, suc, _≤_, _<_}
 use lib.Dec.{T}
 use lib.ListN.{length, getD}
-use Rattle.outcome.specs.Numbers.{takenCode, lonelyDepot, unsortedNeighbours, unknownNeighbour}
+use Rattle.outcome.specs.Numbers.{absentCode, takenCode, lonelyDepot, unsortedNeighbours, unknownNeighbour, itselfLinked, linkedAlready}
 use Rattle.graph.specs.Network.{Network, Walk}
 use Rattle.graph.specs.Opening.{Notice}
 use Rattle.graph.specs.Updates.{Update, opens}
@@ -47,6 +49,22 @@ noticeConditions G o =
     ∷ (IsLonely G (o .neighbours), lonelyDepot)
     ∷ (IsUnsorted (o .neighbours), unsortedNeighbours)
     ∷ (IsUnknown G (o .neighbours), unknownNeighbour)
+    ∷ []
+
+-- 13, itself: the two ends of a link are one
+abbrev pub IsItself : ℕ → ℕ → Type 0
+IsItself a b = a ≡ b
+
+-- 14, linked: the two ends are linked
+abbrev pub AreLinked : Network → ℕ → ℕ → Type 0
+AreLinked G a b = T (G .linked a b)
+
+-- the table for a link: 4 is for either end
+abbrev pub linkConditions : Network → ℕ → ℕ → List (Type 0 × ℕ)
+linkConditions G a b =
+    (IsAbsent G a ⊎ IsAbsent G b, absentCode)
+    ∷ (IsItself a b, itselfLinked)
+    ∷ (AreLinked G a b, linkedAlready)
     ∷ []
 
 -- the table for an update

@@ -49,3 +49,11 @@ overfullBatch = 11
 -- bare: no depot is open
 abbrev pub bareMap : ℕ
 bareMap = 12
+
+-- itself: a link's two ends are one depot
+abbrev pub itselfLinked : ℕ
+itselfLinked = 13
+
+-- linked: a link's two ends are linked already
+abbrev pub linkedAlready : ℕ
+linkedAlready = 14

@@ -28,6 +28,10 @@ pub const OVERFULL: u8 = 11;
 
 pub const BARE: u8 = 12;
 
+pub const ITSELF: u8 = 13;
+
+pub const LINKED: u8 = 14;
+
 // ---- the answer
 
 // How the longest chain changed with an accepted opening.
