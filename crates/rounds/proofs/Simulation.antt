@@ -2,29 +2,30 @@
 use mathlib.Core.Path.{_≡_, refl, sym, ap, ap₂, _∙_, subst}
 use mathlib.Core.Logic.{_⊎_, inl, inr}
 use mathlib.Core.Bool.{Bool, true, false, cond, _&&_}
-use mathlib.Core.List.{List, [], _∷_, List·Memᴰ}
+use mathlib.Core.List.{List, [], _∷_, _++_, List·Memᴰ}
 use mathlib.Core.Option.{Option, none, some}
 use Prim.Native.Nat.{ℕ, zero, suc, _+_, _*_, _≤_, _<_, min, max}
 use native.Mathlib.Nat.{le-of-lt, le-refl}
 use native.Mathlib.Omega.{arith}
 use lib.Dec.{T, eqb, ltb}
-use lib.ListN.{getD, length-append}
+use lib.ListN.{length, getD, length-append}
 use borrow.Author.Tests.{ltb-true, ltb-false}
-use Rattle.lists.specs.Lists.{range, filterb, memb, overwrite}
+use Rattle.lists.specs.Lists.{range, filterb, memb}
 use Rattle.lists.proofs.Tests.{look, t→true, true→t, clash}
 use Rattle.lists.proofs.Members.{filter-ext, filter-out, range-out}
 use Rattle.lists.proofs.Counts.{count-filter}
 use Rattle.lists.proofs.Fills.{fill-at}
 use Rattle.graph.specs.Network.{Network}
 use Rattle.graph.specs.Distance.{unreached, dist}
-use Rattle.graph.specs.Chart.{Chart, chart, ecc, Pairs, countPairs}
+use Rattle.graph.specs.Chart.{Chart, chart, ecc, Pairs}
 use Rattle.graph.specs.Rounds.{Status, waiting, skipped, searched, isWaiting, State, offer, raise, joinPairs, round, better, pick, remaining, orStop, rounds}
+use Rattle.graph.specs.Linking.{unskippedRound}
 use Rattle.graph.specs.Correct.{IsNet}
 use Rattle.graph.proofs.Metric.{IsMetric, ecc-small}
 use Rattle.graph.proofs.Round.{Fine, Invariant, round-keeps}
 use Rattle.graph.proofs.Rounds.{pick-in}
 use Rattle.graph.proofs.Charts.{chart-metric, depot-out}
-use Rattle.rows.specs.Rows.{rowBit, tableBit, encodeTable}
+use Rattle.rows.specs.Rows.{rowBit, tableBit}
 use Rattle.rows.proofs.Written.{row-at}
 use Rattle.layers.specs.Layers.{searchLeaves, searchTable}
 use Rattle.map.specs.Memory.{tableNetwork}
@@ -33,8 +34,10 @@ use Rattle.layers.proofs.Theorems.{table-depth, table-leaves, depth-is}
 use Rattle.map.specs.Memory.{networkOf}
 use Rattle.map.proofs.Theorems.{network-open-below}
 use Rattle.pairs.specs.Pairs.{Tally, tallyOf, settleOf}
+use Rattle.bounds.specs.Bounds.{leaveOf, relaxOf}
 use Rattle.ranks.specs.Ranks.{pickIn}
-use Rattle.rounds.specs.Workspace.{Workspace, lastRow, absorbOf, roundOf, orEnd, runOf, absorbing}
+use Rattle.rounds.specs.Leaves.{searchAfter}
+use Rattle.rounds.specs.Workspace.{Workspace, workspace, lastRow, absorbed, absorbing, holding, absorbOf, roundOf, orEnd, runOf}
 use Rattle.rounds.proofs.Holding.{Origin, Holds, waitingPlace, after-over, after-snoc}
 use Rattle.rounds.proofs.Pairing.{settle-is}
 use Rattle.rounds.proofs.Marking.{IsLow, bounds-after, skips-after, waiting-after}
@@ -111,6 +114,21 @@ module _ (W mark other : ℕ) (most : W < 513) (members links : List ℕ) (net :
       go v ov true = le-of-lt (ecc-small (chart G) metric r m)
       go v ov false = low-offer (raise (chart G) r (ecc (chart G) r) (S .candidate)) r (ecc (chart G) r + dist G r v) (S .status v) (R .low v ov)
 
+  -- ---- a round in which nobody is skipped
+
+  unskipped-status : (r : ℕ) (S : State) (v : ℕ)
+      → unskippedRound (chart G) r S .status v ≡ cond (eqb v r) (searched (ecc (chart G) r)) (offer 0 r (ecc (chart G) r + dist G r v) (S .status v))
+  unfolding unskippedRound chart
+  unskipped-status r S v = refl
+
+  pub running-unskipped : (S : State) (r : ℕ) → Running S → List·Memᴰ r (chart G .depots) → Invariant (chart G) metric unreached (unskippedRound (chart G) r S)
+      → Running (unskippedRound (chart G) r S)
+  running-unskipped S r R m I = record { inv = I; low = λ v ov. subst IsLow (sym (unskipped-status r S v)) (go v ov (eqb v r)) }
+    where
+      go : (v : ℕ) → G .isOpen v ≡ true → (b : Bool) → IsLow (cond b (searched (ecc (chart G) r)) (offer 0 r (ecc (chart G) r + dist G r v) (S .status v)))
+      go v ov true = le-of-lt (ecc-small (chart G) metric r m)
+      go v ov false = low-offer 0 r (ecc (chart G) r + dist G r v) (S .status v) (R .low v ov)
+
   -- ---- one round
 
   module _ (O : Origin) (S : State) (M : Workspace) (H : Holds W mark other G O S M) (R : Running S) (r : ℕ) (m : List·Memᴰ r (chart G .depots)) (fresh : memb r (S .references) ≡ false) where
@@ -135,43 +153,64 @@ module _ (W mark other : ℕ) (most : W < 513) (members links : List ℕ) (net :
         go (inl q) = let l : S .candidate < ecc (chart G) r = ltb-true (S .candidate) (ecc (chart G) r) q in rw q (omega arith)
         go (inr q) = let l : ecc (chart G) r ≤ S .candidate = ltb-false (S .candidate) (ecc (chart G) r) q in rw q (omega arith)
 
-    hop : (v : ℕ) → v < 64 * W → getD (searchLeaves W G r (O .searched) .hops) v 0 ≡ dist G r v
-    unfolding searchLeaves
-    hop v l = fill-at (dist G r) (O .searched .hops) (64 * W) v 0 l
+    -- a finished search from r, in tables that were written over T₁: bounds are held against `limit`, and S′ is what the network makes of it
+    module _ (T₁ : Tables) (limit : ℕ) (small : limit ≤ unreached) (S′ : State)
+        (candidate′ : S′ .candidate ≡ raise (chart G) r (ecc (chart G) r) (S .candidate))
+        (pairs′ : S′ .pairs ≡ joinPairs (chart G) r (ecc (chart G) r) (S .candidate) (S .pairs))
+        (status′ : (v : ℕ) → S′ .status v ≡ cond (eqb v r) (searched (ecc (chart G) r)) (offer limit r (ecc (chart G) r + dist G r v) (S .status v)))
+        (references′ : S′ .references ≡ S .references ++ (r ∷ [])) where
+      hop : (v : ℕ) → v < 64 * W → getD (searchLeaves W G r T₁ .hops) v 0 ≡ dist G r v
+      unfolding searchLeaves
+      hop v l = fill-at (dist G r) (T₁ .hops) (64 * W) v 0 l
+
+      tally-is : settleOf W (lastRow (ecc (chart G) r) (searchLeaves W G r T₁)) r (ecc (chart G) r) (M .candidate) (M .paired) ≡ tallyOf W (S′ .pairs) (O .pairs)
+      tally-is =
+          ap (λ (n : ℕ). settleOf W (lastRow (ecc (chart G) r) (searchLeaves W G r T₁)) r (ecc (chart G) r) n (M .paired)) (H .candidate-is)
+          ∙ settle-is W G net r open-r T₁ (S .candidate) (S .pairs) (M .paired .pairs) (O .pairs) (M .paired .count) (H .pairs-are) (H .count-is)
+          ∙ ap (λ (P : Pairs). tallyOf W P (O .pairs)) (sym pairs′)
+
+      pub taken-in : Holds W mark other G O S′
+          (workspace (settleOf W (lastRow (ecc (chart G) r) (searchLeaves W G r T₁)) r (ecc (chart G) r) (M .candidate) (M .paired))
+          (searchLeaves W G r (O .searched))
+          (relaxOf W (searchLeaves W G r T₁ .hops) r (ecc (chart G) r) limit (leaveOf W r (ecc (chart G) r) mark (M .marked)))
+          (cond (ltb (M .candidate) (ecc (chart G) r)) (ecc (chart G) r) (M .candidate))
+          (M .searches + 1))
+      unfolding c′ tallyOf
+      taken-in = record {
+        tables-are = after-snoc W G (S .references) r (O .searched) ∙ ap (λ (l : List ℕ). searchAfter W G l (O .searched)) (sym references′);
+        pairs-are = ap (λ (t : Tally). t .pairs) tally-is;
+        count-is = ap (λ (t : Tally). t .count) tally-is;
+        bounds-are = bounds-after W mark other G S S′ r (ecc (chart G) r) limit below-r (t→true (G .isOpen r) open-r) status′ (R .low) small (O .bounds) (O .skips) (O .waiting) (searchLeaves W G r T₁ .hops) hop (M .marked) (H .bounds-are) (H .skips-are) (H .waiting-is);
+        skips-are = skips-after W mark other G S S′ r (ecc (chart G) r) limit below-r (t→true (G .isOpen r) open-r) status′ (R .low) small (O .bounds) (O .skips) (O .waiting) (searchLeaves W G r T₁ .hops) hop (M .marked) (H .bounds-are) (H .skips-are) (H .waiting-is);
+        waiting-is = waiting-after W mark other G S S′ r (ecc (chart G) r) limit below-r (t→true (G .isOpen r) open-r) status′ (R .low) small (O .bounds) (O .skips) (O .waiting) (searchLeaves W G r T₁ .hops) hop (M .marked) (H .bounds-are) (H .skips-are) (H .waiting-is);
+        candidate-is = raised ∙ sym candidate′;
+        searches-are = ap (λ (n : ℕ). n + 1) (H .searches-are) ∙ sym (length-append (S .references) (r ∷ [])) ∙ ap length (sym references′);
+      }
 
     low-c : c′ ≤ unreached
     unfolding round
     low-c = subst (λ (n : ℕ). n ≤ unreached) (sym raised) (running-round S r R m fresh .inv .bounded)
 
+    -- with skipping it is the network's round
+    pub absorb-over : (T₁ : Tables) →
+        let A = absorbing W mark r (ecc (chart G) r) (searchLeaves W G r T₁) (absorbed (M .paired) (M .marked) (M .candidate)) in
+        Holds W mark other G O (round (chart G) r S) (workspace (A .paired) (searchLeaves W G r (O .searched)) (A .marked) (A .candidate) (M .searches + 1))
+    unfolding absorbing round c′
+    absorb-over T₁ =
+        taken-in T₁ c′ low-c (round (chart G) r S) refl refl
+        (λ v. status-is r S v ∙ ap (λ (n : ℕ). cond (eqb v r) (searched (ecc (chart G) r)) (offer n r (ecc (chart G) r + dist G r v) (S .status v))) (sym raised))
+        refl
+
     pub absorb : Holds W mark other G O (round (chart G) r S) (absorbOf W mark r (ecc (chart G) r) (searchLeaves W G r (O .searched)) M)
-    unfolding absorbOf absorbing round c′ tallyOf
-    absorb = record {
-      tables-are = after-snoc W G (S .references) r (O .searched);
-      pairs-are = ap (λ (t : Tally). t .pairs) tally-is ∙ pairs-of;
-      count-is = ap (λ (t : Tally). t .count) tally-is ∙ count-of;
-      bounds-are = bounds-after W mark other G S (round (chart G) r S) r (ecc (chart G) r) c′ below-r (t→true (G .isOpen r) open-r) st (R .low) low-c (O .bounds) (O .skips) (O .waiting) (searchLeaves W G r (O .searched) .hops) hop (M .marked) (H .bounds-are) (H .skips-are) (H .waiting-is);
-      skips-are = skips-after W mark other G S (round (chart G) r S) r (ecc (chart G) r) c′ below-r (t→true (G .isOpen r) open-r) st (R .low) low-c (O .bounds) (O .skips) (O .waiting) (searchLeaves W G r (O .searched) .hops) hop (M .marked) (H .bounds-are) (H .skips-are) (H .waiting-is);
-      waiting-is = waiting-after W mark other G S (round (chart G) r S) r (ecc (chart G) r) c′ below-r (t→true (G .isOpen r) open-r) st (R .low) low-c (O .bounds) (O .skips) (O .waiting) (searchLeaves W G r (O .searched) .hops) hop (M .marked) (H .bounds-are) (H .skips-are) (H .waiting-is);
-      candidate-is = raised;
-      searches-are = ap (λ (n : ℕ). n + 1) (H .searches-are) ∙ sym (length-append (S .references) (r ∷ []));
-    }
-      where
-        st : (v : ℕ) → round (chart G) r S .status v ≡ cond (eqb v r) (searched (ecc (chart G) r)) (offer c′ r (ecc (chart G) r + dist G r v) (S .status v))
-        st v = status-is r S v ∙ ap (λ (n : ℕ). cond (eqb v r) (searched (ecc (chart G) r)) (offer n r (ecc (chart G) r + dist G r v) (S .status v))) (sym raised)
+    unfolding absorbOf
+    absorb = absorb-over (O .searched)
 
-        P′ : Pairs
-        P′ = joinPairs (chart G) r (ecc (chart G) r) (S .candidate) (S .pairs)
-
-        tally-is : settleOf W (lastRow (ecc (chart G) r) (searchLeaves W G r (O .searched))) r (ecc (chart G) r) (M .candidate) (M .paired) ≡ tallyOf W P′ (O .pairs)
-        tally-is =
-            ap (λ (n : ℕ). settleOf W (lastRow (ecc (chart G) r) (searchLeaves W G r (O .searched))) r (ecc (chart G) r) n (M .paired)) (H .candidate-is)
-            ∙ settle-is W G net r open-r (O .searched) (S .candidate) (S .pairs) (M .paired .pairs) (O .pairs) (M .paired .count) (H .pairs-are) (H .count-is)
-
-        pairs-of : tallyOf W P′ (O .pairs) .pairs ≡ overwrite (encodeTable W P′) (O .pairs)
-        pairs-of = refl
-
-        count-of : tallyOf W P′ (O .pairs) .count ≡ countPairs (range (64 * W)) P′
-        count-of = refl
+    -- without skipping it is the network's round in which nobody is skipped
+    pub hold : (T₁ : Tables) →
+        let A = holding W mark r (ecc (chart G) r) (searchLeaves W G r T₁) (absorbed (M .paired) (M .marked) (M .candidate)) in
+        Holds W mark other G O (unskippedRound (chart G) r S) (workspace (A .paired) (searchLeaves W G r (O .searched)) (A .marked) (A .candidate) (M .searches + 1))
+    unfolding holding unskippedRound
+    hold T₁ = taken-in T₁ 0 (omega arith) (unskippedRound (chart G) r S) refl refl (unskipped-status r S) refl
 
     round-is : roundOf W links mark r M ≡ absorbOf W mark r (ecc (chart G) r) (searchLeaves W G r (O .searched)) M
     unfolding roundOf searchTable

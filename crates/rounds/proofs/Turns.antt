@@ -27,7 +27,7 @@ use Rattle.pairs.specs.Pairs.{Tally, tally, tallyOf, settleOf, Counted}
 use Rattle.pairs.proofs.Tallies.{holds-counted}
 use Rattle.bounds.specs.Bounds.{Marks, marks, leaveOf, waitingAfter, relaxOf}
 use Rattle.ranks.specs.Ranks.{pickIn}
-use Rattle.rounds.specs.Workspace.{Workspace, workspace, lastRow, Absorbed, absorbed, absorbing, absorbOf, roundOf, orEnd, runOf, RoundsBegun, roundsBegun, roundsBeginOf}
+use Rattle.rounds.specs.Workspace.{Workspace, workspace, lastRow, Absorbed, absorbed, absorbing, holding, absorbOf, roundOf, orEnd, runOf, RoundsBegun, roundsBegun, roundsBeginOf}
 use Rattle.rounds.proofs.Finish.{cleared-table, count-no-pairs}
 
 -- ---- the leaves
@@ -46,10 +46,12 @@ settle-odd W r e c even odd t t′ q h = rw (ne-eqb (e % 2) 0 q) h
 
 -- ---- a search taken in
 
-pub absorb-is : (W mark r e : ℕ) (T : Tables) (A : Absorbed) (t : Tally) (c : ℕ) (m m′ : Marks) → t ≡ settleOf W (lastRow e T) r e (A .candidate) (A .paired)
-    → c ≡ cond (ltb (A .candidate) e) e (A .candidate) → m ≡ leaveOf W r e mark (A .marked) → m′ ≡ relaxOf W (T .hops) r e c m → absorbed t m′ c ≡ absorbing W mark r e T A
-unfolding absorbing
-absorb-is W mark r e T A t c m m′ a b d f = rw (f, d, a, b)
+pub absorb-is : (W mark r e : ℕ) (T : Tables) (A : Absorbed) (skipping : Bool) (t : Tally) (c l : ℕ) (m m′ : Marks) → t ≡ settleOf W (lastRow e T) r e (A .candidate) (A .paired)
+    → c ≡ cond (ltb (A .candidate) e) e (A .candidate) → l ≡ cond skipping c 0 → m ≡ leaveOf W r e mark (A .marked) → m′ ≡ relaxOf W (T .hops) r e l m
+    → absorbed t m′ c ≡ cond skipping (absorbing W mark r e T A) (holding W mark r e T A)
+unfolding absorbing holding
+absorb-is W mark r e T A true t c l m m′ a b k d f = rw (f, d, a, k, b)
+absorb-is W mark r e T A false t c l m m′ a b k d f = rw (f, d, a, k, b)
 
 pub round-is-absorbed : (W : ℕ) (links : List ℕ) (mark r : ℕ) (M : Workspace) (e : ℕ) (T : Tables) (t : Tally) (m : Marks) (c n : ℕ) → searched e T ≡ searchTable W links r (M .searched)
     → absorbed t m c ≡ absorbing W mark r e T (absorbed (M .paired) (M .marked) (M .candidate)) → n ≡ M .searches + 1 → workspace t T m c n ≡ roundOf W links mark r M
@@ -191,9 +193,9 @@ fewer-remain W links mark M T t m c s r q w e =
     let p = picked-in W links (M .marked .waiting) r q in
     subst (λ (X : Workspace). countb (rowBit W (X .marked .waiting)) (range (64 * W)) < countb (rowBit W (M .marked .waiting)) (range (64 * W))) (sym e) (round-fewer W links mark r M (p .1) (p .0) w)
 
--- while a depot remains, no more searches were made than there are places
-pub room-left : (W : ℕ) (links : List ℕ) (mark : ℕ) (M₀ M : Workspace) (r : ℕ) → AtRound W links mark M₀ M → M₀ .searches < 2 → pickIn W links (M .marked .waiting) ≡ some r
-    → W ≤ length (M .marked .waiting) → M .searches ≤ 64 * W
+-- while a depot remains, at most one search more was made than there are places
+pub room-left : (W : ℕ) (links : List ℕ) (mark : ℕ) (M₀ M : Workspace) (r : ℕ) → AtRound W links mark M₀ M → M₀ .searches < 3 → pickIn W links (M .marked .waiting) ≡ some r
+    → W ≤ length (M .marked .waiting) → M .searches ≤ 64 * W + 1
 room-left W links mark M₀ M r A l q w =
     let p = picked-in W links (M .marked .waiting) r q in
     omega (arith, A .spare, round-fewer W links mark r M (p .1) (p .0) w)

@@ -48,6 +48,14 @@ absorbing W mark r e T A =
       candidate = c;
     }
 
+-- the same, but nobody is skipped: bounds are held against 0 in place of the candidate
+unfoldable pub holding : ℕ → ℕ → ℕ → ℕ → Tables → Absorbed → Absorbed
+holding W mark r e T A = record {
+  paired = settleOf W (lastRow e T) r e (A .candidate) (A .paired);
+  marked = relaxOf W (T .hops) r e 0 (leaveOf W r e mark (A .marked));
+  candidate = cond (ltb (A .candidate) e) e (A .candidate);
+}
+
 unfoldable pub absorbOf : ℕ → ℕ → ℕ → ℕ → Tables → Workspace → Workspace
 absorbOf W mark r e T M =
     let A = absorbing W mark r e T (absorbed (M .paired) (M .marked) (M .candidate)) in

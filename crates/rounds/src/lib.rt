@@ -9,7 +9,7 @@ ghost use Rattle.map.specs.Room.{tables};
 ghost use Rattle.pairs.specs.Pairs.{tally, settleOf, Counted};
 ghost use Rattle.ranks.specs.Ranks.{AreRanks, AreThinned};
 ghost use Rattle.bounds.specs.Bounds.{Fits};
-ghost use Rattle.rounds.specs.Workspace.{lastRow, absorbed, absorbing, roundOf, runOf, roundsBegun, roundsBeginOf, RoundRoom};
+ghost use Rattle.rounds.specs.Workspace.{lastRow, absorbed, absorbing, holding, roundOf, runOf, roundsBegun, roundsBeginOf, RoundRoom};
 ghost use Rattle.map.specs.Slices.{tablesBefore};
 ghost use Rattle.bounds.specs.Slices.{marksBefore, marksAfter};
 ghost use Rattle.rounds.specs.Slices.{workspaceBefore, workspaceAfter};
@@ -59,7 +59,18 @@ pub struct RoundFigures {
     pub searches: u16,
 }
 
-// Takes in a finished search from r with eccentricity e: candidate and pairs; then r leaves the remaining; then their bounds and the skipping.
+// Below which bound a depot is skipped: the candidate c, or 0, below which no bound lies.
+fn skip_limit(skipping: bool, c: u16) -> u16
+    ensures { λ r. ⌜ r ≡ cond skipping c 0 ⌝ }
+{
+    if skipping {
+        return c;
+    }
+    0
+}
+
+// Takes in a finished search from r with eccentricity e: candidate and pairs; then r leaves the remaining; then their bounds; then the skipping, if
+// it is asked for.
 pub fn absorb(
     pairs: &mut [u64],
     hops: &[u16],
@@ -74,6 +85,7 @@ pub fn absorb(
     e: u16,
     candidate: u16,
     count: u32,
+    skipping: bool,
 ) -> RoundFigures
     requires { ⌜ Counted words (now pairs) count
         × Fits words (now bounds) (now skips) (now ranks)
@@ -85,13 +97,14 @@ pub fn absorb(
         let T = tablesBefore hops even odd in
         let before = absorbed (tally (now (pairs .entry)) count) (marksBefore words bounds skips ranks) candidate in
         let after = absorbed (tally (now (pairs .exit)) (t .count)) (marksAfter words bounds skips ranks) (t .candidate) in
-        ⌜ (after ≡ absorbing words mark r e T before)
+        ⌜ (after ≡ cond skipping (absorbing words mark r e T before) (holding words mark r e T before))
         × AreThinned words (now (ranks .entry)) (now (ranks .exit)) ⌝ }
 {
     let sum = settle_by(pairs, even, odd, words, r, e, candidate, count);
     let c = raise(candidate, e);
+    let limit = skip_limit(skipping, c);
     bounds::leave(bounds, skips, ranks, words, r, e, mark);
-    bounds::relax(hops, bounds, skips, ranks, words, r as u16, e, c);
+    bounds::relax(hops, bounds, skips, ranks, words, r as u16, e, limit);
     RoundFigures {
         candidate: c,
         count: sum,
@@ -120,7 +133,7 @@ fn round(
         × Counted words (now pairs) (before .count)
         × Fits words (now bounds) (now skips) (now ranks)
         × (r < 64 * words)
-        × (before .searches ≤ 64 * words) ⌝ }
+        × (before .searches ≤ 64 * words + 1) ⌝ }
     ensures { λ t.
         let entry = workspaceBefore words pairs hops bounds skips even odd ranks (before .candidate) (before .count) (before .searches) in
         let exit = workspaceAfter words pairs hops bounds skips even odd ranks (t .candidate) (t .count) (t .searches) in
@@ -142,6 +155,7 @@ fn round(
         e,
         before.candidate,
         before.count,
+        true,
     );
     RoundFigures {
         candidate: got.candidate,
@@ -152,7 +166,7 @@ fn round(
 
 // ---- rounds until none remains
 
-// Rounds until no depot remains. What stands in ranks, seen and next afterwards is free where the caller does not look.
+// Rounds until no depot remains, after up to two searches. What stands in ranks, seen and next afterwards is free where the caller does not look.
 pub fn run_rounds(
     links: &[u64],
     pairs: &mut [u64],
@@ -172,7 +186,7 @@ pub fn run_rounds(
         × Counted words (now pairs) (before .count)
         × Fits words (now bounds) (now skips) (now ranks)
         × AreRanks words (now links) (now ranks)
-        × (before .searches < 2) ⌝ }
+        × (before .searches < 3) ⌝ }
     ensures { λ t.
         let entry = workspaceBefore words pairs hops bounds skips even odd ranks (before .candidate) (before .count) (before .searches) in
         let exit = workspaceAfter words pairs hops bounds skips even odd ranks (t .candidate) (t .count) (t .searches) in

@@ -16,6 +16,10 @@ use Rattle.pairs.specs.Pairs.{Tally, tally, tallyOf}
 abbrev pub wayBy : List ℕ → ℕ → ℕ → ℕ
 wayBy hops u v = getD hops u 0 + getD hops v 0
 
+-- the lesser of those by the hops of two searches
+abbrev pub wayByEither : List ℕ → List ℕ → ℕ → ℕ → ℕ
+wayByEither near far u v = min (wayBy near u v) (wayBy far u v)
+
 -- a table without its stale pairs, and the greatest way that was there, none above D
 pub record Dropped : Type 0 where
   pub left : Tally

@@ -1,11 +1,12 @@
-// Stale pairs dropped from the pair table itself: those that a search shows to be nearer than the chain. A row of words may be up to 512 long.
+// Stale pairs dropped from the pair table itself: those that a search, or either of two, shows to be nearer than the chain. A row of words may be up to
+// 512 long.
 // What a function ensures of table, count and way is one equation, so that callers rewrite by it.
 ghost use mathlib.Core.Path.{_≡_};
 ghost use Prim.Native.Nat.{_+_, _*_, _%_, _<_, _≤_, min, max};
 ghost use lib.ListN.{length};
 ghost use Rattle.words.specs.Bits.{wordOf};
 ghost use Rattle.pairs.specs.Pairs.{tally};
-ghost use Rattle.stale_pairs.specs.Stale.{HasHops, Bare, wayBy, dropped, stayingBit, greatestBit, dropRowOf, dropOf};
+ghost use Rattle.stale_pairs.specs.Stale.{HasHops, Bare, wayBy, wayByEither, dropped, stayingBit, greatestBit, dropRowOf, dropOf};
 
 // How many pairs stay, and the greatest way of those that were there.
 pub struct Dropping {
@@ -142,6 +143,112 @@ pub fn drop_stale(pairs: &mut [u64], hops: &[u16], words: usize, chain: u16) -> 
             let row = drop_row(pairs, hops, words, u, chain);
             count += row.count;
             way = longer(way, row.way);
+            u += 1;
+        }
+    }
+    Dropping {
+        count: count,
+        way: way,
+    }
+}
+
+// ---- by two searches
+
+// The lesser of the ways from u to v by the hops of two searches, and no more than chain.
+fn way_by_either(near: &[u16], far: &[u16], u: usize, v: usize, chain: u16) -> u16
+    requires { ⌜ (u < length (now near)) × (v < length (now near)) × (u < length (now far)) × (v < length (now far)) ⌝ }
+    ensures { λ r. ⌜ r ≡ min chain (wayByEither (now (near .entry)) (now (far .entry)) u v) ⌝ }
+{
+    let least = way_by(near, u, v, chain);
+    way_by(far, u, v, least)
+}
+
+// `sift` by two searches. A loop of its own, so that the one over one table has no test more.
+fn sift_either(near: &[u16], far: &[u16], x: u64, u: usize, first: usize, chain: u16) -> Sifted
+    requires { ⌜ (u < length (now near))
+        × (first + 64 ≤ length (now near))
+        × (u < length (now far))
+        × (first + 64 ≤ length (now far)) ⌝ }
+    ensures { λ r.
+        let way = wayByEither (now (near .entry)) (now (far .entry)) in
+        ⌜ (r .word ≡ wordOf 64 (stayingBit way chain u first x)) × (r .way ≡ greatestBit way chain u first x) ⌝ }
+{
+    let mut word = x;
+    let mut way: u16 = 0;
+    let mut left = x;
+    while left != 0 {
+        let b = words::least(left);
+        let least = way_by_either(near, far, u, first + b, chain);
+        way = longer(way, least);
+        if least < chain {
+            word = words::without_bit(word, b);
+            left = words::drop_least(left);
+        } else {
+            left = words::drop_least(left);
+        }
+    }
+    Sifted {
+        word: word,
+        way: way,
+    }
+}
+
+// `drop_row` by two searches.
+fn drop_row_either(
+    pairs: &mut [u64],
+    near: &[u16],
+    far: &[u16],
+    words: usize,
+    u: usize,
+    chain: u16,
+) -> Dropping
+    requires { ⌜ HasHops words (now pairs) (now near) × HasHops words (now pairs) (now far) × (u < 64 * words) ⌝ }
+    ensures { λ r.
+        let way = wayByEither (now (near .entry)) (now (far .entry)) in
+        ⌜ dropped (tally (now (pairs .exit)) (r .count)) (r .way) ≡ dropRowOf words way chain u (now (pairs .entry)) ⌝ }
+{
+    let base = words * u;
+    let mut count: u32 = 0;
+    let mut way: u16 = 0;
+    let mut j = 0;
+    while j < words {
+        let i = base + j;
+        let kept = sift_either(near, far, pairs[i], u, 64 * j, chain);
+        pairs[i] = kept.word;
+        count += words::count(kept.word);
+        way = longer(way, kept.way);
+        j += 1;
+    }
+    Dropping {
+        count: count,
+        way: way,
+    }
+}
+
+// `drop_stale` by two searches: a pair is stale that either shows to be nearer than the chain.
+pub fn drop_stale_either(
+    pairs: &mut [u64],
+    near: &[u16],
+    far: &[u16],
+    words: usize,
+    chain: u16,
+) -> Dropping
+    requires { ⌜ HasHops words (now pairs) (now near) × HasHops words (now pairs) (now far) ⌝ }
+    ensures { λ r.
+        let way = wayByEither (now (near .entry)) (now (far .entry)) in
+        ⌜ dropped (tally (now (pairs .exit)) (r .count)) (r .way) ≡ dropOf words way chain (now (pairs .entry)) ⌝ }
+{
+    let mut count: u32 = 0;
+    let mut way: u16 = 0;
+    let mut u = 0;
+    while u < 64 * words {
+        let bare = bare_rows(&*pairs, words, u);
+        if bare != 0 {
+            u += bare;
+        } else {
+            let done = drop_row_either(pairs, near, far, words, u, chain);
+            count += done.count;
+            way = longer(way, done.way);
             u += 1;
         }
     }

@@ -1,4 +1,4 @@
--- `rounds::absorb` meets its contract: its four calls are the four parts of the definition.
+-- `rounds::absorb` meets its contract: its calls are the parts of the definition, with or without skipping.
 -- Assumes nothing.
 use mathlib.Core.Path.{_≡_}
 use Rattle.bounds.specs.Bounds.{relaxOf}
@@ -8,14 +8,35 @@ use borrow.Author.Needs.{needs}
 use Rattle.rounds.proofs.absorb.Statement.{statement}
 use Rattle.rounds.proofs.absorb.Tie as tie
 
+-- the way back, from each call to the one before it
+abbrev before-relax : tie.After-relax → tie.After-leave
+before-relax c = search
+
+abbrev before-leave : tie.After-leave → tie.After-skip-limit
+before-leave c = search
+
+abbrev before-skip-limit : tie.After-skip-limit → tie.After-raise
+before-skip-limit c = search
+
+abbrev before-raise : tie.After-raise → tie.After-settle-by
+before-raise c = search
+
+abbrev before-settle-by : tie.After-settle-by → tie.Start
+before-settle-by c = search
+
+ruleset back = (before-relax, before-leave, before-skip-limit, before-raise, before-settle-by)
+
 returns : tie.Need-returns
 returns c =
-    let after-relax : tie.After-relax = search in
-    let after-leave : tie.After-leave = search in
-    let after-raise : tie.After-raise = search in
-    let after-settle-by : tie.After-settle-by = search in
-    let relaxed : _ ≡ relaxOf _ _ _ _ (after-raise .raise .result) _ = after-relax .relax .ensures .0 in (
-      absorb-is _ _ _ _ _ _ _ _ _ _ (after-settle-by .settle-by .ensures) (after-raise .raise .ensures) (after-leave .leave .ensures .0) relaxed,
+    let after-relax : tie.After-relax = search back in
+    let after-leave : tie.After-leave = search back in
+    let after-skip-limit : tie.After-skip-limit = search back in
+    let after-raise : tie.After-raise = search back in
+    let after-settle-by : tie.After-settle-by = search back in
+    let start : tie.Start = search back in
+    let relaxed : _ ≡ relaxOf _ _ _ _ (after-skip-limit .skip-limit .result) _ = after-relax .relax .ensures .0 in (
+      absorb-is _ _ _ _ _ _ (start .args .skipping) _ _ _ _ _ (after-settle-by .settle-by .ensures) (after-raise .raise .ensures)
+          (after-skip-limit .skip-limit .ensures) (after-leave .leave .ensures .0) relaxed,
       thinned-twice _ _ _ _ (after-leave .leave .ensures .1) (after-relax .relax .ensures .1),
     )
 
@@ -23,7 +44,8 @@ pub absorb-spec : {M : Type 1} → statement M
 absorb-spec =
     tie.close
     (tie.spec
-    (λ c. search needs) (λ c. search needs) (λ c. search needs) (λ c. search needs)  -- settle-by-requires, raise-requires, leave-requires, cast-relax
+    (λ c. search needs) (λ c. search needs) (λ c. search needs)  -- settle-by-requires, raise-requires, skip-limit-requires
+    (λ c. search needs) (λ c. search needs)  -- leave-requires, cast-relax
     (λ c. search needs) (λ c. search needs) (λ c. search needs) (λ c. search needs)  -- relax-requires, same-length, same-length-2, same-length-3
     (λ c. search needs)  -- same-length-4
     returns)
