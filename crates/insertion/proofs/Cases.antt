@@ -14,7 +14,7 @@ use Rattle.lists.proofs.Tests.{look, true→t, and-true, or-true}
 use Rattle.graph.specs.Network.{Network, delivers}
 use Rattle.graph.specs.Distance.{dist}
 use Rattle.graph.specs.Chart.{Pairs, chart, ecc, ownPairs}
-use Rattle.graph.specs.Rounds.{State, joinPairs, round, rounds, start}
+use Rattle.graph.specs.Rounds.{joinPairs, round, rounds, start}
 use Rattle.graph.specs.Opening.{opening, openCase, stayingPairs, anyPair, via}
 use Rattle.graph.specs.Correct.{IsNet}
 use Rattle.graph.proofs.Charts.{chart-metric, depot-in}
@@ -26,35 +26,35 @@ use Rattle.map.proofs.Theorems.{network-open-below}
 use Rattle.outcome.specs.declared.Change.the-variants.{Grew, Kept, Shrank}
 use Rattle.pairs.specs.Pairs.{Tally, tally, tallyOf, pairsWith, settleOf}
 use Rattle.stale_pairs.specs.Stale.{dropped, wayBy, dropOf}
-use Rattle.pairs.proofs.Tallies.{tally-ext, table-over}
+use Rattle.pairs.proofs.Tallies.{tally-ext}
 use Rattle.search.proofs.Accepts.{search-is}
-use Rattle.rounds.specs.Leaves.{Ran, ran, ranBy, roundsLeave}
+use Rattle.rounds.specs.Leaves.{Ran, ran, ranBy}
 use Rattle.rounds.specs.Workspace.{lastRow}
 use Rattle.rounds.proofs.Holding.{leaves-over}
 use Rattle.rounds.proofs.Pairing.{own-pairs, settle-is}
 use Rattle.insertion.specs.Figured.{Figured, figured, figuredBy}
 use Rattle.bounds.specs.Once.{Marked, marking}
-use Rattle.insertion.specs.Steps.{markOnceIn, Joined, joined, joinOf, HoldsSearch}
+use Rattle.insertion.specs.Steps.{markOnceIn, Joined, joined, joinOf, StandsIn, HoldsSearch}
 use Rattle.insertion.proofs.Once.{once-leaves}
-use Rattle.insertion.proofs.Dropping.{left-is, candidate-is, none-left, some-left}
-use Rattle.insertion.proofs.Shrinking.{figured-over}
+use Rattle.insertion.proofs.Dropping.{way-by-search, left-is, candidate-is, none-left, some-left}
+use Rattle.insertion.proofs.Shrinking.{pairs-over, figured-over}
 
 -- ---- the search
 
 -- over the tables T₀ it leaves T₁
-module _ (K : Shape) (shape : IsShape K) (members links : List ℕ) (p b s : List ℕ) (a e : ℕ) (T₀ T₁ : Tables) where
+module _ (K : Shape) (shape : IsShape K) (members links : List ℕ) (a e : ℕ) (T₀ T₁ : Tables) where
   abbrev H : Network
   H = networkOf (K .words) members links
 
   -- it stands in the tables
-  pub search-stands : IsNet H → T (H .isOpen a) → searched e T₁ ≡ searchTable (K .words) links a T₀ → HoldsSearch K members links (lent p T₁ b s) a e
+  pub search-stands : IsNet H → T (H .isOpen a) → searched e T₁ ≡ searchTable (K .words) links a T₀ → StandsIn K members links T₁ a e
   search-stands net o q =
       let is = search-is K shape members links net a o T₀ e T₁ q in
       record { net = net; present = o; depth = is .0; stands = is .1 ∙ sym (ap (searchLeaves (K .words) H a) (is .1) ∙ leaves-over (K .words) H a a T₀) }
 
   -- what is answered by those tables is answered by the tables before
-  pub figured-first : (D : ℕ) (X : Figured) → IsNet H → T (H .isOpen a) → searched e T₁ ≡ searchTable (K .words) links a T₀ → X ≡ figuredBy K H a D (lent p T₁ b s) → X ≡ figuredBy K H a D (lent p T₀ b s)
-  figured-first D X net o q h =
+  pub figured-first : (p b s : List ℕ) (D : ℕ) (X : Figured) → IsNet H → T (H .isOpen a) → searched e T₁ ≡ searchTable (K .words) links a T₀ → X ≡ figuredBy K H a D (lent p T₁ b s) → X ≡ figuredBy K H a D (lent p T₀ b s)
+  figured-first p b s D X net o q h =
       h ∙ ap (λ (Y : Tables). figuredBy K H a D (lent p Y b s)) (search-is K shape members links net a o T₀ e T₁ q .1) ∙ figured-over K H a T₀ p b s D
 
 -- ---- a depot at distance 0 has no partner
@@ -151,11 +151,17 @@ module _ (K : Shape) (members links : List ℕ) (B : Lent) (a e D : ℕ) (I : Ho
   -- ---- the stale pairs are gone
 
   module _ (ends : (u v : ℕ) → T (tableBit (K .words) (B .pairs) u v) → T (delivers (networkOf (K .words) members links) u) × T (delivers (networkOf (K .words) members links) v)) (low : e ≤ D) (t : List ℕ) (k w : ℕ) (drops : dropped (tally t k) w ≡ dropOf (K .words) (wayBy (B .searched .hops)) D (B .pairs)) where
-    drops-by : dropped (tally t k) w ≡ dropOf (K .words) (wayBy (searchLeaves (K .words) G a (B .searched) .hops)) D (B .pairs)
+    abbrev hops : List ℕ
+    hops = searchLeaves (K .words) (networkOf (K .words) members links) a (B .searched) .hops
+
+    alike : (u v : ℕ) → u < places K → v < places K → wayBy hops u v ≡ via (chart G) a u v
+    alike = way-by-search (K .words) G a (B .searched)
+
+    drops-by : dropped (tally t k) w ≡ dropOf (K .words) (wayBy hops) D (B .pairs)
     drops-by = drops ∙ ap (λ (T : Tables). dropOf (K .words) (wayBy (T .hops)) D (B .pairs)) (I .stands)
 
     tally-left : tally t k ≡ tallyOf (K .words) Left (B .pairs)
-    tally-left = left-is (K .words) G (I .net) below a (B .searched) D (B .pairs) ends drops-by
+    tally-left = left-is (K .words) G (I .net) below (wayBy hops) (via (chart G) a) alike D (B .pairs) ends drops-by
 
     table-left : t ≡ overwrite (encodeTable (K .words) Left) (B .pairs)
     unfolding tallyOf
@@ -187,19 +193,14 @@ module _ (K : Shape) (members links : List ℕ) (B : Lent) (a e D : ℕ) (I : Ho
     unfolding openCase
     kept-is ne some m h =
         ap (figured Kept) (once-leaves K G a (I .present) D Left B t k m tally-left (marks-are m (marking (B .bounds) (B .skips)) h) (I .stands))
-        ∙ by-tests false false true not-above (ne-eqb (ecc (chart G) a) D (λ q. ne (I .depth ∙ q))) (some-left (K .words) G (I .net) below a (B .searched) D (B .pairs) ends drops-by some)
+        ∙ by-tests false false true not-above (ne-eqb (ecc (chart G) a) D (λ q. ne (I .depth ∙ q))) (some-left (K .words) G (I .net) below (wayBy hops) (via (chart G) a) alike D (B .pairs) ends drops-by some)
 
     -- no pair is left: SHRANK
     pub shrank-is : (e ≡ D → ⊥) → k ≡ 0 → (R : Ran)
         → R ≡ ranBy K G (rounds (chart G) (length (chart G .depots)) (round (chart G) a (start w))) (lent t (B .searched) (B .bounds) (B .skips))
         → figured Shrank R ≡ figuredBy K G a D B
-    unfolding openCase ranBy roundsLeave
+    unfolding openCase
     shrank-is ne z R h =
-        ap (figured Shrank) (h ∙ over (rounds (chart G) (length (chart G .depots)) (round (chart G) a (start w)))
-        ∙ ap (λ (c : ℕ). ranBy K G (rounds (chart G) (length (chart G .depots)) (round (chart G) a (start c))) B) (candidate-is (K .words) G (I .net) below a (B .searched) D (B .pairs) ends drops-by))
-        ∙ by-tests false false false not-above (ne-eqb (ecc (chart G) a) D (λ q. ne (I .depth ∙ q))) (none-left (K .words) G (I .net) below a (B .searched) D (B .pairs) ends drops-by z)
-      where
-        over : (S : State) → ranBy K G S (lent t (B .searched) (B .bounds) (B .skips)) ≡ ranBy K G S B
-        over S =
-            ap (λ (l : List ℕ). ran (lent l (roundsLeave K G S B .searched) (roundsLeave K G S B .bounds) (roundsLeave K G S B .skips)) (ranBy K G S B .chain) (ranBy K G S B .count) (ranBy K G S B .searches))
-            (ap (overwrite (encodeTable (K .words) (S .pairs))) table-left ∙ table-over (K .words) (S .pairs) Left (B .pairs))
+        ap (figured Shrank) (h ∙ pairs-over K G (rounds (chart G) (length (chart G .depots)) (round (chart G) a (start w))) Left B t table-left
+        ∙ ap (λ (c : ℕ). ranBy K G (rounds (chart G) (length (chart G .depots)) (round (chart G) a (start c))) B) (candidate-is (K .words) G (I .net) below (wayBy hops) (via (chart G) a) alike D (B .pairs) ends drops-by))
+        ∙ by-tests false false false not-above (ne-eqb (ecc (chart G) a) D (λ q. ne (I .depth ∙ q))) (none-left (K .words) G (I .net) below (wayBy hops) (via (chart G) a) alike D (B .pairs) ends drops-by z)

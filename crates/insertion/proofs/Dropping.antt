@@ -1,4 +1,4 @@
--- The stale pairs dropped by the hops of the search from the new depot: what stays and the greatest way are the network's. Assumes nothing.
+-- The stale pairs dropped by the hops of searches: what stays and the greatest way are the network's, where the ways by the hops are. Assumes nothing.
 use mathlib.Core.Path.{_≡_, refl, sym, ap, ap₂, _∙_}
 use mathlib.Core.Logic.{_⊎_, inl, inr}
 use mathlib.Core.Bool.{Bool, true, false, cond, not, _&&_}
@@ -29,31 +29,31 @@ use Rattle.pairs.proofs.Tallies.{tally-ext}
 use Rattle.stale_pairs.proofs.Theorems.{drop-way}
 use Rattle.graph.proofs.Delivers.{delivers-open}
 
--- ---- the stored pairs t, on the network G with the new depot a
+-- ---- the way by the hops of a search
 
-module _ (W : ℕ) (G : Network) (net : IsNet G) (below : (v : ℕ) → T (G .isOpen v) → v < 64 * W) (a : ℕ) (T₀ : Tables) (D : ℕ) (t : List ℕ)
+hop : (W : ℕ) (G : Network) (a : ℕ) (T₀ : Tables) (v : ℕ) → v < 64 * W → getD (searchLeaves W G a T₀ .hops) v 0 ≡ dist G a v
+unfolding searchLeaves
+hop W G a T₀ v l = fill-at (dist G a) (T₀ .hops) (64 * W) v 0 l
+
+pub way-by-search : (W : ℕ) (G : Network) (a : ℕ) (T₀ : Tables) (u v : ℕ) → u < 64 * W → v < 64 * W → wayBy (searchLeaves W G a T₀ .hops) u v ≡ via (chart G) a u v
+unfolding via chart
+way-by-search W G a T₀ u v l m = ap₂ (λ (x y : ℕ). x + y) (hop W G a T₀ u l) (hop W G a T₀ v m)
+
+-- ---- the stored pairs t, on the network G. The code goes by the ways `way`, which are the network's ways `far`
+
+module _ (W : ℕ) (G : Network) (net : IsNet G) (below : (v : ℕ) → T (G .isOpen v) → v < 64 * W) (way far : ℕ → ℕ → ℕ)
+    (alike : (u v : ℕ) → u < 64 * W → v < 64 * W → way u v ≡ far u v) (D : ℕ) (t : List ℕ)
     (ends : (u v : ℕ) → T (tableBit W t u v) → T (delivers G u) × T (delivers G v)) where
-  abbrev hops : List ℕ
-  hops = searchLeaves W G a T₀ .hops
-
   abbrev Left : Pairs
-  Left = stayingPairs (via (chart G) a) D (tableBit W t)
+  Left = stayingPairs far D (tableBit W t)
 
-  hop : (v : ℕ) → v < 64 * W → getD hops v 0 ≡ dist G a v
-  unfolding searchLeaves
-  hop v l = fill-at (dist G a) (T₀ .hops) (64 * W) v 0 l
-
-  way : (u v : ℕ) → u < 64 * W → v < 64 * W → getD hops u 0 + getD hops v 0 ≡ via (chart G) a u v
-  unfolding via chart
-  way u v l m = ap₂ (λ (x y : ℕ). x + y) (hop u l) (hop v m)
-
-  stay : (u v : ℕ) → u < 64 * W → v < 64 * W → stayingPairs (wayBy hops) D (tableBit W t) u v ≡ Left u v
+  stay : (u v : ℕ) → u < 64 * W → v < 64 * W → stayingPairs way D (tableBit W t) u v ≡ Left u v
   unfolding stayingPairs
-  stay u v l m = ap (λ (x : ℕ). tableBit W t u v && not (ltb x D)) (way u v l m)
+  stay u v l m = ap (λ (x : ℕ). tableBit W t u v && not (ltb x D)) (alike u v l m)
 
   left-stored : (u v : ℕ) → Left u v ≡ true → T (tableBit W t u v)
   unfolding stayingPairs
-  left-stored u v h = true→t (and-true (tableBit W t u v) (not (ltb (via (chart G) a u v) D)) h .0)
+  left-stored u v h = true→t (and-true (tableBit W t u v) (not (ltb (far u v) D)) h .0)
 
   -- ---- the greatest way
 
@@ -72,12 +72,12 @@ module _ (W : ℕ) (G : Network) (net : IsNet G) (below : (v : ℕ) → T (G .is
       go (inr h) = h
 
   abbrev reach : ℕ → ℕ → ℕ
-  reach u v = cond (tableBit W t u v) (min D (via (chart G) a u v)) 0
+  reach u v = cond (tableBit W t u v) (min D (far u v)) 0
 
   row-zero : (u : ℕ) → G .isOpen u ≡ false → (xs : List ℕ) → maxOf (reach u) xs ≡ 0
   unfolding maxOf
   row-zero u q [] = refl
-  row-zero u q (x ∷ xs) = let z : reach u x ≡ 0 = ap (λ (b : Bool). cond b (min D (via (chart G) a u x)) 0) (closed-row u x q) in omega (arith, row-zero u q xs)
+  row-zero u q (x ∷ xs) = let z : reach u x ≡ 0 = ap (λ (b : Bool). cond b (min D (far u x)) 0) (closed-row u x q) in omega (arith, row-zero u q xs)
 
   -- what is 0 at closed codes has the same greatest value among all codes and among the depots
   among : (f : ℕ → ℕ) → ((v : ℕ) → G .isOpen v ≡ false → f v ≡ 0) → maxOf f (range (64 * W)) ≡ maxOf f (chart G .depots)
@@ -91,24 +91,24 @@ module _ (W : ℕ) (G : Network) (net : IsNet G) (below : (v : ℕ) → T (G .is
       go v (inr c) = omega (arith, h v c)
 
   -- THE GREATEST WAY IS THE CANDIDATE
-  pub way-is : shrunkCandidate (range (64 * W)) (wayBy hops) D (tableBit W t) ≡ shrunkCandidate (chart G .depots) (via (chart G) a) D (tableBit W t)
+  pub way-is : shrunkCandidate (range (64 * W)) way D (tableBit W t) ≡ shrunkCandidate (chart G .depots) far D (tableBit W t)
   unfolding shrunkCandidate
   way-is =
-      max-ext (λ u. maxOf (λ v. cond (tableBit W t u v) (min D (getD hops u 0 + getD hops v 0)) 0) (range (64 * W))) (λ u. maxOf (reach u) (chart G .depots)) (range (64 * W))
-      (λ u l. max-ext (λ v. cond (tableBit W t u v) (min D (getD hops u 0 + getD hops v 0)) 0) (reach u) (range (64 * W))
-      (λ v m. ap (λ (x : ℕ). cond (tableBit W t u v) (min D x) 0) (way u v (range-out (64 * W) l) (range-out (64 * W) m)))
-      ∙ among (reach u) (λ v q. ap (λ (b : Bool). cond b (min D (via (chart G) a u v)) 0) (closed-column u v q)))
+      max-ext (λ u. maxOf (λ v. cond (tableBit W t u v) (min D (way u v)) 0) (range (64 * W))) (λ u. maxOf (reach u) (chart G .depots)) (range (64 * W))
+      (λ u l. max-ext (λ v. cond (tableBit W t u v) (min D (way u v)) 0) (reach u) (range (64 * W))
+      (λ v m. ap (λ (x : ℕ). cond (tableBit W t u v) (min D x) 0) (alike u v (range-out (64 * W) l) (range-out (64 * W) m)))
+      ∙ among (reach u) (λ v q. ap (λ (b : Bool). cond b (min D (far u v)) 0) (closed-column u v q)))
       ∙ among (λ u. maxOf (reach u) (chart G .depots)) (λ u q. row-zero u q (chart G .depots))
 
   -- ---- what is left
 
-  module _ {t′ : List ℕ} {n w : ℕ} (q : dropped (tally t′ n) w ≡ dropOf W (wayBy hops) D t) where
+  module _ {t′ : List ℕ} {n w : ℕ} (q : dropped (tally t′ n) w ≡ dropOf W way D t) where
     pub left-is : tally t′ n ≡ tallyOf W Left t
     unfolding dropOf
-    left-is = ap (λ (x : Dropped). x .left) q ∙ tally-ext W (stayingPairs (wayBy hops) D (tableBit W t)) Left t stay
+    left-is = ap (λ (x : Dropped). x .left) q ∙ tally-ext W (stayingPairs way D (tableBit W t)) Left t stay
 
-    pub candidate-is : w ≡ shrunkCandidate (chart G .depots) (via (chart G) a) D (tableBit W t)
-    candidate-is = drop-way W (wayBy hops) D t q ∙ way-is
+    pub candidate-is : w ≡ shrunkCandidate (chart G .depots) far D (tableBit W t)
+    candidate-is = drop-way W way D t q ∙ way-is
 
     count-is : n ≡ countPairs (range (64 * W)) Left
     unfolding tallyOf

@@ -1,39 +1,43 @@
 -- The chain shrank: rounds whose first reference is the finished search from the new depot. Assumes nothing.
 use mathlib.Core.Path.{_≡_, refl, sym, ap, ap₂, _∙_, subst}
-use mathlib.Core.Bool.{Bool, true, false, _||_}
+use mathlib.Core.Bool.{Bool, true, false, cond, _||_}
 use mathlib.Core.List.{List}
 use mathlib.Core.Option.{Option, none, some}
 use Prim.Native.Nat.{ℕ, zero, suc, _≤_}
 use lib.Dec.{eqb, ltb}
 use lib.ListN.{length}
-use Rattle.lists.specs.Lists.{lastOr, memb, anyb}
+use Rattle.lists.specs.Lists.{lastOr, memb, anyb, overwrite}
 use Rattle.graph.specs.Network.{Network}
 use Rattle.graph.specs.Distance.{unreached}
 use Rattle.graph.specs.Chart.{chart, ecc, Pairs, ownPairs}
 use Rattle.graph.specs.Rounds.{State, round, rounds, pick, remaining, orStop, start}
 use Rattle.graph.specs.Opening.{opening, openCase, searchedOnce, stayingPairs, shrunkCandidate, anyPair, via}
 use Rattle.graph.proofs.Charts.{depot-in}
-use Rattle.rows.specs.Rows.{tableBit}
+use Rattle.rows.specs.Rows.{tableBit, encodeTable}
 use Rattle.map.specs.Room.{Tables, Lent, lent}
 use Rattle.layers.specs.Layers.{searchLeaves}
 use Rattle.map.specs.Memory.{Shape, IsShape, places, networkOf}
 use Rattle.pairs.specs.Pairs.{Tally, tally, Counted}
 use Rattle.bounds.specs.Bounds.{Marks, marks}
 use Rattle.rounds.specs.Leaves.{ran, ranBy, roundsLeave, searchAfter}
-use Rattle.rounds.specs.Workspace.{Workspace, workspace, Absorbed, absorbed, absorbing, absorbOf, runOf, roundsBegun, roundsBeginOf}
+use Rattle.rounds.specs.Workspace.{Workspace, workspace, Absorbed, absorbed, absorbing, holding, absorbOf, runOf, roundsBegun, roundsBeginOf}
 use Rattle.rounds.proofs.Holding.{Origin, Holds, leaves-over, after-snoc}
 use Rattle.rounds.proofs.Simulation.{Running, running-round, absorb}
 use Rattle.rounds.proofs.Finish.{start-holds, start-running, run-is}
 use Rattle.pairs.proofs.Settling.{settle-counted}
+use Rattle.pairs.proofs.Tallies.{table-over}
 use Rattle.insertion.specs.Figured.{figured, figuredBy}
 use Rattle.insertion.specs.Steps.{HoldsSearch}
 
 -- ---- the pairs are counted at each call
 
-pub absorbed-counted : (W mark r e : ℕ) (T : Tables) (A : Absorbed) (p : List ℕ) (n : ℕ) (m : Marks) (c : ℕ) → Counted W (A .paired .pairs) (A .paired .count)
-    → absorbed (tally p n) m c ≡ absorbing W mark r e T A → Counted W p n
-unfolding absorbing
-absorbed-counted W mark r e T A p n m c k h =
+-- whether it skips or not
+pub absorbed-counted : (skipping : Bool) (W mark r e : ℕ) (T : Tables) (A : Absorbed) (p : List ℕ) (n : ℕ) (m : Marks) (c : ℕ) → Counted W (A .paired .pairs) (A .paired .count)
+    → absorbed (tally p n) m c ≡ cond skipping (absorbing W mark r e T A) (holding W mark r e T A) → Counted W p n
+unfolding absorbing holding
+absorbed-counted true W mark r e T A p n m c k h =
+    settle-counted W _ r e (A .candidate) (A .paired .pairs) p (A .paired .count) n k (ap (λ (X : Absorbed). X .paired) h)
+absorbed-counted false W mark r e T A p n m c k h =
     settle-counted W _ r e (A .candidate) (A .paired .pairs) p (A .paired .count) n k (ap (λ (X : Absorbed). X .paired) h)
 
 -- ---- the rounds
@@ -90,7 +94,7 @@ round-over : (W : ℕ) (G : Network) (a r : ℕ) (S : State) (T : Tables)
 unfolding round
 round-over W G a r S T = sym (after-snoc W G (S .references) r (searchLeaves W G a T)) ∙ leaves-over W G a r T ∙ after-snoc W G (S .references) r T
 
-rounds-over : (W : ℕ) (G : Network) (a : ℕ) (T : Tables) (k r : ℕ) (S : State)
+pub rounds-over : (W : ℕ) (G : Network) (a : ℕ) (T : Tables) (k r : ℕ) (S : State)
     → searchAfter W G (rounds (chart G) k (round (chart G) r S) .references) (searchLeaves W G a T) ≡ searchAfter W G (rounds (chart G) k (round (chart G) r S) .references) T
 unfolding rounds
 rounds-over W G a T zero r S = round-over W G a r S T
@@ -103,9 +107,17 @@ rounds-over W G a T (suc k) r S = go (pick (chart G) (remaining (chart G) (round
     go none ih = round-over W G a r S T
     go (some x) ih = ih x
 
+-- after rounds the pair table holds their pairs, whatever pairs stood there
+pub pairs-over : (K : Shape) (G : Network) (S : State) (Q : Pairs) (B : Lent) (t : List ℕ) → t ≡ overwrite (encodeTable (K .words) Q) (B .pairs)
+    → ranBy K G S (lent t (B .searched) (B .bounds) (B .skips)) ≡ ranBy K G S B
+unfolding ranBy roundsLeave
+pairs-over K G S Q B t h =
+    ap (λ (l : List ℕ). ran (lent l (roundsLeave K G S B .searched) (roundsLeave K G S B .bounds) (roundsLeave K G S B .skips)) (ranBy K G S B .chain) (ranBy K G S B .count) (ranBy K G S B .searches))
+    (ap (overwrite (encodeTable (K .words) (S .pairs))) h ∙ table-over (K .words) (S .pairs) Q (B .pairs))
+
 -- so a call that searched from a first answers by the tables before that search
 module _ (K : Shape) (G : Network) (a : ℕ) (T : Tables) (p b s : List ℕ) where
-  ran-over : (S : State) → searchAfter (K .words) G (S .references) (searchLeaves (K .words) G a T) ≡ searchAfter (K .words) G (S .references) T
+  pub ran-over : (S : State) → searchAfter (K .words) G (S .references) (searchLeaves (K .words) G a T) ≡ searchAfter (K .words) G (S .references) T
       → ranBy K G S (lent p (searchLeaves (K .words) G a T) b s) ≡ ranBy K G S (lent p T b s)
   unfolding ranBy roundsLeave
   ran-over S h = rw h

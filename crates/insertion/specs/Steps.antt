@@ -35,12 +35,16 @@ joinOf K a e D T J = joined (settleOf (K .words) (lastRow e T) a e D (J .paired)
 
 -- ---- what the functions ask
 
--- the tables hold the search from the open depot a, with eccentricity e, of a sound, connected network
-pub record HoldsSearch (K : Shape) (members links : List ℕ) (B : Lent) (a e : ℕ) : Type 0 where
+-- the tables S hold the search from the open depot a, with eccentricity e, of a sound, connected network
+pub record StandsIn (K : Shape) (members links : List ℕ) (S : Tables) (a e : ℕ) : Type 0 where
   pub net : IsNet (networkOf (K .words) members links)
   pub present : T (networkOf (K .words) members links .isOpen a)
   pub depth : e ≡ ecc (chart (networkOf (K .words) members links)) a
-  pub stands : B .searched ≡ searchLeaves (K .words) (networkOf (K .words) members links) a (B .searched)
+  pub stands : S ≡ searchLeaves (K .words) (networkOf (K .words) members links) a S
+
+-- those that are lent do
+abbrev pub HoldsSearch : Shape → List ℕ → List ℕ → Lent → ℕ → ℕ → Type 0
+HoldsSearch K members links B a e = StandsIn K members links (B .searched) a e
 
 -- the stored pairs join open codes
 pub record AreOpen (K : Shape) (members links pairs : List ℕ) : Type 0 where

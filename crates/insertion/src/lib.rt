@@ -111,6 +111,7 @@ fn shrink(
         e,
         way,
         0,
+        true,
     );
     let before = RoundFigures {
         candidate: first.candidate,

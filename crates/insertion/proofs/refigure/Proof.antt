@@ -26,7 +26,7 @@ returns c =
     let after-search-sound : tie.After-search-sound = search back in
     let start : tie.Start = search back in
     let pre = start .pre in
-    let stands = search-stands base base-shape _ _ _ _ _ _ _ _ _ (pre .1 .net) (pre .1 .present) (after-search-sound .search-sound .ensures) in
+    let stands = search-stands base base-shape _ _ _ _ _ _ (pre .1 .net) (pre .1 .present) (after-search-sound .search-sound .ensures) in
     figured-first base base-shape _ _ _ _ _ _ _ _ _ _ _ (pre .1 .net) (pre .1 .present) (after-search-sound .search-sound .ensures)
     (grew-is base _ _ _ _ _ _ stands (then1 .if1 .taken) _ _ _ _ (after-join .join .ensures))
 
@@ -38,7 +38,7 @@ settle-low-requires c κs =
       search needs,
       search needs,
       search needs,
-      search-stands base base-shape _ _ _ _ _ _ _ _ _ (pre .1 .net) (pre .1 .present) (after-search-sound .search-sound .ensures),
+      search-stands base base-shape _ _ _ _ _ _ (pre .1 .net) (pre .1 .present) (after-search-sound .search-sound .ensures),
       search needs,
       search needs,
     )

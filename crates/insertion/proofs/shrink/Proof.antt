@@ -1,5 +1,6 @@
 -- `insertion::shrink` meets its contract: its three calls are the network's rounds after the one from the new depot.
 -- Assumes nothing.
+use mathlib.Core.Bool.{true}
 use native.Mathlib.Omega.{arith}
 use Rattle.map.specs.Memory.{base}
 use Rattle.map.proofs.Theorems.{base-shape}
@@ -45,7 +46,7 @@ run-rounds-requires c κs =
     let start : tie.Start = search back in
     let pre = start .pre in (
       search needs,
-      absorbed-counted _ _ _ _ _ _ _ _ _ _
+      absorbed-counted true _ _ _ _ _ _ _ _ _ _
           (begun-counted _ _ _ _ _ _ (omega arith) (omega arith) (pre .0 .pairs) (after-begin .begin .ensures .0))
           (after-absorb .absorb .ensures .0),
       record {
