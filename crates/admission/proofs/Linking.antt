@@ -100,3 +100,28 @@ linked-turn W a ns old i e e₁ e₂ h la ln =
 
 pub linked-end : (W a : ℕ) (ns old l : List ℕ) (i : ℕ) → l ≡ withLinks W a (take i ns) old → length ns ≤ i → l ≡ withLinks W a ns old
 linked-end W a ns old l i e h = e ∙ ap (λ (ms : List ℕ). withLinks W a ms old) (take-all i ns h)
+
+-- ---- two codes linked
+
+both-bits : (a b c d x : Bool) → cond (c && d) true (cond (a && b) true x) ≡ ((a && b) || (d && c) || x)
+both-bits true true true true x = refl
+both-bits true true true false x = refl
+both-bits true true false true x = refl
+both-bits true true false false x = refl
+both-bits true false true true x = refl
+both-bits true false true false x = refl
+both-bits true false false true x = refl
+both-bits true false false false x = refl
+both-bits false b true true x = refl
+both-bits false b true false x = refl
+both-bits false b false true x = refl
+both-bits false b false false x = refl
+
+pub codes-linked : (W a b : ℕ) (old : List ℕ) {m r : List ℕ} → W * (64 * W) ≤ length old → ((i : ℕ) → i < W * (64 * W) → getD old i 0 < 2 ^ 64) → a < 64 * W → b < 64 * W
+    → m ≡ putBit W a b true old → r ≡ putBit W b a true m → r ≡ overwrite (encodeTable W (λ u v. (eqb u a && eqb v b) || (eqb v a && eqb u b) || tableBit W old u v)) old
+codes-linked W a b old l fits la lb e₁ e₂ =
+    e₂
+    ∙ ap (putBit W b a true) (e₁ ∙ ap (putBit W a b true) (table-whole W old l fits) ∙ put-table W a b true (tableBit W old) old la lb)
+    ∙ put-table W b a true (λ u v. cond (eqb u a && eqb v b) true (tableBit W old u v)) old lb la
+    ∙ ap (λ (t : List ℕ). overwrite t old)
+    (encode-table-ext W _ (λ u v. (eqb u a && eqb v b) || (eqb v a && eqb u b) || tableBit W old u v) (λ u v lu lv. both-bits (eqb u a) (eqb v b) (eqb u b) (eqb v a) (tableBit W old u v)))

@@ -1,4 +1,4 @@
-// Whether a notice may be opened (refusals 5 to 8), and the links of the depot that it opens. A row of words may be longer than a map's, up to
+// Whether a notice may be opened (refusals 5 to 8), and the links of the depot that it opens; whether two depots may be linked (4, 13, 14), and the link. A row of words may be longer than a map's, up to
 // 512: a code is a byte, and so stands in a row.
 ghost use mathlib.Core.List.{[]};
 ghost use mathlib.Core.Path.{_≡_};
@@ -9,6 +9,7 @@ ghost use lib.ListN.{length};
 ghost use Rattle.lists.specs.Lists.{allb, memb, overwrite, firstOf};
 ghost use Rattle.graph.specs.Distance.{vertices};
 ghost use Rattle.graph.specs.Opening.{strictlyRising, isEmpty, openFaults};
+ghost use Rattle.graph.specs.Linking.{linkFaults};
 ghost use Rattle.rows.specs.Rows.{rowBit, tableBit, encodeTable};
 ghost use Rattle.map.specs.Memory.{base, networkOf};
 
@@ -94,4 +95,41 @@ pub fn link_depot(links: &mut [u64], words: usize, code: u8, neighbours: &[u8])
         rows::row_set(links, words, v, a);
         i += 1;
     }
+}
+
+// ---- a link between two depots
+
+// The first of the refusals 4, 13 and 14 that holds, 0 for none.
+pub fn link_refusal(members: &[u64], links: &[u64], words: usize, first: u8, second: u8) -> u8
+    requires { ⌜ (base .words ≤ words)
+        × (words < 513)
+        × (words ≤ length (now members))
+        × (words * (64 * words) ≤ length (now links)) ⌝ }
+    ensures { λ r. ⌜ r ≡ firstOf (linkFaults (networkOf words (now (members .entry)) (now (links .entry))) first second) ⌝ }
+{
+    if !map::is_open(members, words, first as usize) {
+        return outcome::ABSENT;
+    }
+    if !map::is_open(members, words, second as usize) {
+        return outcome::ABSENT;
+    }
+    if first == second {
+        return outcome::ITSELF;
+    }
+    if rows::row_test(links, words, first as usize, second as usize) {
+        return outcome::LINKED;
+    }
+    0
+}
+
+// Links two codes, both ways.
+pub fn link_codes(links: &mut [u64], words: usize, first: u8, second: u8)
+    requires { ⌜ (base .words ≤ words) × (words < 513) × (words * (64 * words) ≤ length (now links)) ⌝ }
+    ensures { λ r.
+        let before = now (links .entry) in
+        let table = encodeTable words (λ u v. (eqb u first && eqb v second) || (eqb v first && eqb u second) || tableBit words before u v) in
+        ⌜ now (links .exit) ≡ overwrite table before ⌝ }
+{
+    rows::row_set(links, words, first as usize, second as usize);
+    rows::row_set(links, words, second as usize, first as usize);
 }
