@@ -215,6 +215,26 @@ pub fn open(m: &mut Lent, code: u8) -> u8 {
     }
 }
 
+pub fn link(m: &mut Lent, first: u8, second: u8) -> u8 {
+    if is_map_short(m) {
+        return 1;
+    }
+    let refusal = map_refusal(m);
+    if refusal != 0 {
+        return refusal;
+    }
+    let mut map = map(m);
+    match map.link(first, second) {
+        Err(refusal) => refusal,
+        Ok(linked) => {
+            store_map(m, &map);
+            store_work(m, &linked.work);
+            m.searches = searches(m);
+            linked.letter
+        }
+    }
+}
+
 /// Scratch is as the last accepted opening leaves it, which writes all of it; where no line is accepted nothing of the map is written.
 pub fn open_batch(m: &mut Lent) -> u8 {
     if is_map_short(m) || is_short(&m.left, 64) {

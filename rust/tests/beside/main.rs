@@ -19,6 +19,7 @@ mod cuts;
 mod few;
 mod histories;
 mod lines;
+mod links;
 mod near;
 mod networks;
 mod refusals;

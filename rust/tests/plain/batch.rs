@@ -25,6 +25,7 @@ impl Map {
         }
         let mut waiting = Vec::new();
         for (number, line) in lines.into_iter().enumerate() {
+            // only frames that open a depot: a link is garbled here, though the stream takes it
             let (frame, _) = frame_of(line).ok_or(9)?;
             waiting.push((number as u8, frame));
         }

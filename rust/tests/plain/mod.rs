@@ -4,6 +4,7 @@
 #![allow(dead_code, unused_imports)]
 pub mod batch;
 pub mod lines;
+pub mod linking;
 pub mod nearby;
 pub mod network;
 pub mod opening;

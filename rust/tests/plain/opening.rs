@@ -21,12 +21,12 @@ pub struct Work {
 }
 
 impl Work {
-    fn begun(network: &Network, figures: Figures) -> Work {
+    pub fn begun(network: &Network, figures: Figures) -> Work {
         let status = network.open.iter().map(|&v| (v, Status::Remaining(None))).collect();
         Work { figures, status, references: Vec::new(), last: None }
     }
 
-    fn note_search(&mut self, r: usize, distances: Distances) {
+    pub fn note_search(&mut self, r: usize, distances: Distances) {
         self.status.insert(r, Status::Searched(eccentricity(&distances)));
         self.references.push(r);
         self.last = Some(distances);
@@ -39,8 +39,14 @@ impl Work {
         work
     }
 
-    /// The round of reference r. A bound changes only for a smaller one, so that its reference is the earliest.
-    fn round(&mut self, r: usize, distances: Distances) {
+    /// The round of reference r.
+    pub fn round(&mut self, r: usize, distances: Distances) {
+        self.hold(r, distances);
+        self.skip();
+    }
+
+    /// A round without its skipping. A bound changes only for a smaller one, so that its reference is the earliest.
+    pub fn hold(&mut self, r: usize, distances: Distances) {
         let e = eccentricity(&distances);
         if e > self.figures.chain {
             self.figures = Figures { chain: e, pairs: farthest_from(r, &distances) };
@@ -56,6 +62,9 @@ impl Work {
                 }
             }
         }
+    }
+
+    fn skip(&mut self) {
         for status in self.status.values_mut() {
             if let Status::Remaining(Some((bound, by))) = *status {
                 if bound < self.figures.chain {
@@ -77,7 +86,7 @@ impl Work {
         Some(best?.0)
     }
 
-    fn rounds(&mut self, network: &Network) {
+    pub fn rounds(&mut self, network: &Network) {
         while let Some(r) = self.next(network) {
             self.round(r, network.distances(r));
         }
@@ -85,7 +94,7 @@ impl Work {
 }
 
 /// The distance of an open depot, on a map that hangs together.
-fn distance(distances: &Distances, v: usize) -> usize {
+pub fn distance(distances: &Distances, v: usize) -> usize {
     distances[v].expect("the network hangs together")
 }
 
@@ -96,7 +105,7 @@ pub fn reckoning(network: &Network) -> Work {
     work
 }
 
-/// An accepted opening.
+/// An accepted opening or link.
 pub struct Opened {
     pub letter: u8,
     pub work: Work,
