@@ -50,7 +50,7 @@ unfolding lastFrom
 last-none K last M = refl
 
 last-some : (K : Shape) (last : Option UpdateOn) (M : LentMemory) (o : Notice) (os : List Notice)
-    → lastFrom K last M (o ∷ os) ≡ lastFrom K (some (record { before = M; update = opens o })) (memoryLeft (openingOn K M o)) os
+    → lastFrom K last M (o ∷ os) ≡ lastFrom K (some (record { memory = M; update = opens o })) (memoryLeft (openingOn K M o)) os
 unfolding lastFrom
 last-some K last M o os = refl
 
@@ -63,7 +63,7 @@ module _ (K : Shape) (shape : IsShape K) where
       subst (λ (H : Network). IsMarked K H (referencesOf K (M .rec) (M .links) (M .lent) (opens o)) (openingOn K M o)) (sym (opening-network K shape M o free low fits))
       (update-demand2 K shape .marks (M .rec) (M .links) (M .lent) (opens o) (opening-granted K shape M o free low fits) low)
 
-  opening-left : (M N : LentMemory) (o : Notice) → IsFree K N → o .code < places K → accepts (meant K N) o ≡ true → IsLeft K M (memoryLeft (openingOn K N o)) (some (record { before = N; update = opens o }))
+  opening-left : (M N : LentMemory) (o : Notice) → IsFree K N → o .code < places K → accepts (meant K N) o ≡ true → IsLeft K M (memoryLeft (openingOn K N o)) (some (record { memory = N; update = opens o }))
   unfolding openingOn
   opening-left M N o free low fits = (refl, opening-marks N o free low fits)
 
@@ -88,7 +88,7 @@ module _ (K : Shape) (shape : IsShape K) where
           let low = codes e (fit-some G (S .waiting) e q) in
           let fits = fit-accepts G (S .waiting) e q in
           let next = opening-network K shape (S .memory) (e .notice) free low fits in
-          let this : UpdateOn = record { before = S .memory; update = opens (e .notice) } in
+          let this : UpdateOn = record { memory = S .memory; update = opens (e .notice) } in
           let rest =
           ih (turned K S e) (some this) (opening-free K shape (S .memory) (e .notice) free low) (λ f m. codes f (without-out (e .number) (S .waiting) m))
           (opening-left M (S .memory) (e .notice) free low fits) in

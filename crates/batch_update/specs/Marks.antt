@@ -21,14 +21,14 @@ use Rattle.batch_update.specs.Demand2.{AreCodes}
 
 -- an update with the memory that it was lent
 pub record UpdateOn : Type 0 where
-  pub before : LentMemory
+  pub memory : LentMemory
   pub update : Update
 
 -- the last of some openings one after the other, `last` being the update before them
 unfoldable pub lastFrom : Shape → Option UpdateOn → LentMemory → List Notice → Option UpdateOn
 unfolding openingOn
 lastFrom K last M [] = last
-lastFrom K last M (o ∷ os) = lastFrom K (some (record { before = M; update = opens o })) (memoryLeft (openingOn K M o)) os
+lastFrom K last M (o ∷ os) = lastFrom K (some (record { memory = M; update = opens o })) (memoryLeft (openingOn K M o)) os
 
 -- the last accepted opening of a batch
 unfoldable pub lastOpening : Shape → Record → List ℕ → Lent → List ℕ → Option UpdateOn
@@ -39,7 +39,7 @@ lastOpening K rec links B input = lastFrom K none (lentMemory rec links B) (noti
 abbrev pub IsLeftBy : Shape → Step → Network → LentMemory → LentMemory → Option UpdateOn → Type 0
 IsLeftBy K step H M N none = N ≡ M
 IsLeftBy K step H M N (some u) =
-    let b = u .before in
+    let b = u .memory in
     let l = step (b .rec) (b .links) (b .lent) (u .update) in
     (N ≡ memoryLeft l) × IsMarked K H (referencesOf K (b .rec) (b .links) (b .lent) (u .update)) l
 

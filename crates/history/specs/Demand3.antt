@@ -44,7 +44,7 @@ lastOfBatch zero K N lines = lastOpening K (N .rec) (N .links) (N .lent) lines
 lastOfBatch (suc k) K N lines = none
 
 unfoldable pub lastUpdate : Shape → LentMemory → List ℕ → Ask → Option UpdateOn
-lastUpdate K N left (update u) = some (record { before = N; update = u })
+lastUpdate K N left (update u) = some (record { memory = N; update = u })
 lastUpdate K N left (batch lines) = lastOfBatch (batchRefusal K (N .rec) (N .links) (N .lent .pairs) (sizesOf (N .links) (N .lent)) (length left) lines) K N lines
 
 -- the call c leaves, of the memory M, the marks of its last update (`IsLeftBy`): marks, number of searches, and after a shrink the cover of what it did
