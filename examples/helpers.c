@@ -3,7 +3,7 @@
  *
  * In the repository's root:
  *
- *   rt staticlib zorpedi
+ *   tools/archive
  *   cc -std=c11 -Wall -Wextra -Iinclude examples/helpers.c target/staticlib/libzorpedi.a -o target/helpers && target/helpers
  */
 #include <stdio.h>

@@ -3,7 +3,7 @@
  *
  * In the repository's root:
  *
- *   rt staticlib zorpedi
+ *   tools/archive
  *   cc -std=c11 -Wall -Wextra -Iinclude examples/path.c target/staticlib/libzorpedi.a -o target/path && target/path
  */
 #include <stdio.h>

@@ -3,7 +3,7 @@
  *
  * In the repository's root:
  *
- *   rt staticlib zorpedi
+ *   tools/archive
  *   cc -std=c11 -Wall -Wextra -Iinclude examples/seven.c target/staticlib/libzorpedi.a -o target/seven && target/seven
  */
 #include <stdio.h>

@@ -1,13 +1,14 @@
 /* Zorpedi, the handover map, for C and C++.
  *
  * A map of depots and the links between them. It takes opening notices one by one and keeps the longest chain (the network's diameter) and
- * the set of farthest pairs. Link with target/staticlib/libzorpedi.a (`rt staticlib zorpedi` makes it). examples/seven.c shows its use. Rules
+ * the set of farthest pairs. Link with target/staticlib/libzorpedi.a (`tools/archive` makes it). examples/seven.c shows its use. Rules
  * cited by number are those of docs/RULES.md.
  *
  * WHAT IS PROMISED
  * Each promise below holds for every value of every argument, and is proved. It settles the answer and every element lent: what is not named
  * as written keeps its value. Each function returns, allocates nothing, keeps nothing between calls, and touches no memory but what is lent.
- * What is said here in words is exact in the contracts of crates/zorpedi/src, whose definitions stand in the crates' specs folders.
+ * What is said here in words is exact in the contracts of crates/c_maps/src, crates/c_updates/src and crates/c_streams/src, whose definitions stand in
+ * the crates' specs folders.
  *
  * WHAT IS ASSUMED OF THE CALLER
  * - Every pointer is valid for its length, aligned for its type and not null, also where the length is 0.

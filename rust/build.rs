@@ -1,4 +1,4 @@
-//! Finds libzorpedi.a: in ZORPEDI_LIB_DIR, else in the repository's target/staticlib, where `rt staticlib zorpedi` puts it.
+//! Finds libzorpedi.a: in ZORPEDI_LIB_DIR, else in the repository's target/staticlib, where `tools/archive` puts it.
 use std::env;
 use std::path::PathBuf;
 use std::process::exit;
@@ -14,7 +14,7 @@ fn main() {
     println!("cargo:rerun-if-changed={}", archive.display());
     if !archive.is_file() {
         eprintln!(
-            "{} is not there. Run `rt staticlib zorpedi` in the repository, or set ZORPEDI_LIB_DIR to its folder.",
+            "{} is not there. Run `tools/archive` in the repository, or set ZORPEDI_LIB_DIR to its folder.",
             archive.display()
         );
         exit(1);

@@ -24,7 +24,7 @@ GROUPS = [
         'demand3']),
     ('lines', 'notice report', ['one-line', 'round-trip', 'line-injective']),
     ('the stream', 'stream', ['pieces-alike', 'rest-unread', 'turn-uses', 'turn-all']),
-    ('the calls for C', 'zorpedi', ['opened-words', 'batched-words']),
+    ('the calls for C', 'c_maps c_updates c_streams', ['opened-words', 'batched-words']),
     ('the table of cases', '', ['cases-hold']),
 ]
 
@@ -116,6 +116,14 @@ def contract_of(text, function):
     return re.sub(r'//.*', '', match.group(0)) if match else None
 
 
+def crate_for_c(function):
+    """the crate that exports a function for C"""
+    for path in sorted(glob.glob('crates/c_*/src/**/*.rt', recursive=True)):
+        if contract_of(read(path), function):
+            return path.split('/')[1]
+    sys.exit(f'no crate exports {function}')
+
+
 def public_calls():
     """(crate, function) of the headings of the promises"""
     for heading in re.findall(r'^## .*', read('docs/PROMISES.md'), re.M):
@@ -123,7 +131,7 @@ def public_calls():
             if '::' in name:
                 yield tuple(name.split('::'))
             elif name.startswith('zorpedi_'):
-                yield 'zorpedi', name
+                yield crate_for_c(name), name
 
 
 class Reading:

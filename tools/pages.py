@@ -21,7 +21,7 @@ edits = {os.path.splitext(os.path.basename(p))[0]: p for p in glob.glob('crates/
 def files_of(token):
     """the files that a token names, [] if it names none that is there, None if it is no path"""
     match = CRATE_PATH.match(token)
-    if match and match.group(1) in crates | {'figures', 'lending', 'lines', 'foreign', 'testbed'}:
+    if match and match.group(1) in crates | {'figures', 'lending', 'lines', 'foreign', 'testbed', 'zorpedi'}:
         base = 'crates/' + token
     elif re.match(r'^(docs|examples|include|rust|bench|tools|crates)(/|$)|^(crates\.txt|\.ci/run|README\.md)$', token):
         base = token

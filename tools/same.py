@@ -1,7 +1,7 @@
 #!/usr/bin/env python3
 """Does each contract still say what it said at a commit? Writes laws `old ≡ new`, each by `refl`, for the clauses that changed by more than layout.
 
-    tools/same.py COMMIT HOST CRATE..   e.g. tools/same.py HEAD~3 zorpedi search stream zorpedi: the laws go into the proofs of the crate HOST
+    tools/same.py COMMIT HOST CRATE..   e.g. tools/same.py HEAD~3 c_streams stream c_streams: the laws go into the proofs of the crate HOST
     rt dev HOST                         must say `proved`; then change one law, and it must not
     tools/same.py --undo HOST           takes the laws out again
 

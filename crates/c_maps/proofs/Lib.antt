@@ -1,0 +1,4 @@
+-- What emptying, the search and the whole reckoning leave.
+pub mod Answers
+-- What the calls on depots near one leave.
+pub mod Nears

@@ -1,0 +1,100 @@
+-- OPENING AND BATCH FOR OTHER LANGUAGES ARE THE CALLS of the same names on the record in the words, so that demand 3 speaks of a list of these calls.
+-- Assumes nothing.
+use mathlib.Core.Path.{_≡_, refl, _∙_}
+use mathlib.Core.List.{List, [], _∷_}
+use Prim.Native.Nat.{ℕ, zero, suc, _≤_}
+use native.Mathlib.Omega.{arith}
+use lib.ListN.{length, length-take}
+use borrow.Author.Tests.{le-ltb}
+use Rattle.outcome.specs.declared.Outcome.the-variants.{Accepted}
+use Rattle.lists.proofs.Fills.{overwrite-length}
+use Rattle.outcome.specs.declared.Change.{Change}
+use Rattle.rows.specs.Rows.{encodeRow}
+use Rattle.rows.proofs.Written.{encode-row-length}
+use Rattle.map.specs.Memory.{base}
+use Rattle.map.specs.Room.{Lent, sizesOf}
+use Rattle.update.specs.UpdateCall.{updateRefusal, networkAfter, updatedBy, UpdateLeft, updateGiven, updateCall}
+use Rattle.c_values.specs.Words.{recordWords, recordOf}
+use Rattle.c_values.proofs.Theorems.{words-read}
+use Rattle.c_updates.specs.OpenOuts.{OpenOut, openFrom, openOut}
+use Rattle.c_updates.specs.BatchOuts.{BatchOut, batchFrom, batchOut}
+use Rattle.graph.specs.Opening.{Notice}
+use Rattle.graph.specs.Updates.{Update, opens}
+use Rattle.graph.specs.Batch.{noticesOf}
+use Rattle.batch_update.specs.BatchCall.{batchRefusal, LentMemory, lentMemory, openingOn, memoryLeft, openAll, batchOn, BatchLeft, batchGiven, batchCall}
+use Rattle.batch_update.specs.declared.BatchAnswer.the-variants.{Opened}
+
+-- seven words or more begin with the four of the open set
+members-four : (l : List ℕ) → recordWords ≤ length l → length (recordOf l .members) ≡ 4
+unfolding recordOf
+members-four l h = length-take 4 l ∙ omega (arith, h)
+
+-- ---- the opening
+
+-- the words hold the record that the call leaves, and the tables are its tables
+abbrev Holds : OpenOut → UpdateLeft → Type 0
+Holds y x = (recordOf (y .words) ≡ x .after) × (y .links ≡ x .links) × (y .lent ≡ x .lent)
+
+holds-accepted : (x : UpdateLeft) (l : List ℕ) (old : ℕ) (c : Change) → length (x .after .members) ≡ 4 → Holds (openFrom (Accepted c) x l old) x
+unfolding openFrom
+holds-accepted x l old c e = (words-read (x .after) l e, refl, refl)
+
+module _ (l links : List ℕ) (B : Lent) (o : Update) (old : ℕ) (h : recordWords ≤ length l) where
+  refused : (k : ℕ) → let x = updateGiven (suc k) base (recordOf l) links B o in Holds (openFrom (x .report .outcome) x l old) x
+  unfolding updateGiven openFrom
+  refused k = (refl, refl, refl)
+
+  holds-given : (k : ℕ) → let x = updateGiven k base (recordOf l) links B o in Holds (openFrom (x .report .outcome) x l old) x
+  unfolding updateGiven
+  holds-given zero =
+      let row = encodeRow 4 (networkAfter base (recordOf l) links o .isOpen) in
+      holds-accepted (updateGiven 0 base (recordOf l) links B o) l old (updatedBy base (recordOf l) links (B .pairs) o .change)
+      (overwrite-length row (recordOf l .members) (omega (arith, encode-row-length 4 (networkAfter base (recordOf l) links o .isOpen), members-four l h)) ∙ members-four l h)
+  holds-given (suc k) = refused k
+
+  -- ON A RECORD OF SEVEN WORDS the call leaves what `updateCall` leaves, accepted or refused: a list of these calls is a list of those
+  pub opened-words : Holds (openOut l links B o old) (updateCall base (recordOf l) links B o)
+  unfolding updateCall openOut
+  opened-words = rw (le-ltb (length l) recordWords h) (holds-given (updateRefusal base (recordOf l) links (B .pairs) (sizesOf links B) o))
+
+-- ---- the batch
+
+-- the words hold the record that the call leaves; tables and places are its own
+abbrev HoldsBatch : BatchOut → BatchLeft → Type 0
+HoldsBatch y x = (recordOf (y .words) ≡ x .memory .rec) × (y .links ≡ x .memory .links) × (y .lent ≡ x .memory .lent) × (y .left ≡ x .left)
+
+holds-batch : (n : ℕ) (x : BatchLeft) (l : List ℕ) (old : ℕ) → length (x .memory .rec .members) ≡ 4 → HoldsBatch (batchFrom (Opened n) x l old) x
+unfolding batchFrom
+holds-batch n x l old e = (words-read (x .memory .rec) l e, refl, refl, refl)
+
+-- no opening changes how many words the open set has
+given-four : (M : LentMemory) (o : Update) → length (M .rec .members) ≡ 4 → (k : ℕ) → length (updateGiven k base (M .rec) (M .links) (M .lent) o .after .members) ≡ 4
+unfolding updateGiven
+given-four M o e zero =
+    let open-set = networkAfter base (M .rec) (M .links) o .isOpen in
+    overwrite-length (encodeRow 4 open-set) (M .rec .members) (omega (arith, encode-row-length 4 open-set, e)) ∙ e
+given-four M o e (suc k) = e
+
+all-four : (os : List Notice) (M : LentMemory) → length (M .rec .members) ≡ 4 → length (openAll base M os .rec .members) ≡ 4
+unfolding openAll openingOn updateCall
+all-four [] M e = e
+all-four (o ∷ os) M e =
+    all-four os (memoryLeft (openingOn base M o))
+    (given-four M (opens o) e (updateRefusal base (M .rec) (M .links) (M .lent .pairs) (sizesOf (M .links) (M .lent)) (opens o)))
+
+module _ (l links : List ℕ) (B : Lent) (left : List ℕ) (old : ℕ) (lines : List ℕ) (h : recordWords ≤ length l) where
+  batch-refused : (k : ℕ) → let x = batchGiven (suc k) base (recordOf l) links B left lines in HoldsBatch (batchFrom (x .answer) x l old) x
+  unfolding batchGiven batchFrom
+  batch-refused k = (refl, refl, refl, refl)
+
+  batch-given : (k : ℕ) → let x = batchGiven k base (recordOf l) links B left lines in HoldsBatch (batchFrom (x .answer) x l old) x
+  unfolding batchGiven
+  batch-given zero =
+      holds-batch _ (batchGiven 0 base (recordOf l) links B left lines) l old
+      (all-four (noticesOf (batchOn base (recordOf l) links lines .accepted)) (lentMemory (recordOf l) links B) (members-four l h))
+  batch-given (suc k) = batch-refused k
+
+  -- ON A RECORD OF SEVEN WORDS the call leaves what `batchCall` leaves, accepted or refused
+  pub batched-words : HoldsBatch (batchOut l links B left old lines) (batchCall base (recordOf l) links B left lines)
+  unfolding batchCall batchOut
+  batched-words = rw (le-ltb (length l) recordWords h) (batch-given (batchRefusal base (recordOf l) links (B .pairs) (sizesOf links B) (length left) lines))

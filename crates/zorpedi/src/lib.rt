@@ -1,9 +1,0 @@
-// The calls of the handover map for C, C++ and Rust: plain numbers, and slices as pointer and length. Each has the promise of the call that it
-// wraps and asks nothing: bad input gets its numbered refusal, and then nothing lent has changed, the lent numbers included.
-// The record of a map is lent as seven words: the open set (four), the number open, the longest chain, the pair count.
-mod batches;
-mod maps;
-mod near;
-mod streams;
-mod texts;
-mod version;
