@@ -37,7 +37,8 @@ returns-2 c =
     let after-record-of : tie.After-record-of = search back in
     let else1 : tie.Else1 = search back in
     let after-step-refusal : tie.After-step-refusal = search back in
-    search (finish-done, needs)
+    finish-done _ _ _ _ _ _ _ _ _ _ _ _ _ _ (after-step-refusal .step-refusal .ensures) (else1 .if1 .left) (after-record-of .record-of .ensures)
+    (after-finish .finish .result) _ _ _ _ _ (after-put-record .put-record .ensures) (after-finish .finish .ensures .0)
 
 pub zorpedi-finish-spec : {M : Type 1} → statement M
 zorpedi-finish-spec =
