@@ -26,11 +26,12 @@ put-record-requires c κs =
 returns-2 : tie.Need-returns-2
 returns-2 c =
     let after-put-record : tie.After-put-record = search back in
-    let after-known-told : tie.After-known-told = search back in
+    let after-answer : tie.After-answer = search back in
     let after-open-batch : tie.After-open-batch = search back in
     let after-record-of : tie.After-record-of = search back in
     let else1 : tie.Else1 = search back in
-    search (batch-done, needs)
+    batch-done _ _ _ _ _ _ (else1 .if1 .left) (after-record-of .record-of .ensures) (after-open-batch .open-batch .result)
+    (after-open-batch .open-batch .ensures) (after-answer .answer .given .1) (after-put-record .put-record .ensures)
 
 returns-3 : tie.Need-returns-3
 returns-3 c =

@@ -20,7 +20,8 @@ returns-2 c =
     let after-open-step : tie.After-open-step = search back in
     let after-record-of : tie.After-record-of = search back in
     let else1 : tie.Else1 = search back in
-    search (open-done, needs)
+    open-done _ _ _ _ _ (else1 .if1 .left) (after-record-of .record-of .ensures) (after-open-step .open-step .result)
+    (after-open-step .open-step .ensures) (after-enum-told .enum-told .given .1) (c .letter .ensures) (after-put-record .put-record .ensures)
 
 returns-3 : tie.Need-returns-3
 returns-3 c =
