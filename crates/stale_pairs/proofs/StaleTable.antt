@@ -1,8 +1,7 @@
--- The loop of `drop_stale`: the rows below u have only the pairs that stay, those from u on all of theirs; counts and greatest way of the rows done.
--- Assumes nothing.
+-- The loop of `drop_rows`: after each row the statement itself, `dropRowsOf`, for the rows done. Assumes nothing.
 use mathlib.Core.Path.{_≡_, refl, sym, ap, ap₂, _∙_}
 use mathlib.Core.Logic.{_≢_, _⊎_, inl, inr}
-use mathlib.Core.Bool.{Bool, false, cond, not, _&&_}
+use mathlib.Core.Bool.{Bool, true, false, cond, not, _&&_}
 use mathlib.Core.List.{List}
 use Prim.Native.Nat.{ℕ, _+_, _*_, _^_, _≤_, _<_, min, max}
 use native.Mathlib.Omega.{arith}
@@ -13,145 +12,196 @@ use Rattle.lists.specs.Lists.{range, countb, sumOf, maxOf, overwrite}
 use Rattle.lists.proofs.Tests.{eq-or-ne, lt-or-ge}
 use Rattle.lists.proofs.Members.{length-range, range-out}
 use Rattle.lists.proofs.Counts.{count-le-length, count-none}
+use Rattle.lists.proofs.Sums.{sum-add}
 use Rattle.lists.proofs.RangeCounts.{count-same}
+use Rattle.lists.proofs.Ranges.{sum-nothing, sum-more, sum-skip, sum-few, max-nothing, max-more, max-skip, max-none, max-same}
 use Rattle.graph.specs.Chart.{Pairs, countPairs}
+use Rattle.graph.specs.Opening.{stayingPairs, shrunkCandidate}
 use Rattle.rows.specs.Rows.{tableBit, encodeTable}
 use Rattle.rows.proofs.Written.{table-at}
 use Rattle.rows.proofs.Wholes.{table-whole, encode-table-ext}
-use Rattle.stale_pairs.specs.Stale.{Dropped, dropped, dropRowOf, dropOf, Bare}
 use Rattle.pairs.specs.Pairs.{tally, tallyOf}
-use Rattle.lists.proofs.Ranges.{sum-nothing, sum-more, sum-skip, max-nothing, max-more, max-skip, max-none, max-same}
 use Rattle.pairs.proofs.Tallies.{table-over}
-use Rattle.graph.specs.Opening.{stayingPairs, shrunkCandidate}
+use Rattle.stale_pairs.specs.Stale.{wayBy, wayByEither, wayFrom, dropped, RowsDropped, rowsDropped, stalePairs, pairsAfter, rowGone, rowStays, rowWay, dropRowOf, dropRowsOf, dropOf, Bare}
+use Rattle.stale_pairs.proofs.StaleRow.{count-parted, same-rows}
+
+-- a row has at most 64 W pairs, and so no more go or stay
+few-in : (W : ℕ) (far : ℕ → ℕ → ℕ) (D : ℕ) (P : Pairs) (u : ℕ) → rowGone W far D P u + rowStays W far D P u ≤ 64 * W
+unfolding rowGone rowStays
+few-in W far D P u = omega (arith, count-parted far D P u (range (64 * W)), count-le-length (P u) (range (64 * W)), length-range (64 * W))
+
+pub row-few : (W : ℕ) (far : ℕ → ℕ → ℕ) (D u : ℕ) (t : List ℕ) {t′ : List ℕ} {g k w : ℕ} → rowsDropped t′ g k w ≡ dropRowOf W far D u t → g + k ≤ 64 * W
+unfolding dropRowOf
+row-few W far D u t r = omega (arith, ap (λ (x : RowsDropped). x .gone + x .left .left .count) r, few-in W far D (tableBit W t) u)
 
 module _ (W : ℕ) (far : ℕ → ℕ → ℕ) (D : ℕ) (t₀ : List ℕ) where
-  -- how many pairs of a row stay, and the row's greatest way
-  unfoldable pub rowStays : ℕ → ℕ
-  rowStays p = countb (stayingPairs far D (tableBit W t₀) p) (range (64 * W))
-
-  unfoldable pub rowWay : ℕ → ℕ
-  rowWay p = maxOf (λ v. cond (tableBit W t₀ p v) (min D (far p v)) 0) (range (64 * W))
+  abbrev P₀ : Pairs
+  P₀ = tableBit W t₀
 
   -- the pairs left when the rows below u are done
-  unfoldable pub leftAbove : ℕ → Pairs
-  leftAbove u p v = cond (ltb p u) (stayingPairs far D (tableBit W t₀) p v) (tableBit W t₀ p v)
+  abbrev leftAbove : ℕ → Pairs
+  leftAbove u = pairsAfter (λ p. ltb p u) far D P₀
 
-  -- a row of at most 512 words has at most 32,768 pairs
-  pub record TableDropping (t : List ℕ) (n w u : ℕ) : Type 0 where
-    pub within : u ≤ 64 * W
-    pub table : t ≡ overwrite (encodeTable W (leftAbove u)) t₀
+  -- THE INVARIANT: u of n rows are done, and the statement holds of them
+  pub record RowsDropping (n : ℕ) (t : List ℕ) (g k w u : ℕ) : Type 0 where
+    pub within : u ≤ n
     pub size : length t ≡ length t₀
-    pub count : n ≡ sumOf rowStays (range u)
-    pub few : n ≤ 32768 * u
-    pub way : w ≡ maxOf rowWay (range u)
+    pub is : rowsDropped t g k w ≡ dropRowsOf W far D u t₀
 
-  left-done : (u p v : ℕ) → p < u → leftAbove u p v ≡ stayingPairs far D (tableBit W t₀) p v
-  unfolding leftAbove
+  pub left-done : (u p v : ℕ) → p < u → leftAbove u p v ≡ stayingPairs far D P₀ p v
+  unfolding pairsAfter
   left-done u p v l = rw (lt-ltb p u l)
 
-  left-yet : (u p v : ℕ) → u ≤ p → leftAbove u p v ≡ tableBit W t₀ p v
-  unfolding leftAbove
+  pub left-yet : (u p v : ℕ) → u ≤ p → leftAbove u p v ≡ P₀ p v
+  unfolding pairsAfter
   left-yet u p v l = rw (le-ltb p u l)
 
-  pub table-start : W * (64 * W) ≤ length t₀ → ((i : ℕ) → i < W * (64 * W) → getD t₀ i 0 < 2 ^ 64) → TableDropping t₀ 0 0 0
-  table-start l fits = record {
+  -- no row is done
+  pub rows-start : {n : ℕ} → W * (64 * W) ≤ length t₀ → ((i : ℕ) → i < W * (64 * W) → getD t₀ i 0 < 2 ^ 64) → RowsDropping n t₀ 0 0 0 0
+  unfolding dropRowsOf
+  rows-start l fits = record {
     within = omega arith;
-    table = table-whole W t₀ l fits ∙ ap (λ (e : List ℕ). overwrite e t₀) (encode-table-ext W (tableBit W t₀) (leftAbove 0) (λ p v a b. sym (left-yet 0 p v (omega arith))));
     size = refl;
-    count = sym (sum-nothing rowStays);
-    few = omega arith;
-    way = sym (max-nothing rowWay);
+    is =
+        same-rows
+        (table-whole W t₀ l fits ∙ ap (λ (e : List ℕ). overwrite e t₀) (encode-table-ext W P₀ (leftAbove 0) (λ p v a b. sym (left-yet 0 p v (omega arith)))))
+        (sym (sum-nothing (rowGone W far D P₀)))
+        (sym (sum-nothing (rowStays W far D P₀)))
+        (sym (max-nothing (rowWay W far D P₀)));
   }
 
-  -- k rows more that have no pair
-  pub table-bare : {t : List ℕ} {n w u k : ℕ} → TableDropping t n w u → Bare W t u k → TableDropping t n w (u + k)
-  unfolding rowStays rowWay stayingPairs
-  table-bare {t} {n} {w} {u} {k} i r = record {
-    within = r .within;
-    table = i .table ∙ ap (λ (e : List ℕ). overwrite e t₀) (encode-table-ext W (leftAbove u) (leftAbove (u + k)) (λ p v l h. same p v h (lt-or-ge p u) (lt-or-ge p (u + k))));
-    size = i .size;
-    count = i .count ∙ sym (sum-skip rowStays u (u + k) (omega arith) (λ p a b. count-none (stayingPairs far D (tableBit W t₀) p) (range (64 * W)) (λ v m. stays p v a b (range-out (64 * W) m))));
-    few = omega (arith, i .few);
-    way = i .way ∙ sym (max-skip rowWay u (u + k) (omega arith) (λ p a b. max-none (λ v. cond (tableBit W t₀ p v) (min D (far p v)) 0) (64 * W)
-        (λ v h. ap (λ (y : Bool). cond y (min D (far p v)) 0) (bare p v a b h))));
-  }
-    where
-      bare : (p v : ℕ) → u ≤ p → p < u + k → v < 64 * W → tableBit W t₀ p v ≡ false
-      bare p v a b h =
-          let l : p < 64 * W = omega (arith, r .within) in
-          sym (ap (λ (s : List ℕ). tableBit W s p v) (i .table) ∙ table-at W (leftAbove u) t₀ p v l h ∙ left-yet u p v a) ∙ r .none p v a b h
+  module _ {n : ℕ} {t : List ℕ} {g k w u : ℕ} (i : RowsDropping n t g k w u) where
+    -- the statement, part by part
+    done-table : t ≡ overwrite (encodeTable W (leftAbove u)) t₀
+    unfolding dropRowsOf
+    done-table = ap (λ (x : RowsDropped). x .left .left .pairs) (i .is)
 
-      stays : (p v : ℕ) → u ≤ p → p < u + k → v < 64 * W → stayingPairs far D (tableBit W t₀) p v ≡ false
-      stays p v a b h = ap (λ (y : Bool). y && not (ltb (far p v) D)) (bare p v a b h)
+    done-gone : g ≡ sumOf (rowGone W far D P₀) (range u)
+    unfolding dropRowsOf
+    done-gone = ap (λ (x : RowsDropped). x .gone) (i .is)
 
-      same : (p v : ℕ) → v < 64 * W → (p < u) ⊎ (u ≤ p) → (p < u + k) ⊎ (u + k ≤ p) → leftAbove u p v ≡ leftAbove (u + k) p v
-      same p v h (inl a) b = left-done u p v a ∙ sym (left-done (u + k) p v (omega arith))
-      same p v h (inr a) (inl b) = left-yet u p v a ∙ bare p v a b h ∙ sym (left-done (u + k) p v b ∙ stays p v a b h)
-      same p v h (inr a) (inr b) = left-yet u p v a ∙ sym (left-yet (u + k) p v b)
+    done-count : k ≡ sumOf (rowStays W far D P₀) (range u)
+    unfolding dropRowsOf
+    done-count = ap (λ (x : RowsDropped). x .left .left .count) (i .is)
 
-  -- one row more
-  module _ {t : List ℕ} {n w u : ℕ} (i : TableDropping t n w u) (below : u < 64 * W) where
-    -- the row is as it was
-    bit-yet : (v : ℕ) → v < 64 * W → tableBit W t u v ≡ tableBit W t₀ u v
-    bit-yet v h = ap (λ (s : List ℕ). tableBit W s u v) (i .table) ∙ table-at W (leftAbove u) t₀ u v below h ∙ left-yet u u v (omega arith)
+    done-way : w ≡ maxOf (rowWay W far D P₀) (range u)
+    unfolding dropRowsOf
+    done-way = ap (λ (x : RowsDropped). x .left .way) (i .is)
 
-    stay-yet : (v : ℕ) → v < 64 * W → stayingPairs far D (tableBit W t) u v ≡ stayingPairs far D (tableBit W t₀) u v
-    unfolding stayingPairs
-    stay-yet v h = ap (λ (b : Bool). b && not (ltb (far u v) D)) (bit-yet v h)
+    -- there are at most 32,768 for each row
+    pub rows-few : W < 513 → g + k ≤ 32768 * u
+    rows-few z =
+        let f : ℕ → ℕ = λ p. rowGone W far D P₀ p + rowStays W far D P₀ p in
+        let few = sum-few f 32768 u (λ p l. omega (arith, few-in W far D P₀ p)) in
+        omega (arith, done-gone, done-count, sum-add (rowGone W far D P₀) (rowStays W far D P₀) (range u), few)
 
-    left-row : (p v : ℕ) → p < 64 * W → v < 64 * W → cond (eqb p u) (stayingPairs far D (tableBit W t) p v) (tableBit W t p v) ≡ leftAbove (u + 1) p v
-    left-row p v l h = go (eq-or-ne p u) (lt-or-ge p u)
+    -- the rows from u on are as they were
+    bit-yet : (p v : ℕ) → u ≤ p → p < 64 * W → v < 64 * W → tableBit W t p v ≡ P₀ p v
+    bit-yet p v a l h = ap (λ (s : List ℕ). tableBit W s p v) done-table ∙ table-at W (leftAbove u) t₀ p v l h ∙ left-yet u p v a
+
+    -- b rows more that have no pair
+    pub rows-bare : {b : ℕ} → n ≤ 64 * W → Bare W n t u b → RowsDropping n t g k w (u + b)
+    unfolding dropRowsOf rowGone rowStays rowWay stalePairs stayingPairs
+    rows-bare {b} m r = record {
+      within = r .within;
+      size = i .size;
+      is =
+          same-rows
+          (done-table ∙ ap (λ (e : List ℕ). overwrite e t₀) (encode-table-ext W (leftAbove u) (leftAbove (u + b)) (λ p v l h. same p v h (lt-or-ge p u) (lt-or-ge p (u + b)))))
+          (done-gone ∙ sym (sum-skip (rowGone W far D P₀) u (u + b) (omega arith) (λ p c d. none-of (λ v a. a && ltb (far p v) D) (λ v. refl) p c d)))
+          (done-count ∙ sym (sum-skip (rowStays W far D P₀) u (u + b) (omega arith) (λ p c d. none-of (λ v a. a && not (ltb (far p v) D)) (λ v. refl) p c d)))
+          (done-way ∙ sym (max-skip (rowWay W far D P₀) u (u + b) (omega arith)
+          (λ p c d. max-none (λ v. cond (P₀ p v) (min D (far p v)) 0) (64 * W) (λ v h. ap (λ (y : Bool). cond y (min D (far p v)) 0) (bare p v c d h)))));
+    }
       where
-        was : tableBit W t p v ≡ leftAbove u p v
-        was = ap (λ (s : List ℕ). tableBit W s p v) (i .table) ∙ table-at W (leftAbove u) t₀ p v l h
+        bare : (p v : ℕ) → u ≤ p → p < u + b → v < 64 * W → P₀ p v ≡ false
+        bare p v c d h = sym (bit-yet p v c (omega (arith, r .within)) h) ∙ r .none p v c d h
 
-        go : (p ≡ u) ⊎ (p ≢ u) → (p < u) ⊎ (u ≤ p) → cond (eqb p u) (stayingPairs far D (tableBit W t) p v) (tableBit W t p v) ≡ leftAbove (u + 1) p v
-        go (inl e) o = rw (e, eq-eqb u u refl) (stay-yet v h ∙ sym (left-done (u + 1) u v (omega arith)))
-        go (inr e) (inl m) = rw (ne-eqb p u e) (was ∙ left-done u p v m ∙ sym (left-done (u + 1) p v (omega arith)))
-        go (inr e) (inr m) = rw (ne-eqb p u e) (was ∙ left-yet u p v m ∙ sym (left-yet (u + 1) p v (omega arith)))
+        -- a test that passes pairs alone passes none of such a row
+        none-of : (f : ℕ → Bool → Bool) → ((v : ℕ) → f v false ≡ false) → (p : ℕ) → u ≤ p → p < u + b → countb (λ v. f v (P₀ p v)) (range (64 * W)) ≡ 0
+        none-of f z p c d = count-none (λ v. f v (P₀ p v)) (range (64 * W)) (λ v l. ap (f v) (bare p v c d (range-out (64 * W) l)) ∙ z v)
 
-    -- what `drop_row` says of row u
-    module _ {t′ : List ℕ} {k d : ℕ} (r : dropped (tally t′ k) d ≡ dropRowOf W far D u t) where
+        same : (p v : ℕ) → v < 64 * W → (p < u) ⊎ (u ≤ p) → (p < u + b) ⊎ (u + b ≤ p) → leftAbove u p v ≡ leftAbove (u + b) p v
+        same p v h (inl c) d = left-done u p v c ∙ sym (left-done (u + b) p v (omega arith))
+        same p v h (inr c) (inl d) =
+            left-yet u p v c ∙ bare p v c d h ∙ sym (left-done (u + b) p v d ∙ ap (λ (y : Bool). y && not (ltb (far p v) D)) (bare p v c d h))
+        same p v h (inr c) (inr d) = left-yet u p v c ∙ sym (left-yet (u + b) p v d)
+
+    -- one row more, of which `drop_row` says what it says
+    module _ (m : n ≤ 64 * W) (below : u < n) {t′ : List ℕ} {g′ k′ d : ℕ} (r : rowsDropped t′ g′ k′ d ≡ dropRowOf W far D u t) where
+      -- the row is as it was
+      row-yet : (v : ℕ) → v < 64 * W → tableBit W t u v ≡ P₀ u v
+      row-yet v h = bit-yet u v (omega arith) (omega arith) h
+
+      left-row : (p v : ℕ) → p < 64 * W → v < 64 * W → pairsAfter (λ p. eqb p u) far D (tableBit W t) p v ≡ leftAbove (u + 1) p v
+      unfolding pairsAfter stayingPairs
+      left-row p v l h = go (eq-or-ne p u) (lt-or-ge p u)
+        where
+          was : tableBit W t p v ≡ leftAbove u p v
+          was = ap (λ (s : List ℕ). tableBit W s p v) done-table ∙ table-at W (leftAbove u) t₀ p v l h
+
+          go : (p ≡ u) ⊎ (p ≢ u) → (p < u) ⊎ (u ≤ p) → pairsAfter (λ p. eqb p u) far D (tableBit W t) p v ≡ leftAbove (u + 1) p v
+          go (inl e) o = rw (e, eq-eqb u u refl) (ap (λ (b : Bool). b && not (ltb (far u v) D)) (row-yet v h) ∙ sym (left-done (u + 1) u v (omega arith)))
+          go (inr e) (inl c) = rw (ne-eqb p u e) (was ∙ left-done u p v c ∙ sym (left-done (u + 1) p v (omega arith)))
+          go (inr e) (inr c) = rw (ne-eqb p u e) (was ∙ left-yet u p v c ∙ sym (left-yet (u + 1) p v (omega arith)))
+
       row-table : t′ ≡ overwrite (encodeTable W (leftAbove (u + 1))) t₀
       unfolding dropRowOf
       row-table =
-          ap (λ (x : Dropped). x .left .pairs) r
-          ∙ ap (λ (s : List ℕ). overwrite (encodeTable W (λ p v. cond (eqb p u) (stayingPairs far D (tableBit W t) p v) (tableBit W t p v))) s) (i .table)
-          ∙ table-over W (λ p v. cond (eqb p u) (stayingPairs far D (tableBit W t) p v) (tableBit W t p v)) (leftAbove u) t₀
-          ∙ ap (λ (e : List ℕ). overwrite e t₀) (encode-table-ext W (λ p v. cond (eqb p u) (stayingPairs far D (tableBit W t) p v) (tableBit W t p v)) (leftAbove (u + 1)) left-row)
+          let Q = pairsAfter (λ p. eqb p u) far D (tableBit W t) in
+          ap (λ (x : RowsDropped). x .left .left .pairs) r
+          ∙ ap (λ (s : List ℕ). overwrite (encodeTable W Q) s) done-table
+          ∙ table-over W Q (leftAbove u) t₀
+          ∙ ap (λ (e : List ℕ). overwrite e t₀) (encode-table-ext W Q (leftAbove (u + 1)) left-row)
 
-      row-count : k ≡ rowStays u
-      unfolding dropRowOf rowStays
-      row-count = ap (λ (x : Dropped). x .left .count) r ∙ count-same (64 * W) (stayingPairs far D (tableBit W t) u) (stayingPairs far D (tableBit W t₀) u) stay-yet
+      row-gone : g′ ≡ rowGone W far D P₀ u
+      unfolding dropRowOf rowGone stalePairs
+      row-gone =
+          ap (λ (x : RowsDropped). x .gone) r
+          ∙ count-same (64 * W) (stalePairs far D (tableBit W t) u) (stalePairs far D P₀ u) (λ v h. ap (λ (b : Bool). b && ltb (far u v) D) (row-yet v h))
 
-      row-way : d ≡ rowWay u
+      row-count : k′ ≡ rowStays W far D P₀ u
+      unfolding dropRowOf rowStays stayingPairs
+      row-count =
+          ap (λ (x : RowsDropped). x .left .left .count) r
+          ∙ count-same (64 * W) (stayingPairs far D (tableBit W t) u) (stayingPairs far D P₀ u) (λ v h. ap (λ (b : Bool). b && not (ltb (far u v) D)) (row-yet v h))
+
+      row-way : d ≡ rowWay W far D P₀ u
       unfolding dropRowOf rowWay
       row-way =
-          ap (λ (x : Dropped). x .way) r
-          ∙ max-same (λ v. cond (tableBit W t u v) (min D (far u v)) 0) (λ v. cond (tableBit W t₀ u v) (min D (far u v)) 0)
-          (64 * W) (λ v h. ap (λ (b : Bool). cond b (min D (far u v)) 0) (bit-yet v h))
+          ap (λ (x : RowsDropped). x .left .way) r
+          ∙ max-same (λ v. cond (tableBit W t u v) (min D (far u v)) 0) (λ v. cond (P₀ u v) (min D (far u v)) 0)
+          (64 * W) (λ v h. ap (λ (b : Bool). cond b (min D (far u v)) 0) (row-yet v h))
 
-      row-most : rowStays u ≤ 64 * W
-      unfolding rowStays
-      row-most = omega (arith, count-le-length (stayingPairs far D (tableBit W t₀) u) (range (64 * W)), length-range (64 * W))
-
-      pub table-more : {w′ : ℕ} → w′ ≡ max w d → W < 513 → length t′ ≡ length t → TableDropping t′ (n + k) w′ (u + 1)
-      table-more m z s = record {
+      pub rows-more : {w′ : ℕ} → w′ ≡ max w d → length t′ ≡ length t → RowsDropping n t′ (g + g′) (k + k′) w′ (u + 1)
+      unfolding dropRowsOf
+      rows-more e s = record {
         within = omega arith;
-        table = row-table;
         size = s ∙ i .size;
-        count = omega (arith, i .count, row-count, sum-more rowStays u);
-        few = omega (arith, i .few, row-count, row-most);
-        way = m ∙ ap₂ max (i .way) row-way ∙ sym (max-more rowWay u);
+        is =
+            same-rows
+            row-table
+            (ap₂ _+_ done-gone row-gone ∙ sym (sum-more (rowGone W far D P₀) u))
+            (ap₂ _+_ done-count row-count ∙ sym (sum-more (rowStays W far D P₀) u))
+            (e ∙ ap₂ max done-way row-way ∙ sym (max-more (rowWay W far D P₀) u));
       }
 
-  -- no row is left
-  pub table-end : {t : List ℕ} {n w u : ℕ} → TableDropping t n w u → 64 * W ≤ u → dropped (tally t n) w ≡ dropOf W far D t₀
-  unfolding dropOf tallyOf shrunkCandidate countPairs rowStays rowWay
-  table-end {t} {n} {w} {u} i z =
-      let e : u ≡ 64 * W = omega (arith, i .within) in
-      ap₂ dropped
-      (ap₂ tally
-      (i .table ∙ ap (λ (e : List ℕ). overwrite e t₀) (encode-table-ext W (leftAbove u) (stayingPairs far D (tableBit W t₀)) (λ p v a b. left-done u p v (omega arith))))
-      (i .count ∙ ap (λ (k : ℕ). sumOf rowStays (range k)) e))
-      (i .way ∙ ap (λ (k : ℕ). maxOf rowWay (range k)) e)
+    -- no row is left
+    pub rows-end : n ≤ u → rowsDropped t g k w ≡ dropRowsOf W far D n t₀
+    rows-end z = i .is ∙ ap (λ (j : ℕ). dropRowsOf W far D j t₀) (omega (arith, i .within))
+
+  -- ALL ROWS are the table: `drop_stale` is `drop_rows` over 64 W
+  pub all-rows : {t : List ℕ} {g k w : ℕ} → rowsDropped t g k w ≡ dropRowsOf W far D (64 * W) t₀ → dropped (tally t k) w ≡ dropOf W far D t₀
+  unfolding dropRowsOf dropOf tallyOf shrunkCandidate countPairs rowStays rowWay
+  all-rows q =
+      ap (λ (x : RowsDropped). x .left) q
+      ∙ ap (λ (e : List ℕ). dropped (tally (overwrite e t₀) (countPairs (range (64 * W)) (stayingPairs far D P₀))) (shrunkCandidate (range (64 * W)) far D P₀))
+      (encode-table-ext W (leftAbove (64 * W)) (stayingPairs far D P₀) (λ p v a b. left-done (64 * W) p v a))
+
+-- ---- a row by one search, or by either of two
+
+pub by-either : (W : ℕ) (near far : List ℕ) (D u : ℕ) (t : List ℕ) {b : Bool} {x : RowsDropped} → b ≡ true → x ≡ dropRowOf W (wayByEither near far) D u t → x ≡ dropRowOf W (wayFrom b near far) D u t
+by-either W near far D u t e q = rw (e) q
+
+pub by-one : (W : ℕ) (near far : List ℕ) (D u : ℕ) (t : List ℕ) {b : Bool} {x : RowsDropped} → b ≡ false → x ≡ dropRowOf W (wayBy near) D u t → x ≡ dropRowOf W (wayFrom b near far) D u t
+by-one W near far D u t e q = rw (e) q

@@ -4,7 +4,7 @@ use mathlib.Core.List.{List}
 use Prim.Native.Nat.{ℕ, _*_}
 use Rattle.pairs.specs.Pairs.{tally, Counted}
 use Rattle.pairs.proofs.Tallies.{HoldsPairs, holds-counted}
-use Rattle.stale_pairs.specs.Stale.{Dropped, dropped, wayBy, wayByEither, dropOf, HasHops}
+use Rattle.stale_pairs.specs.Stale.{Dropped, dropped, wayBy, dropOf, HasHops}
 use Rattle.graph.specs.Opening.{stayingPairs, shrunkCandidate}
 use Rattle.lists.specs.Lists.{range}
 use Rattle.rows.specs.Rows.{tableBit}
@@ -20,7 +20,3 @@ module _ (W : ℕ) (far : ℕ → ℕ → ℕ) (D : ℕ) (t : List ℕ) {t′ : 
 
 pub drop-counted : (W : ℕ) (hops : List ℕ) (D : ℕ) (t : List ℕ) {t′ : List ℕ} {n w : ℕ} → dropped (tally t′ n) w ≡ dropOf W (wayBy hops) D t → HasHops W t hops → Counted W t′ n
 drop-counted W hops D t q a = holds-counted (drop-holds W (wayBy hops) D t q) (a .positive) (a .most) (a .table)
-
-pub drop-either-counted : (W : ℕ) (near far : List ℕ) (D : ℕ) (t : List ℕ) {t′ : List ℕ} {n w : ℕ} → dropped (tally t′ n) w ≡ dropOf W (wayByEither near far) D t → HasHops W t near
-    → Counted W t′ n
-drop-either-counted W near far D t q a = holds-counted (drop-holds W (wayByEither near far) D t q) (a .positive) (a .most) (a .table)

@@ -1,15 +1,23 @@
 // Stale pairs dropped from the pair table itself: those that a search, or either of two, shows to be nearer than the chain. A row of words may be up to
 // 512 long.
-// What a function ensures of table, count and way is one equation, so that callers rewrite by it.
+// Rows are done one after the other, each in its place: there is no second pair table.
+// What a function ensures of table, counts and way is one equation, so that callers rewrite by it.
 ghost use mathlib.Core.Path.{_≡_};
-ghost use Prim.Native.Nat.{_+_, _*_, _%_, _<_, _≤_, min, max};
+ghost use Prim.Native.Nat.{_+_, _*_, _<_, _≤_, min, max};
 ghost use lib.ListN.{length};
-ghost use Rattle.words.specs.Bits.{wordOf};
 ghost use Rattle.pairs.specs.Pairs.{tally};
-ghost use Rattle.stale_pairs.specs.Stale.{HasHops, Bare, wayBy, wayByEither, dropped, stayingBit, greatestBit, dropRowOf, dropOf};
+ghost use Rattle.stale_pairs.specs.Stale.{HasHops, Bare, wayBy, wayByEither, wayFrom, sifted, siftOf};
+ghost use Rattle.stale_pairs.specs.Stale.{dropped, rowsDropped, dropRowOf, dropRowsOf, dropOf};
 
 // How many pairs stay, and the greatest way of those that were there.
 pub struct Dropping {
+    pub count: u32,
+    pub way: u16,
+}
+
+// Of the rows done: how many of their pairs are gone, how many stay, and the greatest way of those that were there.
+pub struct RowsDropping {
+    pub gone: u32,
     pub count: u32,
     pub way: u16,
 }
@@ -38,9 +46,12 @@ fn way_by(hops: &[u16], u: usize, v: usize, chain: u16) -> u16
     chain
 }
 
-// The members of a word that stay, and the greatest way of those that were there.
+// The members of a word that stay, how many went and how many stay, and the greatest way of those that were there. They are counted as they are met: few
+// words of a pair table have many.
 pub struct Sifted {
     pub word: u64,
+    pub gone: u32,
+    pub kept: u32,
     pub way: u16,
 }
 
@@ -49,9 +60,11 @@ fn sift(hops: &[u16], x: u64, u: usize, first: usize, chain: u16) -> Sifted
     requires { ⌜ (u < length (now hops)) × (first + 64 ≤ length (now hops)) ⌝ }
     ensures { λ r.
         let way = wayBy (now (hops .entry)) in
-        ⌜ (r .word ≡ wordOf 64 (stayingBit way chain u first x)) × (r .way ≡ greatestBit way chain u first x) ⌝ }
+        ⌜ sifted (r .word) (r .gone) (r .kept) (r .way) ≡ siftOf way chain u first x ⌝ }
 {
     let mut word = x;
+    let mut gone: u32 = 0;
+    let mut kept: u32 = 0;
     let mut way: u16 = 0;
     let mut left = x;
     while left != 0 {
@@ -60,99 +73,20 @@ fn sift(hops: &[u16], x: u64, u: usize, first: usize, chain: u16) -> Sifted
         way = longer(way, d);
         if d < chain {
             word = words::without_bit(word, b);
+            gone += 1;
             left = words::drop_least(left);
         } else {
+            kept += 1;
             left = words::drop_least(left);
         }
     }
     Sifted {
         word: word,
+        gone: gone,
+        kept: kept,
         way: way,
     }
 }
-
-// Drops the stale pairs of row u, a word at a time.
-fn drop_row(pairs: &mut [u64], hops: &[u16], words: usize, u: usize, chain: u16) -> Dropping
-    requires { ⌜ HasHops words (now pairs) (now hops) × (u < 64 * words) ⌝ }
-    ensures { λ r. ⌜ dropped (tally (now (pairs .exit)) (r .count)) (r .way) ≡ dropRowOf words (wayBy (now (hops .entry))) chain u (now (pairs .entry)) ⌝ }
-{
-    let base = words * u;
-    let mut count: u32 = 0;
-    let mut way: u16 = 0;
-    let mut j = 0;
-    while j < words {
-        let i = base + j;
-        let left = sift(hops, pairs[i], u, 64 * j, chain);
-        pairs[i] = left.word;
-        count += words::count(left.word);
-        way = longer(way, left.way);
-        j += 1;
-    }
-    Dropping {
-        count: count,
-        way: way,
-    }
-}
-
-// How many rows from u on have no pair, as far as whole groups of 8 tell. The first group begins at u.
-fn bare_groups(pairs: &[u64], words: usize, u: usize) -> usize
-    requires { ⌜ (words < 513) × (words * (64 * words) ≤ length (now pairs)) × (u < 64 * words) × (u % 8 ≡ 0) ⌝ }
-    ensures { λ r. ⌜ Bare words (now (pairs .entry)) u r ⌝ }
-{
-    let mut p = u;
-    while p < 64 * words {
-        if !rows::all_zero(pairs, words * p, 8 * words) {
-            return p - u;
-        }
-        p += 8;
-    }
-    p - u
-}
-
-// How many rows from u on have no pair, as far as one look tells: groups of 8 where u begins one, row u alone, or none.
-// Most rows have none, and so most are passed 8 at a time.
-fn bare_rows(pairs: &[u64], words: usize, u: usize) -> usize
-    requires { ⌜ (words < 513) × (words * (64 * words) ≤ length (now pairs)) × (u < 64 * words) ⌝ }
-    ensures { λ r. ⌜ Bare words (now (pairs .entry)) u r ⌝ }
-{
-    if u % 8 == 0 {
-        let bare = bare_groups(pairs, words, u);
-        if bare != 0 {
-            return bare;
-        }
-    }
-    if rows::all_zero(pairs, words * u, words) {
-        return 1;
-    }
-    0
-}
-
-// Drops the stale pairs of the table in place, a row after the other, and answers what is left of them and the greatest way that was there.
-pub fn drop_stale(pairs: &mut [u64], hops: &[u16], words: usize, chain: u16) -> Dropping
-    requires { ⌜ HasHops words (now pairs) (now hops) ⌝ }
-    ensures { λ r. ⌜ dropped (tally (now (pairs .exit)) (r .count)) (r .way) ≡ dropOf words (wayBy (now (hops .entry))) chain (now (pairs .entry)) ⌝ }
-{
-    let mut count: u32 = 0;
-    let mut way: u16 = 0;
-    let mut u = 0;
-    while u < 64 * words {
-        let bare = bare_rows(&*pairs, words, u);
-        if bare != 0 {
-            u += bare;
-        } else {
-            let row = drop_row(pairs, hops, words, u, chain);
-            count += row.count;
-            way = longer(way, row.way);
-            u += 1;
-        }
-    }
-    Dropping {
-        count: count,
-        way: way,
-    }
-}
-
-// ---- by two searches
 
 // The lesser of the ways from u to v by the hops of two searches, and no more than chain.
 fn way_by_either(near: &[u16], far: &[u16], u: usize, v: usize, chain: u16) -> u16
@@ -171,9 +105,11 @@ fn sift_either(near: &[u16], far: &[u16], x: u64, u: usize, first: usize, chain:
         × (first + 64 ≤ length (now far)) ⌝ }
     ensures { λ r.
         let way = wayByEither (now (near .entry)) (now (far .entry)) in
-        ⌜ (r .word ≡ wordOf 64 (stayingBit way chain u first x)) × (r .way ≡ greatestBit way chain u first x) ⌝ }
+        ⌜ sifted (r .word) (r .gone) (r .kept) (r .way) ≡ siftOf way chain u first x ⌝ }
 {
     let mut word = x;
+    let mut gone: u32 = 0;
+    let mut kept: u32 = 0;
     let mut way: u16 = 0;
     let mut left = x;
     while left != 0 {
@@ -182,13 +118,48 @@ fn sift_either(near: &[u16], far: &[u16], x: u64, u: usize, first: usize, chain:
         way = longer(way, least);
         if least < chain {
             word = words::without_bit(word, b);
+            gone += 1;
             left = words::drop_least(left);
         } else {
+            kept += 1;
             left = words::drop_least(left);
         }
     }
     Sifted {
         word: word,
+        gone: gone,
+        kept: kept,
+        way: way,
+    }
+}
+
+// ---- rows
+
+// Drops the stale pairs of row u, a word at a time.
+fn drop_row(pairs: &mut [u64], hops: &[u16], words: usize, u: usize, chain: u16) -> RowsDropping
+    requires { ⌜ HasHops words (now pairs) (now hops) × (u < 64 * words) ⌝ }
+    ensures { λ r.
+        let way = wayBy (now (hops .entry)) in
+        ⌜ rowsDropped (now (pairs .exit)) (r .gone) (r .count) (r .way) ≡ dropRowOf words way chain u (now (pairs .entry)) ⌝ }
+{
+    let base = words * u;
+    let mut gone: u32 = 0;
+    let mut count: u32 = 0;
+    let mut way: u16 = 0;
+    let mut j = 0;
+    while j < words {
+        let i = base + j;
+        let old = pairs[i];
+        let left = sift(hops, old, u, 64 * j, chain);
+        pairs[i] = left.word;
+        gone += left.gone;
+        count += left.kept;
+        way = longer(way, left.way);
+        j += 1;
+    }
+    RowsDropping {
+        gone: gone,
+        count: count,
         way: way,
     }
 }
@@ -201,27 +172,136 @@ fn drop_row_either(
     words: usize,
     u: usize,
     chain: u16,
-) -> Dropping
+) -> RowsDropping
     requires { ⌜ HasHops words (now pairs) (now near) × HasHops words (now pairs) (now far) × (u < 64 * words) ⌝ }
     ensures { λ r.
         let way = wayByEither (now (near .entry)) (now (far .entry)) in
-        ⌜ dropped (tally (now (pairs .exit)) (r .count)) (r .way) ≡ dropRowOf words way chain u (now (pairs .entry)) ⌝ }
+        ⌜ rowsDropped (now (pairs .exit)) (r .gone) (r .count) (r .way) ≡ dropRowOf words way chain u (now (pairs .entry)) ⌝ }
 {
     let base = words * u;
+    let mut gone: u32 = 0;
     let mut count: u32 = 0;
     let mut way: u16 = 0;
     let mut j = 0;
     while j < words {
         let i = base + j;
-        let kept = sift_either(near, far, pairs[i], u, 64 * j, chain);
+        let old = pairs[i];
+        let kept = sift_either(near, far, old, u, 64 * j, chain);
         pairs[i] = kept.word;
-        count += words::count(kept.word);
+        gone += kept.gone;
+        count += kept.kept;
         way = longer(way, kept.way);
         j += 1;
     }
-    Dropping {
+    RowsDropping {
+        gone: gone,
         count: count,
         way: way,
+    }
+}
+
+// `drop_row` by one search, or by either of two. The choice is made for a row, so that the loops over its words and members have no test more.
+fn drop_row_by(
+    pairs: &mut [u64],
+    near: &[u16],
+    far: &[u16],
+    words: usize,
+    u: usize,
+    chain: u16,
+    either: bool,
+) -> RowsDropping
+    requires { ⌜ HasHops words (now pairs) (now near) × HasHops words (now pairs) (now far) × (u < 64 * words) ⌝ }
+    ensures { λ r.
+        let way = wayFrom either (now (near .entry)) (now (far .entry)) in
+        ⌜ rowsDropped (now (pairs .exit)) (r .gone) (r .count) (r .way) ≡ dropRowOf words way chain u (now (pairs .entry)) ⌝ }
+{
+    if either {
+        return drop_row_either(pairs, near, far, words, u, chain);
+    }
+    drop_row(pairs, near, words, u, chain)
+}
+
+// How many rows from u on have no pair, as far as whole groups of 8 among the first rows tell. The first group begins at u.
+fn bare_groups(pairs: &[u64], words: usize, rows: usize, u: usize) -> usize
+    requires { ⌜ (words < 513) × (words * (64 * words) ≤ length (now pairs)) × (rows ≤ 64 * words) × (u < rows) ⌝ }
+    ensures { λ r. ⌜ Bare words rows (now (pairs .entry)) u r ⌝ }
+{
+    let mut p = u;
+    while p + 8 <= rows {
+        if !rows::all_zero(pairs, words * p, 8 * words) {
+            return p - u;
+        }
+        p += 8;
+    }
+    p - u
+}
+
+// How many rows from u on have no pair, as far as one look tells: groups of 8 where u begins one, row u alone, or none.
+// Most rows have none, and so most are passed 8 at a time.
+fn bare_rows(pairs: &[u64], words: usize, rows: usize, u: usize) -> usize
+    requires { ⌜ (words < 513) × (words * (64 * words) ≤ length (now pairs)) × (rows ≤ 64 * words) × (u < rows) ⌝ }
+    ensures { λ r. ⌜ Bare words rows (now (pairs .entry)) u r ⌝ }
+{
+    if u % 8 == 0 {
+        let bare = bare_groups(pairs, words, rows, u);
+        if bare != 0 {
+            return bare;
+        }
+    }
+    if rows::all_zero(pairs, words * u, words) {
+        return 1;
+    }
+    0
+}
+
+// Drops the stale pairs of the first rows in place, a row after the other: those rows have their pairs that stay, the others are as they were, and
+// the pairs gone so far are counted.
+pub fn drop_rows(
+    pairs: &mut [u64],
+    near: &[u16],
+    far: &[u16],
+    words: usize,
+    rows: usize,
+    chain: u16,
+    either: bool,
+) -> RowsDropping
+    requires { ⌜ HasHops words (now pairs) (now near) × HasHops words (now pairs) (now far) × (rows ≤ 64 * words) ⌝ }
+    ensures { λ r.
+        let way = wayFrom either (now (near .entry)) (now (far .entry)) in
+        ⌜ rowsDropped (now (pairs .exit)) (r .gone) (r .count) (r .way) ≡ dropRowsOf words way chain rows (now (pairs .entry)) ⌝ }
+{
+    let mut gone: u32 = 0;
+    let mut count: u32 = 0;
+    let mut way: u16 = 0;
+    let mut u = 0;
+    while u < rows {
+        let bare = bare_rows(&*pairs, words, rows, u);
+        if bare != 0 {
+            u += bare;
+        } else {
+            let row = drop_row_by(pairs, near, far, words, u, chain, either);
+            gone += row.gone;
+            count += row.count;
+            way = longer(way, row.way);
+            u += 1;
+        }
+    }
+    RowsDropping {
+        gone: gone,
+        count: count,
+        way: way,
+    }
+}
+
+// Drops the stale pairs of the table in place, and answers what is left of them and the greatest way that was there.
+pub fn drop_stale(pairs: &mut [u64], hops: &[u16], words: usize, chain: u16) -> Dropping
+    requires { ⌜ HasHops words (now pairs) (now hops) ⌝ }
+    ensures { λ r. ⌜ dropped (tally (now (pairs .exit)) (r .count)) (r .way) ≡ dropOf words (wayBy (now (hops .entry))) chain (now (pairs .entry)) ⌝ }
+{
+    let done = drop_rows(pairs, hops, hops, words, 64 * words, chain, false);
+    Dropping {
+        count: done.count,
+        way: done.way,
     }
 }
 
@@ -238,22 +318,9 @@ pub fn drop_stale_either(
         let way = wayByEither (now (near .entry)) (now (far .entry)) in
         ⌜ dropped (tally (now (pairs .exit)) (r .count)) (r .way) ≡ dropOf words way chain (now (pairs .entry)) ⌝ }
 {
-    let mut count: u32 = 0;
-    let mut way: u16 = 0;
-    let mut u = 0;
-    while u < 64 * words {
-        let bare = bare_rows(&*pairs, words, u);
-        if bare != 0 {
-            u += bare;
-        } else {
-            let done = drop_row_either(pairs, near, far, words, u, chain);
-            count += done.count;
-            way = longer(way, done.way);
-            u += 1;
-        }
-    }
+    let done = drop_rows(pairs, near, far, words, 64 * words, chain, true);
     Dropping {
-        count: count,
-        way: way,
+        count: done.count,
+        way: done.way,
     }
 }

@@ -1,28 +1,23 @@
--- `stale_pairs::bare_groups` meets its contract. The loop's invariant (BareRows.antt): the rows from `u` to `p` have no pair, and `p` begins a group.
+-- `stale_pairs::bare_groups` meets its contract. The loop's invariant (BareRows.antt): the rows from `u` to `p` have no pair.
 -- The measure is the rows left. Assumes nothing.
-use Prim.Native.Nat.{_-_, _*_}
+use Prim.Native.Nat.{_-_}
 use native.Mathlib.Omega.{arith}
-use Rattle.rows.proofs.Places.{row-fits}
 use Rattle.stale_pairs.proofs.BareRows.{Grouped, group-start, group-more, group-fits}
+use borrow.Author.Needs.{needs}
 use Rattle.stale_pairs.proofs.bare_groups.Statement.{statement}
 use Rattle.stale_pairs.proofs.bare_groups.Tie as tie
 
 abbrev Inv-loop : tie.InvT-loop
-Inv-loop pairs words u p₀ p = Grouped words pairs u p
+Inv-loop pairs words rows u p₀ p = Grouped words rows pairs u p
 
 abbrev μ-loop : tie.MeasureT-loop
-μ-loop pairs words u p₀ p = 64 * words - p
-
-mul-loop : tie.Need-mul-loop Inv-loop μ-loop
-mul-loop c =
-    let start : tie.Start Inv-loop μ-loop = search in
-    omega (arith, start .pre .0)
+μ-loop pairs words rows u p₀ p = rows - p
 
 mul-all-zero : tie.Need-mul-all-zero Inv-loop μ-loop
 mul-all-zero c =
     let start : tie.Start Inv-loop μ-loop = search in
     let pre = start .pre in
-    omega (arith, row-fits _ _ _ (c .loop-test .taken) (pre .1))
+    omega (arith, group-fits _ _ _ _ (pre .2) (c .loop-test .taken) (pre .1))
 
 mul-all-zero-2 : tie.Need-mul-all-zero-2 Inv-loop μ-loop
 mul-all-zero-2 c =
@@ -67,7 +62,7 @@ bare-groups-spec =
     Inv-loop
     μ-loop
     (λ c. search group-start)  -- loop-holds
-    mul-loop
+    (λ c. search needs)  -- add-loop
     mul-all-zero
     mul-all-zero-2
     (λ c κs. search group-fits)  -- all-zero-requires

@@ -1,20 +1,20 @@
 -- `stale_pairs::drop_row` meets its contract. The loop's invariant (StaleRow.antt): the row's pairs in the words passed are dropped or counted, and their
 -- greatest way is known. The measure is the words left. Assumes nothing.
-use mathlib.Core.Path.{refl}
 use Prim.Native.Nat.{_-_, _*_}
 use native.Mathlib.Omega.{arith}
 use Rattle.rows.proofs.Places.{row-fits}
-use Rattle.stale_pairs.proofs.StaleRow.{RowDropping, row-start, row-word, row-end, row-few}
+use Rattle.stale_pairs.proofs.StaleRow.{RowDropping, row-start, row-word, row-end, gone-fits, count-fits}
 use borrow.Author.Needs.{needs}
 use Rattle.stale_pairs.proofs.drop_row.Statement.{statement}
 use Rattle.stale_pairs.proofs.drop_row.Tie as tie
 use Rattle.stale_pairs.specs.Stale.{wayBy}
 
 abbrev Inv-loop : tie.InvT-loop
-Inv-loop pairs₀ hops words u chain base count₀ way₀ j₀ pairs count way j = RowDropping words (wayBy hops) chain u pairs₀ pairs count way (64 * j)
+Inv-loop pairs₀ hops words u chain base gone₀ count₀ way₀ j₀ pairs gone count way j =
+    RowDropping words (wayBy hops) chain u pairs₀ pairs gone count way (64 * j)
 
 abbrev μ-loop : tie.MeasureT-loop
-μ-loop pairs₀ hops words u chain base count₀ way₀ j₀ pairs count way j = words - j
+μ-loop pairs₀ hops words u chain base gone₀ count₀ way₀ j₀ pairs gone count way j = words - j
 
 mul-base : tie.Need-mul-base Inv-loop μ-loop
 mul-base c =
@@ -34,14 +34,14 @@ add-i c =
     let pre = start .pre in
     omega (arith, row-fits _ _ _ (pre .1) (pre .0 .table), c .loop-test .taken)
 
-mul-sift : tie.Need-mul-sift Inv-loop μ-loop
-mul-sift c =
+mul-old : tie.Need-mul-old Inv-loop μ-loop
+mul-old c =
     let start : tie.Start Inv-loop μ-loop = search in
     let pre = start .pre in
     omega (arith, row-fits _ _ _ (pre .1) (pre .0 .table), c .loop-test .taken)
 
-slice-read-sift : tie.Need-slice-read-sift Inv-loop μ-loop
-slice-read-sift c =
+slice-read-old : tie.Need-slice-read-old Inv-loop μ-loop
+slice-read-old c =
     let in-loop : tie.In-loop Inv-loop μ-loop = search in
     let at-loop : tie.At-loop Inv-loop μ-loop = search in
     let start : tie.Start Inv-loop μ-loop = search in
@@ -63,17 +63,6 @@ slice-write-pairs c =
     let pre = start .pre in
     omega (arith, row-fits _ _ _ (pre .1) (pre .0 .table), in-loop .loop-test .taken, at-loop .loop .inv .size)
 
-add-count : tie.Need-add-count Inv-loop μ-loop
-add-count c =
-    let after-sift : tie.After-sift Inv-loop μ-loop = search in
-    let in-loop : tie.In-loop Inv-loop μ-loop = search in
-    let at-loop : tie.At-loop Inv-loop μ-loop = search in
-    let start : tie.Start Inv-loop μ-loop = search in
-    let most = start .pre .0 .most in
-    let more = row-word _ _ _ _ _ (at-loop .loop .inv) (start .pre .1) (in-loop .loop-test .taken) (after-sift .sift .ensures .0)
-    (after-sift .sift .ensures .1) (c .count .ensures) refl in
-    omega (arith, row-few more, more .within, most)
-
 returns : tie.Need-returns Inv-loop μ-loop
 returns c =
     let at-loop : tie.At-loop Inv-loop μ-loop = search in
@@ -88,13 +77,12 @@ drop-row-spec =
     mul-base
     loop-holds
     add-i
-    mul-sift
-    slice-read-sift
-    (λ c. search needs) (λ c. search needs)  -- mul-sift-2, sift-requires
+    mul-old
+    slice-read-old
+    (λ c. search needs) (λ c. search needs)  -- mul-sift, sift-requires
     mul-pairs
     slice-write-pairs
-    (λ c. search needs)  -- count-requires
-    add-count
+    (λ c. search gone-fits) (λ c. search count-fits)  -- add-gone, add-count
     (λ c. search needs) (λ c. search needs) (λ c. search needs)  -- longer-requires, add-j, loop-less
     (λ c. search row-word)  -- loop-again
     (λ c. search needs)  -- same-length

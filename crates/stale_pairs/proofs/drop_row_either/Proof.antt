@@ -1,20 +1,20 @@
 -- `stale_pairs::drop_row_either` meets its contract: invariant, measure and laws are those of `drop_row`, over the way by either search.
 -- Assumes nothing.
-use mathlib.Core.Path.{refl}
 use Prim.Native.Nat.{_-_, _*_}
 use native.Mathlib.Omega.{arith}
 use Rattle.rows.proofs.Places.{row-fits}
-use Rattle.stale_pairs.proofs.StaleRow.{RowDropping, row-start, row-word, row-end, row-few}
+use Rattle.stale_pairs.proofs.StaleRow.{RowDropping, row-start, row-word, row-end, gone-fits, count-fits}
 use borrow.Author.Needs.{needs}
 use Rattle.stale_pairs.proofs.drop_row_either.Statement.{statement}
 use Rattle.stale_pairs.proofs.drop_row_either.Tie as tie
 use Rattle.stale_pairs.specs.Stale.{wayByEither}
 
 abbrev Inv-loop : tie.InvT-loop
-Inv-loop pairs₀ near far words u chain base count₀ way₀ j₀ pairs count way j = RowDropping words (wayByEither near far) chain u pairs₀ pairs count way (64 * j)
+Inv-loop pairs₀ near far words u chain base gone₀ count₀ way₀ j₀ pairs gone count way j =
+    RowDropping words (wayByEither near far) chain u pairs₀ pairs gone count way (64 * j)
 
 abbrev μ-loop : tie.MeasureT-loop
-μ-loop pairs₀ near far words u chain base count₀ way₀ j₀ pairs count way j = words - j
+μ-loop pairs₀ near far words u chain base gone₀ count₀ way₀ j₀ pairs gone count way j = words - j
 
 mul-base : tie.Need-mul-base Inv-loop μ-loop
 mul-base c =
@@ -34,14 +34,14 @@ add-i c =
     let pre = start .pre in
     omega (arith, row-fits _ _ _ (pre .2) (pre .0 .table), c .loop-test .taken)
 
-mul-sift-either : tie.Need-mul-sift-either Inv-loop μ-loop
-mul-sift-either c =
+mul-old : tie.Need-mul-old Inv-loop μ-loop
+mul-old c =
     let start : tie.Start Inv-loop μ-loop = search in
     let pre = start .pre in
     omega (arith, row-fits _ _ _ (pre .2) (pre .0 .table), c .loop-test .taken)
 
-slice-read-sift-either : tie.Need-slice-read-sift-either Inv-loop μ-loop
-slice-read-sift-either c =
+slice-read-old : tie.Need-slice-read-old Inv-loop μ-loop
+slice-read-old c =
     let in-loop : tie.In-loop Inv-loop μ-loop = search in
     let at-loop : tie.At-loop Inv-loop μ-loop = search in
     let start : tie.Start Inv-loop μ-loop = search in
@@ -63,17 +63,6 @@ slice-write-pairs c =
     let pre = start .pre in
     omega (arith, row-fits _ _ _ (pre .2) (pre .0 .table), in-loop .loop-test .taken, at-loop .loop .inv .size)
 
-add-count : tie.Need-add-count Inv-loop μ-loop
-add-count c =
-    let after-sift-either : tie.After-sift-either Inv-loop μ-loop = search in
-    let in-loop : tie.In-loop Inv-loop μ-loop = search in
-    let at-loop : tie.At-loop Inv-loop μ-loop = search in
-    let start : tie.Start Inv-loop μ-loop = search in
-    let most = start .pre .0 .most in
-    let more = row-word _ _ _ _ _ (at-loop .loop .inv) (start .pre .2) (in-loop .loop-test .taken) (after-sift-either .sift-either .ensures .0)
-    (after-sift-either .sift-either .ensures .1) (c .count .ensures) refl in
-    omega (arith, row-few more, more .within, most)
-
 returns : tie.Need-returns Inv-loop μ-loop
 returns c =
     let at-loop : tie.At-loop Inv-loop μ-loop = search in
@@ -88,13 +77,12 @@ drop-row-either-spec =
     mul-base
     loop-holds
     add-i
-    mul-sift-either
-    slice-read-sift-either
-    (λ c. search needs) (λ c. search needs)  -- mul-sift-either-2, sift-either-requires
+    mul-old
+    slice-read-old
+    (λ c. search needs) (λ c. search needs)  -- mul-sift-either, sift-either-requires
     mul-pairs
     slice-write-pairs
-    (λ c. search needs)  -- count-requires
-    add-count
+    (λ c. search gone-fits) (λ c. search count-fits)  -- add-gone, add-count
     (λ c. search needs) (λ c. search needs) (λ c. search needs)  -- longer-requires, add-j, loop-less
     (λ c. search row-word)  -- loop-again
     (λ c. search needs)  -- same-length

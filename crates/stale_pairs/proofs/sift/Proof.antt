@@ -1,17 +1,27 @@
 -- `stale_pairs::sift` meets its contract. The loop's invariant (Sifting.antt): the members that are not left are taken out where they are stale, and
 -- their greatest way is known. The measure is the word that is left, which falls. Assumes nothing.
 use native.Mathlib.Omega.{arith}
-use Rattle.stale_pairs.proofs.Sifting.{Sifting, sift-start, sift-drop, sift-keep, sift-end}
+use Rattle.stale_pairs.proofs.Sifting.{Sifting, sift-start, sift-few, sift-drop, sift-keep, sift-end}
 use borrow.Author.Needs.{needs}
 use Rattle.stale_pairs.proofs.sift.Statement.{statement}
 use Rattle.stale_pairs.proofs.sift.Tie as tie
 use Rattle.stale_pairs.specs.Stale.{wayBy}
 
 abbrev Inv-loop : tie.InvT-loop
-Inv-loop hops x u first chain word₀ way₀ left₀ word way left = Sifting (wayBy hops) chain u first x word way left
+Inv-loop hops x u first chain word₀ gone₀ kept₀ way₀ left₀ word gone kept way left = Sifting (wayBy hops) chain u first x word gone kept way left
 
 abbrev μ-loop : tie.MeasureT-loop
-μ-loop hops x u first chain word₀ way₀ left₀ word way left = left
+μ-loop hops x u first chain word₀ gone₀ kept₀ way₀ left₀ word gone kept way left = left
+
+add-gone : tie.Need-add-gone Inv-loop μ-loop
+add-gone c =
+    let at-loop : tie.At-loop Inv-loop μ-loop = search in
+    omega (arith, sift-few _ _ _ _ _ (at-loop .loop .inv))
+
+add-kept : tie.Need-add-kept Inv-loop μ-loop
+add-kept c =
+    let at-loop : tie.At-loop Inv-loop μ-loop = search in
+    omega (arith, sift-few _ _ _ _ _ (at-loop .loop .inv))
 
 returns : tie.Need-returns Inv-loop μ-loop
 returns c =
@@ -26,8 +36,11 @@ sift-spec =
     μ-loop
     (λ c. search sift-start)  -- loop-holds
     (λ c. search needs) (λ c. search needs) (λ c. search needs) (λ c. search needs)  -- least-requires, add-way-by, way-by-requires, longer-requires
-    (λ c. search needs) (λ c. search needs) (λ c. search needs)  -- without-bit-requires, drop-least-requires, loop-less
+    (λ c. search needs)  -- without-bit-requires
+    add-gone
+    (λ c. search needs) (λ c. search needs)  -- drop-least-requires, loop-less
     (λ c. search sift-drop)  -- loop-again
+    add-kept
     (λ c. search needs) (λ c. search needs)  -- drop-least-requires-2, loop-less-2
     (λ c. search sift-keep)  -- loop-again-2
     returns)
