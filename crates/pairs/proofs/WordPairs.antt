@@ -136,6 +136,19 @@ module _ {W : ℕ} {P : Pairs} {t₀ t : List ℕ} {n : ℕ} (h : HoldsPairs W P
       (λ u v a b ne. sym (upper-other u v ne)))
       (omega (arith, holds-count h, upper-count, e, ap (λ (w : ℕ). countb (bit w) (range 64)) (word-minus 64 x old f g), count-wordOf 64 (λ b. bit x b && not (bit old b))))
 
+  -- a word without members
+  pub put-nothing : x ≡ 0 → tally t n ≡ tallyOf W upper t₀
+  unfolding inWord
+  put-nothing e = holds-ext h upper (λ u v a b. sym (none u v)) .is
+    where
+      none : (u v : ℕ) → upper u v ≡ P u v
+      none u v =
+          ap (λ (y : ℕ). P u v || (eqb u low && (eqb (v / 64) j && bit y (v % 64)))) e
+          ∙ ap (λ (y : Bool). P u v || (eqb u low && (eqb (v / 64) j && y))) (bit-of-zero (v % 64))
+          ∙ ap (λ (y : Bool). P u v || (eqb u low && y)) (and-none (eqb (v / 64) j))
+          ∙ ap (λ (y : Bool). P u v || y) (and-none (eqb u low))
+          ∙ or-none (P u v)
+
 -- ---- those below: the members of x that are not left are put
 
 module _ (W j x high : ℕ) (t₀ : List ℕ) where

@@ -39,12 +39,16 @@ fn lower_part(x: u64, j: usize, high: usize) -> u64
 }
 
 // Puts the pairs of low with the members of x, which is word j of a row, and answers how many pairs the table then has.
+// A word without members adds nothing, so its ones are not counted.
 fn put_upper(pairs: &mut [u64], words: usize, low: usize, j: usize, x: u64, count: u32) -> u32
     requires { ⌜ Counted words (now pairs) count × (low < 64 * words) × (j < words) ⌝ }
     ensures { λ r.
         let before = now (pairs .entry) in
         ⌜ tally (now (pairs .exit)) r ≡ tallyOf words (λ u v. tableBit words before u v || (eqb u low && inWord j x v)) before ⌝ }
 {
+    if x == 0 {
+        return count;
+    }
     let i = words * low + j;
     let old = pairs[i];
     pairs[i] = old | x;
@@ -104,7 +108,7 @@ pub fn settle(
     ensures { λ n. ⌜ tally (now (pairs .exit)) n ≡ settleOf words (now (last .entry)) r e c (tally (now (pairs .entry)) count) ⌝ }
 {
     if c < e {
-        rows::clear(pairs, words * (64 * words));
+        rows::clear_table(pairs, words);
         return add_pairs(pairs, last, words, r, 0);
     }
     if e == c {

@@ -78,7 +78,7 @@ module _ (K : Shape) (shape : IsShape K) (members links : List ℕ) (net : IsNet
       and-true-right true = refl
       and-true-right false = refl
 
-  most-ecc : (v : ℕ) → chart G .isDestination v ≡ true → ecc (chart G) v ≤ unreached
+  pub most-ecc : (v : ℕ) → chart G .isDestination v ≡ true → ecc (chart G) v ≤ unreached
   most-ecc v t = le-of-lt (ecc-small (chart G) (chart-metric G net) v (chart-metric G net .inside v t))
 
   pub start-running : (c : ℕ) → c ≤ unreached → Running W (K .searchedMark) (K .otherMark) (shape .most) members links net (start c)

@@ -239,7 +239,7 @@ pub fn begin(
         ⌜ (after ≡ roundsBeginOf words other (now (members .entry)) before)
         × AreRanks words (now (links .entry)) (now (ranks .exit)) ⌝ }
 {
-    rows::clear(pairs, words * (64 * words));
+    rows::clear_table(pairs, words);
     rows::fill(bounds, 64 * words, map::UNREACHED);
     rows::fill(skips, 64 * words, other);
     ranks::rank_all(members, links, ranks, words);

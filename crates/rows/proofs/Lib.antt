@@ -10,7 +10,7 @@ pub mod Puts
 pub mod Turns
 -- A loop that reads a word of a row a turn.
 pub mod Scan
--- Words that are all 0.
+-- Words that are all 0, and words made 0.
 pub mod Zeros
 -- One word put.
 pub mod WordPuts

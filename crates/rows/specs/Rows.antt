@@ -1,6 +1,7 @@
 -- Sets of numbers below 64 W as rows of W words, and tables of 64 W such rows (rule 1.2). A map has W = 4; every definition takes W.
 -- Row u of a table is words W * u to W * u + W - 1.
 -- Assumes nothing.
+use mathlib.Core.Path.{_≡_}
 use mathlib.Core.Bool.{Bool, cond, _&&_}
 use mathlib.Core.List.{List}
 use Prim.Native.Nat.{ℕ, _+_, _*_, _/_, _%_, _≤_, _<_}
@@ -42,3 +43,10 @@ pub record InTable (W : ℕ) (t : List ℕ) (u v : ℕ) : Type 0 where
 -- the members that x holds as word w of a row
 unfoldable pub inWord : ℕ → ℕ → ℕ → Bool
 inWord w x u = eqb (u / 64) w && bit x (u % 64)
+
+-- The buffer after is before with n words from base on made 0.
+pub record Zeroed (base n : ℕ) (before after : List ℕ) : Type 0 where
+  pub size : length after ≡ length before
+  pub zeros : (i : ℕ) → base ≤ i → i < base + n → getD after i 0 ≡ 0
+  pub low : (i : ℕ) → i < base → getD after i 0 ≡ getD before i 0
+  pub high : (i : ℕ) → base + n ≤ i → getD after i 0 ≡ getD before i 0

@@ -6,7 +6,7 @@ ghost use Prim.Native.Nat.{_+_, _*_, _^_, _<_, _≤_};
 ghost use lib.Dec.{eqb};
 ghost use lib.ListN.{length, getD};
 ghost use Rattle.lists.specs.Lists.{range, mapl, countb, anyb, allb, overwrite};
-ghost use Rattle.rows.specs.Rows.{rowBit, tableBit, encodeRow, putBit, InTable};
+ghost use Rattle.rows.specs.Rows.{rowBit, tableBit, encodeRow, putBit, InTable, Zeroed};
 ghost use Rattle.rows.specs.Next.{NextIs};
 
 // ---- one bit of a table
@@ -119,6 +119,32 @@ pub fn all_zero(t: &[u64], base: usize, n: usize) -> bool
         j += 1;
     }
     union == 0
+}
+
+// Makes n words from base on 0.
+fn clear_part(t: &mut [u64], base: usize, n: usize)
+    requires { ⌜ base + n ≤ length (now t) ⌝ }
+    ensures { λ r. ⌜ Zeroed base n (now (t .entry)) (now (t .exit)) ⌝ }
+{
+    let mut j = 0;
+    while j < n {
+        t[base + j] = 0;
+        j += 1;
+    }
+}
+
+// Makes a table 0, by groups of 64 words: a group that is 0 already is only read, as most of a pair table is.
+pub fn clear_table(t: &mut [u64], words: usize)
+    requires { ⌜ words * (64 * words) ≤ length (now t) ⌝ }
+    ensures { λ r. ⌜ now (t .exit) ≡ overwrite (encodeRow (words * (64 * words)) (λ v. false)) (now (t .entry)) ⌝ }
+{
+    let mut g = 0;
+    while g < words * words {
+        if !all_zero(&*t, 64 * g, 64) {
+            clear_part(t, 64 * g, 64);
+        }
+        g += 1;
+    }
 }
 
 // ---- tables of numbers

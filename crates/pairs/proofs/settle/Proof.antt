@@ -10,7 +10,7 @@ pub settle-spec : {M : Type 1} → statement M
 settle-spec =
     tie.close
     (tie.spec
-    (λ c. search needs) (λ c. search needs) (λ c. search needs)  -- mul-clear, mul-clear-2, clear-requires
+    (λ c. search needs)  -- clear-table-requires
     (λ c κs. search (holds-counted, clear-holds))  -- add-pairs-requires
     (λ c. search needs)  -- same-length
     (λ c. search (clear-holds, settle-above))  -- returns
