@@ -34,7 +34,7 @@ use Rattle.cases.specs.Results.{pairsIn, answerOf, LentUpdate, leftOn, a
 use Rattle.cases.proofs.Listings.{pairs-open, count-open}
 use Rattle.map.proofs.Theorems.{base-shape}
 use Rattle.graph.proofs.Delivers.{delivers-open}
-use Rattle.graph.proofs.Updates.{update-lawful}
+use Rattle.graph.proofs.Lawful.{update-lawful}
 
 -- a network with its own figures
 abbrev pub figuredFor : Network → PlainMap

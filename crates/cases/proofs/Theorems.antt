@@ -15,7 +15,7 @@ use Rattle.rows.specs.Rows.{encodeRow, encodeTable}
 use Rattle.graph.specs.Chart.{chart, countPairs}
 use Rattle.graph.specs.Rounds.{reckon}
 use Rattle.graph.specs.Opening.{emptyNetwork}
-use Rattle.graph.specs.Updates.{Update, opens}
+use Rattle.graph.specs.Updates.{Update, opens, joins}
 use Rattle.graph.specs.Cases as Graph
 use Rattle.map.specs.Memory.{base, networkOf}
 use Rattle.map.specs.Empty.{emptyRefusal, emptyGiven, emptyCall}
@@ -89,6 +89,7 @@ module _ (rec : Record) (links pairs : List ℕ) (l : 1024 ≤ length links) (p 
 -- updates that open bytes
 unfoldable pub opensBytes : Update → Bool
 opensBytes (opens o) = ltb (o .code) 256
+opensBytes (joins a b) = true
 
 within-of : (cs : List LentUpdate) → allb opensBytes (updatesOf cs) ≡ true → AreWithin cs
 unfolding updatesOf allb opensBytes
@@ -97,6 +98,7 @@ within-of (d ∷ cs) h c m = go (and-true (opensBytes (d .update)) (allb opensBy
   where
     low : (u : Update) → opensBytes u ≡ true → IsWithin base u
     low (opens o) k = ltb-true (o .code) 256 k
+    low (joins a b) k = tt
 
     go : (opensBytes (d .update) ≡ true) × (allb opensBytes (updatesOf cs) ≡ true) → (c ≡ d) ⊎ List·Memᴰ c cs → (allb opensBytes (updatesOf cs) ≡ true → AreWithin cs) → IsWithin base (c .update)
     go k (inl q) ih = subst (λ (x : LentUpdate). IsWithin base (x .update)) (sym q) (low (d .update) (k .0))

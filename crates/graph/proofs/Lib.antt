@@ -21,6 +21,7 @@ pub mod Theorems
 pub mod SoundFigures
 pub mod Updates
 pub mod LinkTheorems
+pub mod Lawful
 pub mod Batches
 pub mod Rules
 pub mod Apart

@@ -1,5 +1,6 @@
 -- A LINK ADDED LATER IS CORRECT, by the published words: what an update owes, of every link that no refusal hits. Assumes nothing.
 use mathlib.Core.Path.{_≡_, _∙_}
+use mathlib.Core.List.{[], _∷_}
 use mathlib.Core.Bool.{Bool, true, false, _||_}
 use Prim.Native.Nat.{ℕ, _+_, _≤_, max, min}
 use native.Mathlib.Omega.{arith}
@@ -12,7 +13,7 @@ use Rattle.graph.specs.Distance.{vertices, unreached}
 use Rattle.graph.specs.Chart.{Chart, chart, Pairs}
 use Rattle.graph.specs.Opening.{anyPair}
 use Rattle.graph.specs.Linking.{addLink, linkFaults, pairsLeft, linkCase, linking, linkingCodes}
-use Rattle.graph.specs.Correct.{IsNet, IsSearched, IsLinkSettled, IsOpened, AreSound}
+use Rattle.graph.specs.Correct.{IsNet, IsSearched, IsSettled, IsOpened, AreSound}
 use Rattle.graph.proofs.Insertion.{insertion-both}
 use Rattle.graph.proofs.LinkingCases.{IsJoined, linking-right}
 use Rattle.graph.proofs.Charts.{chart-metric, right-diameter, right-farthest}
@@ -68,13 +69,14 @@ module _ (G : Network) (net : IsNet G) (a b : ℕ) (ok : firstOf (linkFaults G a
         }
 
     -- the searches from the lower and the higher end are the first, and the only ones unless the chain shrank
-    pub linking-says : D ≤ unreached → IsLinkSettled H lo hi (linkingCodes (chart H) a b D P)
+    pub linking-says : D ≤ unreached → IsSettled H (lo ∷ hi ∷ []) (linkingCodes (chart H) a b D P)
     unfolding linkingCodes
     linking-says small =
         let m = chart-metric H linked-net in
         record {
-          first = linking-first (chart H) lo hi D P;
-          twice = linking-twice (chart H) lo hi D P;
+          later = linking-first (chart H) lo hi D P .0;
+          first = linking-first (chart H) lo hi D P .1;
+          alone = linking-twice (chart H) lo hi D P;
           skipped = λ q.
               let s = linking-settled (chart H) m lo hi (j .first) (j .second) (j .apart) D small P q in
               settled-skipped H linked-net (linking (chart H) lo hi D P .final) (s .0) (s .1);

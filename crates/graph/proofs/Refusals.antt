@@ -20,7 +20,7 @@ use Rattle.graph.specs.Distance.{vertices}
 use Rattle.graph.specs.Opening.{Notice, strictlyRising, isEmpty, noticeFaults, openFaults}
 use Rattle.graph.specs.Linking.{linkFaults}
 use Rattle.graph.specs.Refusals.{IsUnsorted, IsItself, noticeConditions, linkConditions, ownConditions}
-use Rattle.graph.specs.Updates.{Update, opens, updateFaults}
+use Rattle.graph.specs.Updates.{Update, opens, joins, updateFaults}
 
 -- 6: no neighbours, and some depot
 decides-none : (xs : List ℕ) → Decides (isEmpty xs) (xs ≡ [])
@@ -75,10 +75,6 @@ notice-tells G listed o = (
 pub notice-refusals : (G : Network) → IsSound G → (o : Notice) (k : ℕ) → (firstOf (openFaults G o) ≡ k) ↔ FirstHolds (noticeConditions G o) k
 notice-refusals G sound o k = tells-first (openFaults G o) (noticeConditions G o) (notice-tells G (sound .listed) o) k
 
-pub update-tells : (G : Network) → AreListed G → (o : Update) → Tells (updateFaults G o) (ownConditions G o)
-unfolding updateFaults
-update-tells G listed (opens o) = notice-tells G listed o
-
 -- ---- a link
 
 decides-itself : (a b : ℕ) → Decides (eqb a b) (IsItself a b)
@@ -94,3 +90,10 @@ link-tells G a b = (
 
 pub link-refusals : (G : Network) (a b k : ℕ) → (firstOf (linkFaults G a b) ≡ k) ↔ FirstHolds (linkConditions G a b) k
 link-refusals G a b k = tells-first (linkFaults G a b) (linkConditions G a b) (link-tells G a b) k
+
+-- ---- any update
+
+pub update-tells : (G : Network) → AreListed G → (o : Update) → Tells (updateFaults G o) (ownConditions G o)
+unfolding updateFaults
+update-tells G listed (opens o) = notice-tells G listed o
+update-tells G listed (joins a b) = link-tells G a b

@@ -1,14 +1,14 @@
 -- WHAT A RECKONING, AN OPENING AND A LINK SAY OF EACH DEPOT: the skipped, by the published words; and which searches are the first, and the only ones.
 -- Assumes nothing.
 use mathlib.Core.Path.{_≡_, refl, sym, _∙_}
-use mathlib.Core.Bool.{Bool, true, false, not, _||_}
+use mathlib.Core.Bool.{Bool, true, false, cond, not, _||_}
 use mathlib.Core.List.{List, [], _∷_, _++_}
 use mathlib.Core.Option.{Option, none, some}
 use Prim.Native.Nat.{ℕ, zero, suc, _≤_, _<_}
-use lib.Dec.{eqb, ltb}
+use lib.Dec.{T, eqb, ltb}
 use lib.ListN.{length}
-use borrow.Author.Tests.{not-true, ne-eqb}
-use Rattle.lists.specs.Lists.{memb, firstOf}
+use borrow.Author.Tests.{not-true}
+use Rattle.lists.specs.Lists.{anyb, memb, firstOf}
 use Rattle.lists.proofs.Tests.{t→true, true→t, clash}
 use Rattle.lists.proofs.Counts.{count-zero}
 use Rattle.lists.proofs.Appends.{append-none, append-append}
@@ -19,7 +19,7 @@ use Rattle.graph.specs.Rounds.{Status, waiting, skipped, searched, isWai
 use Rattle.graph.specs.Opening.{Notice, byCode, withDepot, openFaults, stayingPairs, anyPair, shrunkCandidate, searchedOnce, openCase, opening, via}
 use Rattle.graph.specs.Linking.{viaEither, pairsLeft, searchedTwice, unskippedRound, firstTwo, linkCase, linking}
 use Rattle.outcome.specs.declared.Change.the-variants.{Shrank}
-use Rattle.graph.specs.Correct.{IsNet, IsSkipped, AllSkipped, IsOneSearch, AreTwoSearches, IsSettled}
+use Rattle.graph.specs.Correct.{IsNet, IsSkipped, AllSkipped, AreAlone, IsSettled}
 use Rattle.graph.proofs.Round.{Fine, Invariant}
 use Rattle.graph.proofs.Rounds.{waitingCount}
 use Rattle.graph.proofs.Charts.{depot-in, depot-out, chart-dist, chart-metric, chart-ecc}
@@ -86,15 +86,18 @@ module _ (C : Chart) where
         go false false true = ([], refl)
         go false false false = rounds-after (length (C .depots)) (round C a (start (shrunkCandidate (C .depots) (via C a) D P)))
 
-    once : (c : ℕ) (Q : Pairs) → IsOneSearch a (searchedOnce C a c Q)
-    unfolding searchedOnce
-    once c Q = record { only = refl; others = λ v n. rw (ne-eqb v a n) tt }
+    once : (c : ℕ) (Q : Pairs) → AreAlone (a ∷ []) (searchedOnce C a c Q)
+    unfolding searchedOnce memb anyb
+    once c Q = record { only = refl; others = λ v. go (eqb v a) }
+      where
+        go : (x : Bool) → T (not (x || false)) → T (isWaiting (cond x (searched (ecc C a)) (waiting unreached 0)))
+        go false n = tt
 
-    opening-once : (opening C a D P .change ≡ Shrank → ⊥) → IsOneSearch a (opening C a D P .final)
+    opening-once : (opening C a D P .change ≡ Shrank → ⊥) → AreAlone (a ∷ []) (opening C a D P .final)
     unfolding opening openCase
     opening-once = go (ltb D (ecc C a)) (eqb (ecc C a) D) (anyPair (C .depots) (stayingPairs (via C a) D P))
       where
-        go : (b s k : Bool) → (openCase b s k C a D P .change ≡ Shrank → ⊥) → IsOneSearch a (openCase b s k C a D P .final)
+        go : (b s k : Bool) → (openCase b s k C a D P .change ≡ Shrank → ⊥) → AreAlone (a ∷ []) (openCase b s k C a D P .final)
         go true s k n = once (ecc C a) (ownPairs C a (ecc C a))
         go false true k n = once D (λ u v. stayingPairs (via C a) D P u v || ownPairs C a D u v)
         go false false true n = once D (stayingPairs (via C a) D P)
@@ -111,15 +114,18 @@ module _ (C : Chart) where
         go true = ([], refl)
         go false = rounds-after (length (C .depots)) (firstTwo C a b (shrunkCandidate (C .depots) (viaEither C a b) D P))
 
-    twice : (c : ℕ) (Q : Pairs) → AreTwoSearches a b (searchedTwice C a b c Q)
-    unfolding searchedTwice
-    twice c Q = record { only = refl; others = λ v n m. rw (ne-eqb v a n, ne-eqb v b m) tt }
+    twice : (c : ℕ) (Q : Pairs) → AreAlone (a ∷ b ∷ []) (searchedTwice C a b c Q)
+    unfolding searchedTwice memb anyb
+    twice c Q = record { only = refl; others = λ v. go (eqb v a) (eqb v b) }
+      where
+        go : (x y : Bool) → T (not (x || (y || false))) → T (isWaiting (cond x (searched (ecc C a)) (cond y (searched (ecc C b)) (waiting unreached 0))))
+        go false false n = tt
 
-    pub linking-twice : (linking C a b D P .change ≡ Shrank → ⊥) → AreTwoSearches a b (linking C a b D P .final)
+    pub linking-twice : (linking C a b D P .change ≡ Shrank → ⊥) → AreAlone (a ∷ b ∷ []) (linking C a b D P .final)
     unfolding linking linkCase
     linking-twice = go (anyPair (C .depots) (pairsLeft C a b D P) || eqb D 0)
       where
-        go : (k : Bool) → (linkCase k C a b D P .change ≡ Shrank → ⊥) → AreTwoSearches a b (linkCase k C a b D P .final)
+        go : (k : Bool) → (linkCase k C a b D P .change ≡ Shrank → ⊥) → AreAlone (a ∷ b ∷ []) (linkCase k C a b D P .final)
         go true n = twice D (pairsLeft C a b D P)
         go false n = absurd (n refl)
 
@@ -131,14 +137,15 @@ module _ (G : Network) (net : IsNet G) (o : Notice) (room : suc (length (vertice
   abbrev beside : ℕ → Bool
   beside v = memb v (o .neighbours)
 
-  pub opening-says : IsSettled H (o .code) (opening (chart H) (o .code) D P)
+  pub opening-says : IsSettled H (o .code ∷ []) (opening (chart H) (o .code) D P)
   unfolding withDepot
   opening-says =
       let good = admitted-of G net o room ok in
       let after = opened-net byCode G net (o .code) beside good in
       record {
-        first = opening-first (chart H) (o .code) D P;
-        once = opening-once (chart H) (o .code) D P;
+        later = opening-first (chart H) (o .code) D P .0;
+        first = opening-first (chart H) (o .code) D P .1;
+        alone = opening-once (chart H) (o .code) D P;
         skipped = λ q.
             let s = opening-settled (chart H) (chart-metric H after) (o .code) (inserted byCode G net (o .code) beside good .new) D small P q in
             settled-skipped H after (opening (chart H) (o .code) D P .final) (s .0) (s .1);

@@ -1,4 +1,4 @@
--- EVERY UPDATE KEEPS ITS PROMISES. Assumes nothing.
+-- AN OPENING KEEPS ITS PROMISES, as an update. Assumes nothing.
 use mathlib.Core.Path.{_≡_}
 use mathlib.Core.Bool.{true}
 use Prim.Native.Nat.{ℕ, suc, _≤_, _<_}
@@ -12,11 +12,12 @@ use Rattle.graph.specs.Distance.{vertices, unreached}
 use Rattle.graph.specs.Chart.{chart, ecc, Pairs, ownPairs}
 use Rattle.graph.specs.Opening.{Notice, byCode, withDepot, openFaults, opening}
 use Rattle.graph.specs.Correct.{IsNet, AreSound}
-use Rattle.graph.specs.Updates.{Update, opens, updateFaults, applied, steps, IsLawful}
+use Rattle.graph.specs.Updates.{opens, applied, steps, firstSearches, IsLawful}
 use Rattle.graph.proofs.Charts.{chart-metric}
 use Rattle.graph.proofs.OpeningCases.{IsInserted}
 use Rattle.graph.proofs.Opened.{admitted-of, inserted}
 use Rattle.graph.proofs.Theorems.{net-after, opening-covered, opening-correct}
+use Rattle.graph.proofs.Skipped.{opening-says}
 use Rattle.graph.proofs.SoundFigures.{SoundIn, opening-sound, ecc-below}
 
 -- ---- sound figures, of a network and of its chart
@@ -48,12 +49,13 @@ below-limit H net limit l v t = lt-of-lt-of-le (ecc-below H net v t) l
 -- ---- an opening
 
 module _ (G : Network) (net : IsNet G) (o : Notice) (room : suc (length (vertices G)) < unreached) (ok : firstOf (openFaults G o) ≡ 0) where
-  opens-lawful : IsLawful G (opens o)
-  unfolding applied withDepot steps
+  pub opens-lawful : IsLawful G (opens o)
+  unfolding applied withDepot steps firstSearches
   opens-lawful = record {
     net = after;
     correct = λ D P were. opening-correct G net o room ok D P were;
     covered = λ D P small. opening-covered G net o room ok D P small;
+    settled = λ D P small. opening-says G net o room ok D small P;
     sound = λ limit D P few s.
         sound-out H limit (opening (chart H) (o .code) D P .final .candidate) (opening (chart H) (o .code) D P .final .pairs)
         (opening-sound (chart H) (chart-metric H after) limit (below-limit H after limit few) (o .code) (was .new) D P
@@ -68,9 +70,3 @@ module _ (G : Network) (net : IsNet G) (o : Notice) (room : suc (length (vertice
 
       was : IsInserted (chart G) (chart H) (o .code)
       was = inserted byCode G net (o .code) (λ v. memb v (o .neighbours)) (admitted-of G net o room ok)
-
--- ---- EVERY UPDATE THAT NO REFUSAL HITS, with room for one depot more
-
-pub update-lawful : (G : Network) → IsNet G → (u : Update) → suc (length (vertices G)) < unreached → firstOf (updateFaults G u) ≡ 0 → IsLawful G u
-unfolding updateFaults
-update-lawful G net (opens o) room ok = opens-lawful G net o room ok

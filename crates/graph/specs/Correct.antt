@@ -4,7 +4,7 @@
 -- Assumes nothing.
 use mathlib.Core.Path.{_≡_}
 use mathlib.Core.Bool.{not}
-use mathlib.Core.List.{List, [], _∷_}
+use mathlib.Core.List.{List, _++_}
 use Prim.Native.Nat.{ℕ, _+_, _<_}
 use lib.Dec.{T}
 use lib.ListN.{length}
@@ -66,15 +66,10 @@ AllSkipped G S =
     (v : ℕ) → T (G .isOpen v) → T (not (memb v (S .references)))
     → (g : ℕ) × (b : ℕ) × (S .status v ≡ skipped b g) × IsSkipped G (S .references) (S .candidate) v g b
 
--- the search from a alone: no other depot has a bound
-pub record IsOneSearch (a : ℕ) (S : State) : Type 0 where
-  pub only : S .references ≡ a ∷ []
-  pub others : (v : ℕ) → (v ≡ a → ⊥) → T (isWaiting (S .status v))
-
--- the searches from lo and hi alone: no other depot has a bound
-pub record AreTwoSearches (lo hi : ℕ) (S : State) : Type 0 where
-  pub only : S .references ≡ lo ∷ hi ∷ []
-  pub others : (v : ℕ) → (v ≡ lo → ⊥) → (v ≡ hi → ⊥) → T (isWaiting (S .status v))
+-- searches from these depots alone, in this order: no other depot has a bound
+pub record AreAlone (firsts : List ℕ) (S : State) : Type 0 where
+  pub only : S .references ≡ firsts
+  pub others : (v : ℕ) → T (not (memb v firsts)) → T (isWaiting (S .status v))
 
 -- a whole reckoning
 pub record IsReckoned (G : Network) (S : State) : Type 0 where
@@ -93,16 +88,12 @@ pub record IsSearched (H : Network) (o : Opened) : Type 0 where
   pub references : AreReferences H (o .final)
   pub cover : o .change ≡ Shrank → AllCovered H (o .final)
 
--- what an opening of a says of each depot, whatever figures were stored: the search from a is the first, and the only one unless the chain shrank
-pub record IsSettled (H : Network) (a : ℕ) (o : Opened) : Type 0 where
-  pub first : (rs : List ℕ) × (o .final .references ≡ a ∷ rs)
-  pub once : (o .change ≡ Shrank → ⊥) → IsOneSearch a (o .final)
-  pub skipped : o .change ≡ Shrank → AllSkipped H (o .final)
-
--- what a link of lo and hi says of each depot, likewise: the searches from both are the first, in this order, and the only ones unless it shrank
-pub record IsLinkSettled (H : Network) (lo hi : ℕ) (o : Opened) : Type 0 where
-  pub first : (rs : List ℕ) × (o .final .references ≡ lo ∷ hi ∷ rs)
-  pub twice : (o .change ≡ Shrank → ⊥) → AreTwoSearches lo hi (o .final)
+-- what an update says of each depot, whatever figures were stored: the searches from `firsts` come first, in this order, and no other unless the
+-- chain shrank
+pub record IsSettled (H : Network) (firsts : List ℕ) (o : Opened) : Type 0 where
+  pub later : List ℕ
+  pub first : o .final .references ≡ firsts ++ later
+  pub alone : (o .change ≡ Shrank → ⊥) → AreAlone firsts (o .final)
   pub skipped : o .change ≡ Shrank → AllSkipped H (o .final)
 
 -- an update of a map whose chain D was true

@@ -9,7 +9,7 @@ pub mod Chart
 pub mod Rounds
 -- 5. the opening of a depot
 pub mod Opening
--- 6. a link added later; no call makes one yet. Nobody has to believe this file
+-- 6. a link added later
 pub mod Linking
 -- 7. what is proved of 2 to 6, by the words of 1. Calls on lent memory cite `IsCovered` and `IsSkipped`; nobody has to believe the others
 pub mod Correct

@@ -11,7 +11,7 @@ use lib.ListN.{length, getD}
 use Rattle.outcome.specs.Numbers.{absentCode, takenCode, lonelyDepot, unsortedNeighbours, unknownNeighbour, itselfLinked, linkedAlready}
 use Rattle.graph.specs.Network.{Network, Walk}
 use Rattle.graph.specs.Opening.{Notice}
-use Rattle.graph.specs.Updates.{Update, opens}
+use Rattle.graph.specs.Updates.{Update, opens, joins}
 
 -- 3, apart (where the links are sound): no walk leads from the lowest open code to some open depot
 pub record IsApart (G : Network) : Type 0 where
@@ -70,3 +70,4 @@ linkConditions G a b =
 -- the table for an update
 abbrev pub ownConditions : Network → Update → List (Type 0 × ℕ)
 ownConditions G (opens o) = noticeConditions G o
+ownConditions G (joins a b) = linkConditions G a b

@@ -1,10 +1,13 @@
 -- ARRIVAL ORDER: the plain list's network depends on the set of what was accepted alone (D). Assumes nothing.
-use mathlib.Core.Path.{_≡_, refl, sym, ap, _∙_, fun-ext}
+use mathlib.Core.Path.{_≡_, refl, sym, ap, ap₂, _∙_, fun-ext}
 use mathlib.Core.Logic.{_↔_}
-use mathlib.Core.Bool.{Bool, true, false, _&&_, _||_}
+use mathlib.Core.Bool.{Bool, true, false, _&&_, _||_, and-comm, or-comm}
 use mathlib.Core.List.{List, [], _∷_, _++_, List·Memᴰ}
 use mathlib.Core.Option.{Option, none, some}
-use Prim.Native.Nat.{ℕ, zero, suc}
+use Prim.Native.Nat.{ℕ, zero, suc, _≤_, max, min}
+use native.Mathlib.Nat.{min-eq-left, min-eq-right, max-eq-left, max-eq-right}
+use native.Mathlib.Decide.{decLe}
+use native.Mathlib.Omega.{arith}
 use lib.Dec.{eqb}
 use lib.ListN.{length}
 use Rattle.lists.specs.Lists.{range, filterb, anyb, memb}
@@ -12,7 +15,8 @@ use Rattle.lists.proofs.Tests.{same-test}
 use Rattle.lists.proofs.Members.{any-intro, any-elim}
 use Rattle.graph.specs.Network.{Network}
 use Rattle.graph.specs.Opening.{withDepot}
-use Rattle.graph.specs.Updates.{Update, opens, applied}
+use Rattle.graph.specs.Updates.{Update, opens, joins, toldAs, applied}
+use Rattle.graph.specs.Linking.{addLink}
 use Rattle.graph.specs.Batch.{Entry, Batch, firstFit, without, batchEnd, orEnd, batchBy, batchOf}
 use Rattle.map.specs.Memory.{Shape, places}
 use Rattle.batch.specs.Lines.{entriesOf}
@@ -45,9 +49,28 @@ turns-added (suc k) G es = go (firstFit G es) (λ H fs. turns-added k H fs)
     go none ih = refl
     go (some e) ih = ih (applied G (opens (e .notice))) (without (e .number) es)
 
+-- a link told in either order is one
+or-turn : (a b c d e : Bool) → (((b && c) || (d && a)) || e) ≡ (((a && d) || (c && b)) || e)
+or-turn a b c d e = ap (λ (x : Bool). x || e) (ap₂ _||_ (and-comm b c) (and-comm d a) ∙ or-comm (c && b) (a && d))
+
+link-turned : (G : Network) (a b : ℕ) → addLink G b a ≡ addLink G a b
+unfolding addLink
+link-turned G a b = network-path refl (λ c. refl) (λ u v. or-turn (eqb u a) (eqb u b) (eqb v a) (eqb v b) (G .linked u v))
+
+told-applied : (G : Network) (u : Update) → applied G u ≡ applied G (toldAs u)
+unfolding applied toldAs
+told-applied G (opens o) = refl
+told-applied G (joins a b) = go (decLe a b)
+  where
+    go : Dec (a ≤ b) → addLink G a b ≡ addLink G (min a b) (max a b)
+    go (yes l) = ap₂ (addLink G) (sym (min-eq-left l)) (sym (max-eq-right l))
+    go (no l) =
+        let k : b ≤ a = omega arith in
+        sym (link-turned G a b) ∙ ap₂ (addLink G) (sym (min-eq-right k)) (sym (max-eq-left k))
+
 ask-added : (k : ℕ) (G : Network) (a : Ask) → askNext k G a ≡ addAll G (askAccepted k G a)
 unfolding askNext askAccepted plainNext addAll batchOf
-ask-added zero G (update u) = refl
+ask-added zero G (update u) = told-applied G u
 ask-added zero G (batch lines) = turns-added (length (entriesOf lines)) G (entriesOf lines)
 ask-added (suc k) G (update u) = refl
 ask-added (suc k) G (batch lines) = refl
@@ -68,9 +91,11 @@ plain-added K G (f ∷ fs) =
 
 newDepot : ℕ → Update → Bool
 newDepot v (opens o) = eqb v (o .code)
+newDepot v (joins a b) = false
 
 newLink : ℕ → ℕ → Update → Bool
 newLink u v (opens o) = (eqb u (o .code) && memb v (o .neighbours)) || (eqb v (o .code) && memb u (o .neighbours))
+newLink u v (joins a b) = (eqb u a && eqb v b) || (eqb v a && eqb u b)
 
 or-swap : (a b c : Bool) → ((a || b) || c) ≡ (b || (a || c))
 or-swap true true c = refl
@@ -83,16 +108,20 @@ or-false true = refl
 or-false false = refl
 
 added-open : (G : Network) (os : List Update) (v : ℕ) → addAll G os .isOpen v ≡ (G .isOpen v || anyb (newDepot v) os)
-unfolding addAll applied withDepot anyb newDepot
+unfolding addAll applied withDepot addLink anyb newDepot
 added-open G [] v = or-false (G .isOpen v)
 added-open G (opens o ∷ os) v = added-open (applied G (opens o)) os v ∙ or-swap (eqb v (o .code)) (G .isOpen v) (anyb (newDepot v) os)
+added-open G (joins a b ∷ os) v = added-open (applied G (joins a b)) os v
 
 added-linked : (G : Network) (os : List Update) (u v : ℕ) → addAll G os .linked u v ≡ (G .linked u v || anyb (newLink u v) os)
-unfolding addAll applied withDepot anyb newLink
+unfolding addAll applied withDepot addLink anyb newLink
 added-linked G [] u v = or-false (G .linked u v)
 added-linked G (opens o ∷ os) u v =
     added-linked (applied G (opens o)) os u v
     ∙ or-swap ((eqb u (o .code) && memb v (o .neighbours)) || (eqb v (o .code) && memb u (o .neighbours))) (G .linked u v) (anyb (newLink u v) os)
+added-linked G (joins a b ∷ os) u v =
+    added-linked (applied G (joins a b)) os u v
+    ∙ or-swap ((eqb u a && eqb v b) || (eqb v a && eqb u b)) (G .linked u v) (anyb (newLink u v) os)
 
 any-same : (p : Update → Bool) (os qs : List Update) → ((o : Update) → List·Memᴰ o os ↔ List·Memᴰ o qs) → anyb p os ≡ anyb p qs
 any-same p os qs h =

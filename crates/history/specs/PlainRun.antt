@@ -8,7 +8,7 @@ use Rattle.outcome.specs.Numbers.{shortBuffer}
 use Rattle.lists.specs.Lists.{firstOf}
 use Rattle.graph.specs.Network.{Network}
 use Rattle.graph.specs.Distance.{vertices}
-use Rattle.graph.specs.Updates.{Update, opens, updateFaults}
+use Rattle.graph.specs.Updates.{Update, opens, toldAs, updateFaults}
 use Rattle.graph.specs.Batch.{Entry, batchOf, numbersOf}
 use Rattle.map.specs.Memory.{Shape}
 use Rattle.map.specs.Room.{Sizes, longEnough}
@@ -64,8 +64,8 @@ openingsOf [] = []
 openingsOf (e ∷ es) = opens (e .notice) ∷ openingsOf es
 
 unfoldable pub askAccepted : ℕ → Network → Ask → List Update
-unfolding openingsOf
-askAccepted zero G (update u) = u ∷ []
+unfolding openingsOf toldAs
+askAccepted zero G (update u) = toldAs u ∷ []
 askAccepted zero G (batch lines) = openingsOf (batchOf G (entriesOf lines) .accepted)
 askAccepted (suc k) G a = []
 

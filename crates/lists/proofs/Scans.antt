@@ -10,19 +10,6 @@ use lib.Seq.{drop-cons}
 use Rattle.lists.specs.Lists.{filterb, allb}
 use Rattle.lists.proofs.Tests.{and-true}
 
--- every element passes
-pub all-more {ℓ} : {A : Type ℓ} (p : A → Bool) (s : List A) (i : ℕ) (x : A) → i < length s → p (getD s i x) ≡ true → allb p (drop i s) ≡ allb p (drop (i + 1) s)
-unfolding allb
-all-more p s i x h e = rw (add-one, drop-cons s i x h, e)
-
-pub all-fault {ℓ} : {A : Type ℓ} (p : A → Bool) (s : List A) (i : ℕ) (x : A) → i < length s → p (getD s i x) ≡ false → allb p (drop i s) ≡ false
-unfolding allb
-all-fault p s i x h e = rw (drop-cons s i x h, e)
-
-pub all-out {ℓ} : {A : Type ℓ} (p : A → Bool) (s : List A) (i : ℕ) → length s ≤ i → allb p (drop i s) ≡ true
-unfolding allb
-all-out p s i h = rw (drop-of-length-le s h)
-
 -- of a list whose elements all pass, each does
 pub all-at {ℓ} : {A : Type ℓ} (p : A → Bool) (s : List A) (i : ℕ) (x : A) → i < length s → allb p s ≡ true → p (getD s i x) ≡ true
 unfolding allb

@@ -29,8 +29,9 @@ use Rattle.map.specs.Room.{Sizes, longEnough}
 use Rattle.update.specs.UpdateCall.{updateRefusal, networkAfter, IsWithin}
 use Rattle.update.proofs.Memories.{IsHeld, Stores, number-is, depots-few}
 use Rattle.graph.proofs.Delivers.{delivers-open}
-use Rattle.graph.specs.Updates.{Update, opens, updateFaults, applied, IsLawful}
-use Rattle.graph.proofs.Updates.{update-lawful}
+use Rattle.graph.specs.Updates.{Update, opens, joins, updateFaults, applied, IsLawful}
+use Rattle.graph.specs.Linking.{addLink}
+use Rattle.graph.proofs.Lawful.{update-lawful}
 use Rattle.lent_map.proofs.Passes.{IsPassed, lent-passed, passed-net}
 use Rattle.lent_map.specs.Faults.{lentFaults}
 
@@ -42,8 +43,9 @@ after-is K rec links o = refl
 -- an update's network lists its depots as a map does, in rising order
 depots-after : (K : Shape) (rec : Record) (links : List ℕ) → IsNet (mapNetwork K rec links) → (o : Update) → suc (length (vertices (mapNetwork K rec links))) < unreached
     → firstOf (updateFaults (mapNetwork K rec links) o) ≡ 0 → IsWithin K o → vertices (networkAfter K rec links o) ≡ filterb (networkAfter K rec links o .isOpen) (range (places K))
-unfolding networkAfter applied withDepot networkOf updateFaults
+unfolding networkAfter applied withDepot addLink networkOf updateFaults
 depots-after K rec links net (opens o) room ok low = insert-filter (mapNetwork K rec links .isOpen) (o .code) (admitted-of (mapNetwork K rec links) net o room ok .fresh) (places K) low
+depots-after K rec links net (joins a b) room ok low = refl
 
 -- ---- AN UPDATE THAT IS NOT REFUSED
 
@@ -62,7 +64,7 @@ module _ (K : Shape) (shape : IsShape K) (rec : Record) (links pairs : List ℕ)
   pub granted-long : longEnough K sizes ≡ true
   granted-long = passed .whole
 
-  granted-links : AreLinksSound (places K) N (rec .number)
+  pub granted-links : AreLinksSound (places K) N (rec .number)
   granted-links = sound-links-iff (K .words) (rec .members) links (rec .number) .0 (passed .linked)
 
   pub granted-figures : AreFiguresSound (places K) N P (rec .chain) (rec .count)

@@ -6,6 +6,8 @@ pub mod Grants
 pub mod Openings
 -- A call's marks, number of searches and cover.
 pub mod Marks
+-- What an accepted call leaves in every table.
+pub mod Tables
 -- Which refusal a call gives.
 pub mod Refusals
 -- The empty map.

@@ -1,15 +1,18 @@
 -- THE REFUSALS OF AN UPDATE, by the code's tests: those of the lent memory first, then its own. Assumes nothing.
 use mathlib.Core.Path.{_≡_, refl, ap, _∙_}
-use mathlib.Core.Bool.{Bool, true}
+use mathlib.Core.Bool.{Bool, true, not}
 use mathlib.Core.List.{List}
 use Prim.Native.Nat.{ℕ, zero, suc}
 use lib.ListN.{length}
+use borrow.Author.Tests.{not-false}
 use Rattle.lists.specs.Lists.{firstOf}
+use Rattle.lists.proofs.Members.{first-zero}
 use Rattle.graph.specs.Network.{Network}
 use Rattle.graph.specs.Distance.{connected}
 use Rattle.graph.specs.Chart.{Pairs}
 use Rattle.graph.specs.Opening.{Notice, openFaults}
-use Rattle.graph.specs.Updates.{Update, opens, updateFaults}
+use Rattle.graph.specs.Updates.{Update, opens, joins, updateFaults}
+use Rattle.graph.specs.Linking.{linkFaults}
 use Rattle.rows.specs.Rows.{tableBit}
 use Rattle.map.specs.Room.{tables, Lent, lent, Sizes, sizes, sizesOf, longEnough}
 use Rattle.map.specs.Memory.{Shape, places, mapNetwork}
@@ -52,6 +55,16 @@ module _ (K : Shape) (rec : Record) (links pairs : List ℕ) (z : Sizes) where
   pub refused-by-notice : (o : Notice) → 0 ≡ mapRefusal K rec links pairs z → firstOf (openFaults G o) ≡ updateRefusal K rec links pairs z (opens o)
   unfolding updateFaults
   refused-by-notice o e = refused-by-update (opens o) e
+
+  -- of a link its codes'
+  pub refused-by-link : (a b : ℕ) → 0 ≡ mapRefusal K rec links pairs z → firstOf (linkFaults G a b) ≡ updateRefusal K rec links pairs z (joins a b)
+  unfolding updateFaults
+  refused-by-link a b e = refused-by-update (joins a b) e
+
+  -- a map that nothing refuses is lent whole
+  pub map-long : mapRefusal K rec links pairs z ≡ 0 → longEnough K z ≡ true
+  unfolding mapRefusal lentRefusal lentFaults
+  map-long e = not-false (longEnough K z) (first-zero (not (longEnough K z)) 0 _ e .0)
 
 -- ---- the call
 

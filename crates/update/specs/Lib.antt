@@ -9,5 +9,7 @@ pub mod Represents
 pub mod Refusals
 -- 5. demand 2 for updates
 pub mod Demand2
--- 6. small words for contracts, and the refusal of the lent map alone, which the stream's step cites
+-- 6. what an accepted call leaves in every table
+pub mod Tables
+-- 7. small words for contracts, and the refusal of the lent map alone, which the stream's step cites
 pub mod Steps

@@ -10,7 +10,7 @@ use Rattle.graph.specs.Network.{Network}
 use Rattle.graph.specs.Distance.{vertices}
 use Rattle.graph.specs.Chart.{chart, countPairs}
 use Rattle.graph.specs.Opening.{Opened}
-use Rattle.graph.specs.Updates.{Update, opens, updateFaults, applied, steps}
+use Rattle.graph.specs.Updates.{Update, opens, joins, updateFaults, applied, steps}
 use Rattle.rows.specs.Rows.{tableBit, encodeRow, encodeTable}
 use Rattle.map.specs.Memory.{Shape, places, mapNetwork}
 use Rattle.map.specs.declared.Record.{Record}
@@ -78,6 +78,7 @@ referencesOf K rec links B o = referencesBy (updateRefusal K rec links (B .pairs
 abbrev pub Step : Type 0
 Step = Record → List ℕ → Lent → Update → UpdateLeft
 
--- the codes that an update opens are codes of the map: bytes where it has 256
+-- the codes that an update opens are codes of the map: bytes where it has 256. A link opens none
 abbrev pub IsWithin : Shape → Update → Type 0
 IsWithin K (opens o) = o .code < places K
+IsWithin K (joins a b) = Unit {0}

@@ -1,2 +1,0 @@
--- What an accepted opening leaves in every table.
-pub mod Tables
