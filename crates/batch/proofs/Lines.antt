@@ -1,13 +1,13 @@
 -- THE LINES OF A BATCH one after the other: what reads is the first line, and the others follow behind it; what does not read is a garbled line.
 -- Assumes nothing.
 use mathlib.Core.Path.{_≡_, refl, sym, ap, ap₂, _∙_}
-use mathlib.Core.Bool.{Bool, true, false}
+use mathlib.Core.Bool.{Bool, true, false, cond}
 use mathlib.Core.List.{List, [], _∷_, _++_}
 use Prim.Native.Nat.{ℕ, suc, _+_, _-_, _≤_, _<_}
 use native.Mathlib.Omega.{arith}
 use lib.Dec.{eqb}
 use lib.ListN.{length, getD, take, drop, take-append-drop, length-append, length-drop, drop-of-length-le}
-use lib.Seq.{append-snoc, drop-drop, take-all}
+use lib.Seq.{append-snoc, drop-drop}
 use Rattle.lists.specs.Lists.{allb}
 use Rattle.lists.proofs.Tests.{and-true}
 use Rattle.lists.proofs.Appends.{append-none, append-append}
@@ -16,7 +16,9 @@ use Rattle.graph.specs.Batch.{entryOf}
 use Rattle.hexadecimal.specs.Hex.{isDigit, digitsOf}
 use Rattle.hexadecimal.proofs.Digits.{digit-no-end}
 use Rattle.hexadecimal.proofs.Spelling.{all-digits}
-use Rattle.notice.specs.Lines.{lineEnd, lineOf, Line, garbled, frame, readLine, onto, linesOf}
+use Rattle.notice.specs.Lines.{openingKind, lineEnd, lineOf, Line, garbled, frame, readLine, onto, linesOf}
+use Rattle.notice.proofs.Readings.{behind, FrameStands}
+use borrow.Author.Tests.{eq-eqb, ne-eqb}
 use Rattle.notice.proofs.Theorems.{written-reads, read-written, read-used, read-frame}
 use Rattle.transcript.specs.Transcript.{updateIn}
 use Rattle.batch.specs.Lines.{openingIn, noticeIn, isSome, isOpening, entryBefore, entriesFrom}
@@ -100,10 +102,6 @@ line-fails (b ∷ bs) l e = let is = begins-with b bs in (is .line, is .others, 
 
 -- ---- whether all open something
 
--- the bytes behind a place, as the code takes them
-pub behind : (s : List ℕ) (at : ℕ) → take (length s - at) (drop at s) ≡ drop at s
-behind s at = take-all (length s - at) (drop at s) (omega (arith, length-drop at s))
-
 -- how far the loop has come: all lines open something exactly if those behind the place `at` do
 pub record AreRead (s : List ℕ) (at : ℕ) : Type 0 where
   pub within : at ≤ length s
@@ -112,9 +110,14 @@ pub record AreRead (s : List ℕ) (at : ℕ) : Type 0 where
 pub read-none : (s : List ℕ) → AreRead s 0
 read-none s = record { within = omega arith; same = refl }
 
-pub all-reads : (s f : List ℕ) (u : ℕ) → LineReads s f u → allb isOpening (linesOf s) ≡ allb isOpening (linesOf (drop u s))
+pub all-reads : (s f : List ℕ) (u : ℕ) → LineReads s f u → eqb (getD f 0 0) openingKind ≡ true → allb isOpening (linesOf s) ≡ allb isOpening (linesOf (drop u s))
 unfolding allb isOpening noticeIn openingIn updateIn isSome
-all-reads s f u r = rw (r .lines, r .reads)
+all-reads s f u r k = rw (r .lines, r .reads, k)
+
+-- a frame of another kind opens nothing
+pub all-other : (s f : List ℕ) (u : ℕ) → LineReads s f u → eqb (getD f 0 0) openingKind ≡ false → allb isOpening (linesOf s) ≡ false
+unfolding allb isOpening noticeIn openingIn updateIn isSome
+all-other s f u r k = rw (r .lines, r .reads, k)
 
 pub all-fails-here : (s : List ℕ) → 0 < length s → readLine s ≡ garbled → allb isOpening (linesOf s) ≡ false
 unfolding allb isOpening noticeIn isSome
@@ -133,16 +136,20 @@ read-more {s} {at} {u} is e some-used = go (readLine t) refl
 
     go : (l : Line) → readLine t ≡ l → (0 < u) × AreRead s (at + u)
     go garbled q = absurd (some-used (e ∙ ap openingLength q))
-    go (frame f v) q =
-        let r = line-reads t f v q in
-        let uv : u ≡ v = e ∙ ap openingLength q in
-        let k : length t ≡ length s - at = ap length part ∙ length-drop at s in (
-          omega (arith, uv, r .some-used),
-          record {
-            within = omega (arith, is .within, uv, r .within, k);
-            same = is .same ∙ ap (λ (x : List ℕ). allb isOpening (linesOf x)) (sym part) ∙ all-reads t f v r ∙ ap₂ (λ (x : List ℕ) (n : ℕ). allb isOpening (linesOf (drop n x))) part (sym uv) ∙ ap (λ (x : List ℕ). allb isOpening (linesOf x)) (drop-drop u at s);
-          },
-        )
+    go (frame f v) q = by (eqb (getD f 0 0) openingKind) refl
+      where
+        by : (b : Bool) → eqb (getD f 0 0) openingKind ≡ b → (0 < u) × AreRead s (at + u)
+        by false k = absurd (some-used (e ∙ ap openingLength q ∙ ap (λ (b : Bool). cond b v 0) k))
+        by true k =
+            let r = line-reads t f v q in
+            let uv : u ≡ v = e ∙ ap openingLength q ∙ ap (λ (b : Bool). cond b v 0) k in
+            let l : length t ≡ length s - at = ap length part ∙ length-drop at s in (
+              omega (arith, uv, r .some-used),
+              record {
+                within = omega (arith, is .within, uv, r .within, l);
+                same = is .same ∙ ap (λ (x : List ℕ). allb isOpening (linesOf x)) (sym part) ∙ all-reads t f v r k ∙ ap₂ (λ (x : List ℕ) (n : ℕ). allb isOpening (linesOf (drop n x))) part (sym uv) ∙ ap (λ (x : List ℕ). allb isOpening (linesOf x)) (drop-drop u at s);
+              },
+            )
 
 -- the line here is garbled; all are read
 pub read-fails : {s : List ℕ} {at u : ℕ} → AreRead s at → at < length s → u ≡ openingLength (readLine (take (length s - at) (drop at s))) → u ≡ 0 → false ≡ allb isOpening (linesOf s)
@@ -157,15 +164,29 @@ read-fails {s} {at} {u} is l e z = go (readLine t) refl
 
     go : (x : Line) → readLine t ≡ x → false ≡ allb isOpening (linesOf s)
     go garbled q = sym (is .same ∙ ap (λ (x : List ℕ). allb isOpening (linesOf x)) (sym part) ∙ all-fails-here t (omega (arith, ap length part, length-drop at s)) q)
-    go (frame f v) q = let r = line-reads t f v q in absurd (omega (arith, r .some-used, e ∙ ap openingLength q))
+    go (frame f v) q = by (eqb (getD f 0 0) openingKind) refl
+      where
+        by : (b : Bool) → eqb (getD f 0 0) openingKind ≡ b → false ≡ allb isOpening (linesOf s)
+        by true k = let r = line-reads t f v q in absurd (omega (arith, r .some-used, e ∙ ap openingLength q ∙ ap (λ (b : Bool). cond b v 0) k))
+        by false k = sym (is .same ∙ ap (λ (x : List ℕ). allb isOpening (linesOf x)) (sym part) ∙ all-other t f v (line-reads t f v q) k)
 
 pub read-all : {s : List ℕ} {at : ℕ} → AreRead s at → length s ≤ at → true ≡ allb isOpening (linesOf s)
 unfolding allb linesOf
 read-all {s} is l = sym (is .same ∙ ap (λ (x : List ℕ). allb isOpening (linesOf x)) (drop-of-length-le s l))
 
+-- what the code finds by the frame that it has read
+
+pub opening-length : (text : List ℕ) {after : List ℕ} {n u : ℕ} → ((f : List ℕ) × (readLine text ≡ frame f u) × FrameStands f n after) → getD after 0 0 ≡ openingKind → u ≡ openingLength (readLine text)
+unfolding openingLength
+opening-length text {u = u} x k = sym (ap openingLength (x .1) ∙ ap (λ (b : Bool). cond b u 0) (eq-eqb (getD (x .0) 0 0) openingKind (sym (x .2 .kind) ∙ k)))
+
+pub other-length : (text : List ℕ) {after : List ℕ} {n u : ℕ} → ((f : List ℕ) × (readLine text ≡ frame f u) × FrameStands f n after) → (getD after 0 0 ≡ openingKind → ⊥) → 0 ≡ openingLength (readLine text)
+unfolding openingLength
+other-length text {u = u} x k = sym (ap openingLength (x .1) ∙ ap (λ (b : Bool). cond b u 0) (ne-eqb (getD (x .0) 0 0) openingKind (λ e. k (x .2 .kind ∙ e))))
+
 -- ---- the entries of a line and of those behind it
 
-pub entries-reads : (n : ℕ) (s f : List ℕ) (u : ℕ) → LineReads s f u
+pub entries-reads : (n : ℕ) (s f : List ℕ) (u : ℕ) → LineReads s f u → eqb (getD f 0 0) openingKind ≡ true
     → entriesFrom n (linesOf s) ≡ entryOf n (noticeOf (getD f 1 0) (drop 3 f)) ∷ entriesFrom (suc n) (linesOf (drop u s))
 unfolding entriesFrom noticeIn openingIn updateIn entryBefore
-entries-reads n s f u r = rw (r .lines, r .reads)
+entries-reads n s f u r k = rw (r .lines, r .reads, k)

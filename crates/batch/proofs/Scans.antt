@@ -20,12 +20,12 @@ use Rattle.graph.specs.Network.{Network}
 use Rattle.graph.specs.Opening.{Notice, noticeOf, openFaults}
 use Rattle.graph.specs.Updates.{updateFaults}
 use Rattle.graph.specs.Batch.{Entry, accepts, firstFit}
-use Rattle.notice.specs.Lines.{garbled, frame, linesOf, readLine}
-use Rattle.notice.proofs.Readings.{FrameStands}
+use Rattle.notice.specs.Lines.{openingKind, garbled, frame, linesOf, readLine}
+use Rattle.notice.proofs.Readings.{behind, FrameStands}
 use Rattle.batch.specs.Lines.{isOpening, entriesFrom, entriesOf}
 use Rattle.batch.specs.Steps.{waitingOf, fitOf, Leavings, leavings, leftNumbers, leftOver, putNumber}
 use Rattle.batch.specs.declared.Fit.the-variants.{Line as Found, Nothing}
-use Rattle.batch.proofs.Lines.{LineReads, line-reads, behind, all-reads, all-fails-here, entries-reads}
+use Rattle.batch.proofs.Lines.{LineReads, line-reads, all-reads, all-other, all-fails-here, entries-reads}
 
 -- ---- the scan
 
@@ -40,12 +40,12 @@ fit-cons G taken e es = go (not (bit taken (e .number))) refl
     go true h = rw h
     go false h = rw h
 
-module _ (G : Network) (taken number : ℕ) (s f : List ℕ) (u : ℕ) {n : ℕ} {after : List ℕ} (r : LineReads s f u) (stands : FrameStands f n after) where
+module _ (G : Network) (taken number : ℕ) (s f : List ℕ) (u : ℕ) {n : ℕ} {after : List ℕ} (r : LineReads s f u) (opens-one : eqb (getD f 0 0) openingKind ≡ true) (stands : FrameStands f n after) where
   fit-reads : firstFit G (waitingOf taken (entriesFrom number (linesOf s)))
       ≡ cond (not (bit taken number) && accepts G (noticeOf (getD after 1 0) (take (n - 3) (drop 3 after)))) (fitOf (Found number n) after)
       (firstFit G (waitingOf taken (entriesFrom (suc number) (linesOf (drop u s)))))
   unfolding fitOf
-  fit-reads = rw (entries-reads number s f u r, stands .code, stands .neighbours) (fit-cons G taken _ _)
+  fit-reads = rw (entries-reads number s f u r opens-one, stands .code, stands .neighbours) (fit-cons G taken _ _)
 
   -- this line it is
   pub scan-takes : {b : Bool} → b ≡ (not (bit taken number) && accepts G (noticeOf (getD after 1 0) (take (n - 3) (drop 3 after)))) → b ≡ true
@@ -77,6 +77,14 @@ module _ {G : Network} {taken : ℕ} {s : List ℕ} {number at : ℕ} (is : IsSc
   scan-line {f} {u} e = line-reads (drop at s) f u (ap readLine (sym (behind s at)) ∙ e)
 
   module _ {f : List ℕ} {u : ℕ} (r : LineReads (drop at s) f u) where
+    -- it opens something, as all do
+    opens-one : eqb (getD f 0 0) openingKind ≡ true
+    opens-one = go (eqb (getD f 0 0) openingKind) refl
+      where
+        go : (b : Bool) → eqb (getD f 0 0) openingKind ≡ b → eqb (getD f 0 0) openingKind ≡ true
+        go true k = k
+        go false k = absurd (clash (is .opening) (all-other (drop at s) f u r k))
+
     pub scan-within : at + u ≤ length s
     scan-within = omega (arith, is .within, r .within, length-drop at s)
 
@@ -87,7 +95,7 @@ module _ {G : Network} {taken : ℕ} {s : List ℕ} {number at : ℕ} (is : IsSc
     module _ {n : ℕ} {after : List ℕ} (stands : FrameStands f n after) {b : Bool}
         (e : b ≡ (not (bit taken number) && accepts G (noticeOf (getD after 1 0) (take (n - 3) (drop 3 after))))) where
       pub scan-found : b ≡ true → fitOf (Found number n) after ≡ firstFit G (waitingOf taken (entriesOf s))
-      scan-found h = scan-takes G taken number (drop at s) f u r stands e h ∙ sym (is .same)
+      scan-found h = scan-takes G taken number (drop at s) f u r opens-one stands e h ∙ sym (is .same)
 
       pub scan-more : b ≡ false → IsScanned G taken s (number + 1) (at + u)
       scan-more h =
@@ -95,8 +103,8 @@ module _ {G : Network} {taken : ℕ} {s : List ℕ} {number at : ℕ} (is : IsSc
           record {
             within = scan-within;
             counted = omega (arith, is .counted, ap length (r .lines), ap (λ (x : List ℕ). length (linesOf x)) rest);
-            opening = sym (all-reads (drop at s) f u r ∙ ap (λ (x : List ℕ). allb isOpening (linesOf x)) rest) ∙ is .opening;
-            same = is .same ∙ scan-passes G taken number (drop at s) f u r stands e h ∙ ap (λ (x : List ℕ). firstFit G (waitingOf taken (entriesFrom (number + 1) (linesOf x)))) rest;
+            opening = sym (all-reads (drop at s) f u r opens-one ∙ ap (λ (x : List ℕ). allb isOpening (linesOf x)) rest) ∙ is .opening;
+            same = is .same ∙ scan-passes G taken number (drop at s) f u r opens-one stands e h ∙ ap (λ (x : List ℕ). firstFit G (waitingOf taken (entriesFrom (number + 1) (linesOf x)))) rest;
           }
 
   pub scan-end : (after : List ℕ) → length s ≤ at → fitOf Nothing after ≡ firstFit G (waitingOf taken (entriesOf s))

@@ -9,7 +9,7 @@ use lib.ListN.{length}
 use Rattle.lists.specs.Lists.{allb}
 use Rattle.outcome.specs.Numbers.{overfullBatch, bareMap, garbledLine}
 use Rattle.graph.specs.Opening.{Notice}
-use Rattle.graph.specs.Updates.{Update, opens}
+use Rattle.graph.specs.Updates.{Update, opens, joins}
 use Rattle.graph.specs.Batch.{Entry, entryOf}
 use Rattle.notice.specs.Lines.{Line, garbled, frame, linesOf, readLine}
 use Rattle.transcript.specs.Transcript.{updateIn}
@@ -23,6 +23,7 @@ batchLimit = 64
 -- the notice of an update that opens something; an update of another kind has none
 unfoldable pub openingIn : Update → Option Notice
 openingIn (opens o) = some o
+openingIn (joins a b) = none
 
 -- the notice of a line as the reader takes it; none: the line is garbled here
 unfoldable pub noticeIn : Line → Option Notice

@@ -3,12 +3,13 @@ use mathlib.Core.Bool.{cond, not}
 use mathlib.Core.List.{List}
 use mathlib.Core.Option.{Option, none, some}
 use Prim.Native.Nat.{ℕ, _+_, _-_, _≤_, _<_}
+use lib.Dec.{eqb}
 use lib.ListN.{length, getD, set, take, drop}
 use Rattle.lists.specs.Lists.{range, filterb, overwrite}
 use Rattle.words.specs.Bits.{bit}
 use Rattle.graph.specs.Opening.{noticeOf}
 use Rattle.graph.specs.Batch.{Entry, entryOf}
-use Rattle.notice.specs.Lines.{Line, garbled, frame}
+use Rattle.notice.specs.Lines.{openingKind, Line, garbled, frame}
 use Rattle.batch.specs.Lines.{batchLimit}
 use Rattle.batch.specs.declared.Fit.{Fit}
 use Rattle.batch.specs.declared.Fit.the-variants.{Line as Found, Nothing}
@@ -16,7 +17,7 @@ use Rattle.batch.specs.declared.Fit.the-variants.{Line as Found, Nothing
 -- the bytes of a line that opens something; 0: it is garbled here
 unfoldable pub openingLength : Line → ℕ
 openingLength garbled = 0
-openingLength (frame f used) = used
+openingLength (frame f used) = cond (eqb (getD f 0 0) openingKind) used 0
 
 -- the entries whose numbers are not in the word `taken`
 unfoldable pub waitingOf : ℕ → List Entry → List Entry

@@ -60,7 +60,12 @@ fn opening_length(text: &[u8]) -> usize
     let mut frame = [0u8; notice::FRAME_LIMIT];
     let got = notice::read_notice(&mut frame, text);
     match got {
-        Reading::Frame(_, used) => used,
+        Reading::Frame(_, used) => {
+            if frame[0] != notice::OPENING {
+                return 0;
+            }
+            used
+        }
         Reading::Refused(_) => 0,
     }
 }

@@ -2,11 +2,15 @@
 use mathlib.Core.Path.{_≡_, ap, _∙_}
 use mathlib.Core.Logic.{_⊎_, inl, inr}
 use mathlib.Core.Bool.{true, false, _&&_}
-use Prim.Native.Nat.{ℕ, _+_, _-_, _≤_, _<_}
+use mathlib.Core.List.{List, [], _∷_}
+use Prim.Native.Nat.{ℕ, zero, suc, _+_, _-_, _≤_, _<_}
+use native.Mathlib.Numerals.{add-one}
 use native.Mathlib.Omega.{arith}
 use lib.Dec.{eqb, leb}
+use lib.ListN.{length, getD, take}
 use borrow.Author.Tests.{leb-true, lt-ltb, le-ltb, le-leb, lt-leb, ne-eqb}
 use Rattle.lists.proofs.Tests.{and-true, and-intro, or-true, or-left, or-right, lt-or-ge}
+use Rattle.lists.specs.Lists.{allb}
 use Rattle.hexadecimal.specs.Hex.{hexDigit, isDigit, digitValue}
 
 -- a digit is one of 0 to 9 or of A to F
@@ -99,3 +103,12 @@ digit-is d h = go (lt-or-ge d 10)
 -- no digit ends a line
 pub digit-no-end : (c : ℕ) → isDigit c ≡ true → eqb c 10 ≡ false
 digit-no-end c h = let l = digit-least c h in ne-eqb c 10 (λ e. omega arith)
+
+-- one more digit behind digits
+pub digits-more : (s : List ℕ) (i : ℕ) → i < length s → allb isDigit (take i s) ≡ true → isDigit (getD s i 0) ≡ true → allb isDigit (take (i + 1) s) ≡ true
+unfolding allb
+digits-more [] i h d e = absurd (omega arith)
+digits-more (c ∷ cs) zero h d e = rw e
+digits-more (c ∷ cs) (suc i) h d e =
+    let p = and-true (isDigit c) (allb isDigit (take i cs)) d in
+    rw (add-one (suc i)) (and-intro (p .0) (rw (add-one i) at (digits-more cs i (omega arith) (p .1) e)))

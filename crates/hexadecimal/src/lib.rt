@@ -1,23 +1,26 @@
 // Bytes as digits: two of the sixteen digits 0 to 9 and A to F for each byte, the high one first.
 ghost use mathlib.Core.Path.{_≡_};
-ghost use mathlib.Core.Bool.{true};
+ghost use mathlib.Core.Bool.{true, false};
 ghost use Prim.Native.Nat.{_+_, _*_, _≤_, _<_};
-ghost use lib.ListN.{length, getD};
+ghost use lib.ListN.{length, getD, take};
 ghost use Rattle.lists.specs.Lists.{allb, overwrite};
 ghost use Rattle.hexadecimal.specs.Hex.{hexDigit, isDigit, digitValue, digitsOf, bytesOf};
 
-// Whether every byte is a digit.
-pub fn all_digits(s: &[u8]) -> bool
-    ensures { λ r. ⌜ r ≡ allb isDigit (now (s .entry)) ⌝ }
+// Where the first byte that is no digit stands, the length where all are digits.
+pub fn digits_end(s: &[u8]) -> usize
+    ensures { λ r.
+        ⌜ (r ≤ length (now (s .entry)))
+        × (allb isDigit (take r (now (s .entry))) ≡ true)
+        × (r < length (now (s .entry)) → isDigit (getD (now (s .entry)) r 0) ≡ false) ⌝ }
 {
     let mut i = 0;
     while i < s.len() {
         if !is_digit(s[i]) {
-            return false;
+            return i;
         }
         i += 1;
     }
-    true
+    i
 }
 
 // Puts the bytes that the digits spell at the start of the frame buffer.

@@ -4,7 +4,7 @@ use mathlib.Core.List.{List}
 use Prim.Native.Nat.{ℕ, _-_, _≤_}
 use native.Mathlib.Omega.{arith}
 use lib.ListN.{length, getD, take, drop, length-drop, List·getD-append}
-use lib.Seq.{drop-append-le, take-at}
+use lib.Seq.{drop-append-le, take-at, take-all}
 use borrow.Author.Tests.{le-ltb, ltb-true}
 use Rattle.lists.specs.Lists.{overwrite}
 use Rattle.outcome.specs.Numbers.{garbledLine}
@@ -14,7 +14,7 @@ use Rattle.notice.specs.Calls.{frameLimit, lineDone, lineRefused, readin
 use Rattle.notice.specs.declared.Reading.{Reading}
 use Rattle.notice.specs.declared.Reading.the-variants.{Frame, Refused as NoReading}
 use Rattle.lists.proofs.Scans.{all-at}
-use Rattle.notice.proofs.Tests.{frame-parts}
+use Rattle.notice.proofs.Tests.{length-most, frame-parts}
 use Rattle.notice.proofs.Theorems.{read-frame}
 
 -- the reader on a frame buffer that is long enough
@@ -22,12 +22,18 @@ read-into : (text buffer : List ℕ) → frameLimit ≤ length buffer → readCa
 unfolding readCall
 read-into text buffer k = rw (le-ltb (length buffer) frameLimit k)
 
+-- the bytes behind a place, as the code takes them
+pub behind : (s : List ℕ) (at : ℕ) → take (length s - at) (drop at s) ≡ drop at s
+behind s at = take-all (length s - at) (drop at s) (omega (arith, length-drop at s))
+
 -- ---- a line that reads
 
--- the frame f stands in the buffer: its length, its code, its neighbours
+-- the frame f stands in the buffer: its length, itself, and of its bytes those that are looked at one by one
 pub record FrameStands (f : List ℕ) (n : ℕ) (after : List ℕ) : Type 0 where
   pub long : 3 ≤ n
   pub fits : n ≤ frameLimit
+  pub whole : take n after ≡ f
+  pub kind : getD after 0 0 ≡ getD f 0 0
   pub code : getD after 1 0 ≡ getD f 1 0
   pub neighbours : take (n - 3) (drop 3 after) ≡ drop 3 f
 
@@ -38,13 +44,15 @@ frame-length text f u e =
     let p = read-frame text f u e in
     let q = frame-parts f (p .0) in
     let b = ltb-true (getD f 2 0) 256 (all-at isByte f 2 0 (omega (arith, q)) (p .1)) in
-    (omega (arith, q), omega (arith, q, b))
+    (q .0, omega (arith, q, b, length-most (getD f 0 0) (getD f 2 0)))
 
 stands-in : (f buffer : List ℕ) → 3 ≤ length f → length f ≤ frameLimit → FrameStands f (length f) (overwrite f buffer)
 unfolding overwrite
 stands-in f buffer l k = record {
   long = l;
   fits = k;
+  whole = take-at f (drop (length f) buffer) (length f) refl;
+  kind = List·getD-append f (drop (length f) buffer) 0 0 (omega arith);
   code = List·getD-append f (drop (length f) buffer) 0 1 (omega arith);
   neighbours = ap (take (length f - 3)) (drop-append-le 3 f (drop (length f) buffer) l) ∙ take-at (drop 3 f) (drop (length f) buffer) (length f - 3) (length-drop 3 f);
 }

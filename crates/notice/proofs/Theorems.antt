@@ -10,34 +10,37 @@ use lib.Seq.{append-snoc, take-append-seam, take-append-add, take-take, take-suc
 use borrow.Author.Tests.{ltb-true, lt-ltb, eq-eqb, le-ltb}
 use Rattle.lists.specs.Lists.{allb, overwrite}
 use Rattle.lists.proofs.Tests.{and-true, and-intro}
-use Rattle.notice.specs.Lines.{lineLimit, lineEnd, isFrame, lineOf, endOf, spellsFrame, garbled, frame, readHead, readLine}
+use Rattle.notice.specs.Lines.{lineLimit, lineEnd, frameLength, isFrame, lineOf, endOf, spellsFrame, garbled, frame, readHead, readLine}
 use Rattle.hexadecimal.specs.Hex.{isByte, digitsOf, bytesOf}
 use Rattle.notice.specs.Calls.{frameLimit, lineDone, lineLeft, readInto, readCall, writeCall}
-use Rattle.notice.proofs.Tests.{Spells, frame-parts, spells-parts}
+use Rattle.notice.proofs.Tests.{length-opening, length-most, length-only, Spells, frame-parts, spells-parts}
 use Rattle.hexadecimal.proofs.Spelling.{length-digits, all-digits, bytes-digits, digits-bytes, bytes-below}
 use Rattle.notice.proofs.Ends.{length-line, end-is, end-digits}
 use Rattle.lists.proofs.Scans.{all-at}
 
 -- ---- the length of a line
 
--- seven bytes and two for each neighbour
-pub line-length : (f : List ℕ) → isFrame f ≡ true → length (lineOf f) ≡ 7 + 2 * getD f 2 0
+-- two digits for each byte, and the ending
+pub line-length : (f : List ℕ) → isFrame f ≡ true → length (lineOf f) ≡ 2 * frameLength (getD f 0 0) (getD f 2 0) + 1
 line-length f h = let l = length-line f in let p = frame-parts f h in omega arith
 
-count-below : (f : List ℕ) → isFrame f ≡ true → allb isByte f ≡ true → getD f 2 0 < 256
+third-below : (f : List ℕ) → isFrame f ≡ true → allb isByte f ≡ true → getD f 2 0 < 256
 unfolding isByte
-count-below f h b = let p = frame-parts f h in ltb-true (getD f 2 0) 256 (all-at isByte f 2 0 (omega arith) b)
+third-below f h b = let p = frame-parts f h in ltb-true (getD f 2 0) 256 (all-at isByte f 2 0 (omega arith) b)
 
 -- a line has at most 517 bytes, its ending counted
 pub line-most : (f : List ℕ) → isFrame f ≡ true → allb isByte f ≡ true → length (lineOf f) ≤ lineLimit
-line-most f h b = let l = line-length f h in let c = count-below f h b in omega arith
+line-most f h b = let l = line-length f h in let c = third-below f h b in let m = length-most (getD f 0 0) (getD f 2 0) in omega arith
 
--- it has 517 exactly where the frame has 255 neighbours
-pub line-longest : (f : List ℕ) → isFrame f ≡ true → getD f 2 0 ≡ 255 → length (lineOf f) ≡ lineLimit
-line-longest f h e = let l = line-length f h in omega arith
+-- it has 517 exactly where the frame opens a depot with 255 neighbours
+pub line-longest : (f : List ℕ) → isFrame f ≡ true → getD f 0 0 ≡ 1 → getD f 2 0 ≡ 255 → length (lineOf f) ≡ lineLimit
+line-longest f h k e = let l = line-length f h in let m = length-opening (getD f 0 0) (getD f 2 0) k refl in omega arith
 
-pub line-longest-only : (f : List ℕ) → isFrame f ≡ true → length (lineOf f) ≡ lineLimit → getD f 2 0 ≡ 255
-line-longest-only f h e = let l = line-length f h in omega arith
+pub line-longest-only : (f : List ℕ) → isFrame f ≡ true → length (lineOf f) ≡ lineLimit → (getD f 0 0 ≡ 1) × (getD f 2 0 ≡ 255)
+line-longest-only f h e =
+    let l = line-length f h in
+    let o = length-only (getD f 0 0) (getD f 2 0) (omega arith) in
+    (o .0, omega (arith, o .1))
 
 -- ---- what is written reads as the frame, whatever stands behind it
 

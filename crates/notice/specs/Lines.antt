@@ -2,7 +2,7 @@
 use mathlib.Core.Bool.{Bool, cond, _&&_}
 use mathlib.Core.List.{List, [], _∷_, _++_}
 use Prim.Native.Nat.{ℕ, suc, _+_, _%_}
-use lib.Dec.{eqb, ltb}
+use lib.Dec.{eqb, leb, ltb}
 use lib.ListN.{length, getD, take}
 use Rattle.lists.specs.Lists.{allb}
 use Rattle.hexadecimal.specs.Hex.{isDigit, digitsOf, bytesOf}
@@ -15,9 +15,21 @@ lineLimit = 517
 abbrev pub lineEnd : ℕ
 lineEnd = 10
 
--- a frame: the kind 01, a code, the number of neighbours, and that many neighbours
+-- THE KINDS OF FRAMES. One opens a depot: kind, code, number of neighbours, and that many neighbours
+abbrev pub openingKind : ℕ
+openingKind = 1
+
+-- one links two depots: kind and two codes
+abbrev pub linkKind : ℕ
+linkKind = 2
+
+-- how many bytes a frame of a kind has, by its third byte; 0 for a byte that is no kind
+unfoldable pub frameLength : ℕ → ℕ → ℕ
+frameLength kind third = cond (eqb kind openingKind) (3 + third) (cond (eqb kind linkKind) 3 0)
+
 unfoldable pub isFrame : List ℕ → Bool
-isFrame f = eqb (getD f 0 0) 1 && eqb (length f) (3 + getD f 2 0)
+unfolding frameLength
+isFrame f = leb 3 (length f) && eqb (length f) (frameLength (getD f 0 0) (getD f 2 0))
 
 -- the line of a frame
 unfoldable pub lineOf : List ℕ → List ℕ

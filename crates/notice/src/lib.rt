@@ -2,15 +2,23 @@
 //
 // Both calls decide every refusal before they write, since a refused call changes no lent memory.
 ghost use mathlib.Core.Path.{_≡_};
+ghost use mathlib.Core.Bool.{true};
 ghost use Prim.Native.Nat.{_<_};
 ghost use lib.ListN.{take};
-ghost use Rattle.notice.specs.Lines.{lineLimit, isFrame, endOf, spellsFrame};
+ghost use Rattle.lists.specs.Lists.{allb};
+ghost use Rattle.hexadecimal.specs.Hex.{isDigit};
+ghost use Rattle.notice.specs.Lines.{lineLimit, frameLength, isFrame, spellsFrame};
 ghost use Rattle.notice.specs.Calls.{readingOf, writingOf, lineLeft, readCall, writeCall};
 
 // the most bytes that a frame has, and a line with its ending; in specifications `frameLimit`, `lineLimit`
 pub const FRAME_LIMIT: usize = 258;
 
 pub const LINE_LIMIT: usize = 2 * FRAME_LIMIT + 1;
+
+// the kinds of frames; in specifications `openingKind`, `linkKind`
+pub const OPENING: u8 = 1;
+
+pub const LINK: u8 = 2;
 
 // What the reader answers: the frame's length with the bytes used, or the number of the refusal.
 pub enum Reading {
@@ -33,8 +41,12 @@ pub fn read_notice(frame: &mut [u8], input: &[u8]) -> Reading
         return Reading::Refused(outcome::SHORT);
     }
     let head = first_part(input);
-    let end = line_end(head);
+    // one scan finds the line's end: the first byte that is no digit has to be the 0A
+    let end = hexadecimal::digits_end(head);
     if end == head.len() {
+        return Reading::Refused(outcome::GARBLED);
+    }
+    if head[end] != 10 {
         return Reading::Refused(outcome::GARBLED);
     }
     let digits = &head[..end];
@@ -71,53 +83,44 @@ fn first_part(input: &[u8]) -> &[u8]
     &input[..LINE_LIMIT]
 }
 
-// Where the first 0A stands, the length where there is none.
-fn line_end(s: &[u8]) -> usize
-    ensures { λ r. ⌜ r ≡ endOf (now (s .entry)) ⌝ }
+// How many bytes a frame of a kind has, by its third byte; 0 for a byte that is no kind.
+fn frame_length(kind: u8, third: u8) -> usize
+    ensures { λ r. ⌜ r ≡ frameLength kind third ⌝ }
 {
-    let mut i = 0;
-    while i < s.len() {
-        if s[i] == 10 {
-            return i;
-        }
-        i += 1;
+    if kind == OPENING {
+        return 3 + wide(third);
     }
-    i
+    if kind == LINK {
+        return 3;
+    }
+    0
 }
 
-// Whether the digits of a line spell a frame: its length stands in its third byte.
+// Whether the digits of a line spell a frame: its kind and its third byte say how long it is.
 fn spells_frame(digits: &[u8]) -> bool
+    requires { ⌜ allb isDigit (now digits) ≡ true ⌝ }
     ensures { λ r. ⌜ r ≡ spellsFrame (now (digits .entry)) ⌝ }
 {
     let n = digits.len();
-    if !hexadecimal::all_digits(digits) {
-        return false;
-    }
     if n % 2 != 0 {
         return false;
     }
     if n < 6 {
         return false;
     }
-    if hexadecimal::byte_at(digits, 0) != 1 {
-        return false;
-    }
-    let count = wide(hexadecimal::byte_at(digits, 2));
-    n / 2 == 3 + count
+    let kind = hexadecimal::byte_at(digits, 0);
+    let third = hexadecimal::byte_at(digits, 2);
+    n / 2 == frame_length(kind, third)
 }
 
-// Whether a frame has the kind 01 and the length that its third byte says.
+// Whether a frame has the length that its kind and its third byte say.
 fn is_frame(frame: &[u8]) -> bool
     ensures { λ r. ⌜ r ≡ isFrame (now (frame .entry)) ⌝ }
 {
     if frame.len() < 3 {
         return false;
     }
-    if frame[0] != 1 {
-        return false;
-    }
-    let count = wide(frame[2]);
-    frame.len() == 3 + count
+    frame.len() == frame_length(frame[0], frame[2])
 }
 
 // A byte as a count: a cast of an element would ask that it fits.

@@ -1,4 +1,4 @@
--- WORKED INPUTS of the stream, by computation: what rules 10.1 and 10.3 say of blank lines, stretches and refusals. The seven lines stand in the
+-- WORKED INPUTS of the stream, by computation: what rules 10.1 and 10.3 say of blank lines, stretches, refusals and links. The seven lines stand in the
 -- table of cases (crate cases). Assumes nothing.
 use mathlib.Core.Path.{_≡_, refl}
 use mathlib.Core.List.{List, [], _∷_, _++_}
@@ -27,6 +27,13 @@ stretches = refl
 pub refusals : transcript (bytesIn "010000\n01010100\n010100\n010200\n0102020100\n01020103\n0102\n") ≡ bytesIn "1 K 1 0 0 1\n2 G 2 1 1 1\n3 R5 2 1 1 0\n4 R6 2 1 1 0\n5 R7 2 1 1 0\n6 R8 2 1 1 0\n7 R9 2 1 1 0\n"
 unfolding bytesIn transcript moved allb readHead endOf spellsFrame isFrame bytesOf isDigit digitValue outcomeText letterOf refusalOf figuresText field decimal spell
 refusals = refl
+
+-- a path of three closed to a triangle, its link told with the higher code first: shrank, with three searches; then linked, itself, absent; a count
+-- behind the codes and a kind 03 are garbled
+pub links : transcript (bytesIn "010000\n01010100\n01020101\n020200\n020002\n020101\n020009\n02000200\n030002\n")
+    ≡ bytesIn "1 K 1 0 0 1\n2 G 2 1 1 1\n3 G 3 2 1 1\n4 S 3 1 3 3\n5 R14 3 1 3 0\n6 R13 3 1 3 0\n7 R4 3 1 3 0\n8 R9 3 1 3 0\n9 R9 3 1 3 0\n"
+unfolding bytesIn transcript moved allb readHead endOf spellsFrame isFrame bytesOf isDigit digitValue outcomeText letterOf refusalOf figuresText field decimal spell
+links = refl
 
 -- n zeros, as digits
 unfoldable pub zerosText : ℕ → List ℕ

@@ -1,20 +1,22 @@
 -- THE TRANSCRIPT: what a whole input of the stream gives as whole output (section 10 of the rules), over bytes and networks. No word and no table is
 -- in it.
 -- Assumes nothing.
+use mathlib.Core.Bool.{cond}
 use mathlib.Core.List.{List, [], _∷_, _++_}
 use Prim.Native.Nat.{ℕ, zero, suc, _+_}
+use lib.Dec.{eqb}
 use lib.ListN.{length, getD, take, drop}
 use Rattle.lists.specs.Lists.{firstOf}
 use Rattle.graph.specs.Network.{Network}
 use Rattle.graph.specs.Distance.{vertices}
 use Rattle.graph.specs.Chart.{chart, diameter, farthest, countPairs}
 use Rattle.graph.specs.Opening.{emptyNetwork}
-use Rattle.graph.specs.Updates.{Update, opens, updateFaults, steps}
+use Rattle.graph.specs.Updates.{Update, opens, joins, updateFaults, steps}
 use Rattle.outcome.specs.Numbers.{garbledLine}
 use Rattle.outcome.specs.declared.Outcome.{Outcome}
 use Rattle.outcome.specs.declared.Outcome.the-variants.{Refused}
 use Rattle.plain_list.specs.PlainList.{plainAnswer, plainNext}
-use Rattle.notice.specs.Lines.{linesOf, Line, garbled, frame, readLine}
+use Rattle.notice.specs.Lines.{openingKind, linesOf, Line, garbled, frame, readLine}
 use Rattle.report.specs.Line.{reportLine}
 use Rattle.report.specs.declared.ReportFields.{ReportFields}
 
@@ -24,9 +26,9 @@ linesLimit = 1000000
 
 -- ---- a line's answer
 
--- the update that a frame asks for: kind, code, count, neighbours
+-- the update that a frame asks for, by its kind: a code and, behind their number, its neighbours; or the link of two codes
 unfoldable pub updateIn : List ℕ → Update
-updateIn f = opens (record { code = getD f 1 0; neighbours = drop 3 f })
+updateIn f = cond (eqb (getD f 0 0) openingKind) (opens (record { code = getD f 1 0; neighbours = drop 3 f })) (joins (getD f 1 0) (getD f 2 0))
 
 -- what a line gives: its outcome, the network after it, and the searches of its call
 pub record Followed : Type 0 where

@@ -3,6 +3,7 @@ use mathlib.Core.Path.{sym, ap}
 use native.Mathlib.Omega.{arith}
 use Rattle.notice.proofs.Readings.{frame-read, garbled-read}
 use Rattle.batch.specs.Steps.{openingLength}
+use Rattle.batch.proofs.Lines.{opening-length, other-length}
 use borrow.Author.Needs.{needs}
 use Rattle.batch.proofs.opening_length.Statement.{statement}
 use Rattle.batch.proofs.opening_length.Tie as tie
@@ -10,18 +11,30 @@ use Rattle.batch.proofs.opening_length.Tie as tie
 slice-aggregate-read-notice : tie.Need-slice-aggregate-read-notice
 slice-aggregate-read-notice c = search needs
 
+-- another kind
 returns : tie.Need-returns
-unfolding openingLength
 returns c =
+    let then1 : tie.Then1 = search in
     let after-got : tie.After-got = search in
     let after-read-notice : tie.After-read-notice = search in
     let after-frame : tie.After-frame = search in
-    sym (ap openingLength (frame-read _ _ (omega (arith, slice-aggregate-read-notice after-frame)) (after-got .got .given .1)
-    (after-read-notice .read-notice .ensures) .1))
+    other-length _
+    (frame-read _ _ (omega (arith, slice-aggregate-read-notice after-frame)) (after-got .got .given .1) (after-read-notice .read-notice .ensures))
+    (then1 .if1 .taken)
 
 returns-2 : tie.Need-returns-2
-unfolding openingLength
 returns-2 c =
+    let else1 : tie.Else1 = search in
+    let after-got : tie.After-got = search in
+    let after-read-notice : tie.After-read-notice = search in
+    let after-frame : tie.After-frame = search in
+    opening-length _
+    (frame-read _ _ (omega (arith, slice-aggregate-read-notice after-frame)) (after-got .got .given .1) (after-read-notice .read-notice .ensures))
+    (else1 .if1 .left)
+
+returns-3 : tie.Need-returns-3
+unfolding openingLength
+returns-3 c =
     let after-read-notice : tie.After-read-notice = search in
     let after-frame : tie.After-frame = search in
     sym (ap openingLength (garbled-read _ _ (omega (arith, slice-aggregate-read-notice after-frame)) (c .enum-told .given .1)
@@ -32,6 +45,8 @@ opening-length-spec =
     tie.close
     (tie.spec
     slice-aggregate-read-notice
-    (λ c. search needs) (λ c. search needs) (λ c. search needs)  -- read-notice-requires, enum-known-got, enum-told
+    (λ c. search needs) (λ c. search needs) (λ c. search needs)  -- read-notice-requires, enum-known-got, array-read-if1
     returns
-    returns-2)
+    (λ c. search needs)  -- enum-told
+    returns-2
+    returns-3)

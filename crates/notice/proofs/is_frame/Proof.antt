@@ -1,6 +1,6 @@
--- `notice::is_frame` meets its contract: each test is one of those that `isFrame` names.
+-- `notice::is_frame` meets its contract: below three bytes there is no frame, and else kind and third byte say how long it is.
 -- Assumes nothing.
-use Rattle.notice.proofs.Tests.{frame-short, frame-kind, frame-count}
+use Rattle.notice.proofs.Tests.{frame-short, frame-long}
 use borrow.Author.Needs.{needs}
 use Rattle.notice.proofs.is_frame.Statement.{statement}
 use Rattle.notice.proofs.is_frame.Tie as tie
@@ -10,7 +10,5 @@ is-frame-spec =
     tie.close
     (tie.spec
     (λ c. search frame-short)  -- returns
-    (λ c. search needs)  -- shared-slice-read-if2
-    (λ c. search frame-kind)  -- returns-2
-    (λ c. search needs) (λ c. search needs) (λ c. search needs)  -- shared-slice-read-wide, wide-requires, add-result
-    (λ c. search frame-count))  -- returns-3
+    (λ c. search needs) (λ c. search needs) (λ c. search needs)  -- shared-slice-read-frame-length, shared-slice-read-frame-length-2, frame-length-requires
+    (λ c. search frame-long))  -- returns-2

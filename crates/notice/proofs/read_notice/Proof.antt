@@ -4,8 +4,7 @@ use mathlib.Core.Path.{sym, _∙_}
 use native.Mathlib.Omega.{arith}
 use borrow.Author.Tests.{not-true, not-false}
 use Rattle.notice.specs.Calls.{readingOf}
-use Rattle.notice.proofs.Tests.{spells-parts}
-use Rattle.notice.proofs.Answers.{read-short, end-most, digits-length, digits-fit, read-endless, read-other, read-done}
+use Rattle.notice.proofs.Answers.{read-short, end-most, digits-length, digits-fit, read-endless, read-stray, read-other, read-done}
 use borrow.Author.Needs.{needs}
 use Rattle.notice.proofs.read_notice.Statement.{statement}
 use Rattle.notice.proofs.read_notice.Tie as tie
@@ -21,52 +20,58 @@ returns-2 c = search read-endless
 returns-3 : tie.Need-returns-3
 unfolding readingOf
 returns-3 c =
-    let after-spells-frame : tie.After-spells-frame = search in
-    let after-line-end : tie.After-line-end = search in
+    let else2 : tie.Else2 = search in
+    let after-digits-end : tie.After-digits-end = search in
     let after-first-part : tie.After-first-part = search in
     let else1 : tie.Else1 = search in
-    read-other _ (after-first-part .first-part .ensures) (after-line-end .line-end .ensures) _
-    (sym (after-spells-frame .spells-frame .ensures) ∙ not-true _ (c .if3 .taken)) (else1 .if1 .left)
-
-read-bytes-requires : tie.Need-read-bytes-requires
-read-bytes-requires c κs =
-    let else3 : tie.Else3 = search in
-    let after-spells-frame : tie.After-spells-frame = search in (
-      spells-parts _ (sym (after-spells-frame .spells-frame .ensures) ∙ not-false _ (else3 .if3 .left)) .digits,
-      search (digits-fit, needs),
-    )
-
-add-t13 : tie.Need-add-t13
-add-t13 c =
-    let after-line-end : tie.After-line-end = search in
-    let after-first-part : tie.After-first-part = search in
-    let start : tie.Start = search in
-    omega (arith, end-most (start .args .input .now) (after-first-part .first-part .ensures) (after-line-end .line-end .ensures))
+    read-stray _ (after-first-part .first-part .ensures) (after-digits-end .digits-end .ensures) _ (else2 .if2 .left) (c .if3 .taken) (else1 .if1 .left)
 
 returns-4 : tie.Need-returns-4
 unfolding readingOf
 returns-4 c =
-    let after-read-bytes : tie.After-read-bytes = search in
-    let else3 : tie.Else3 = search in
     let after-spells-frame : tie.After-spells-frame = search in
+    let else3 : tie.Else3 = search in
     let else2 : tie.Else2 = search in
-    let after-line-end : tie.After-line-end = search in
+    let after-digits-end : tie.After-digits-end = search in
     let after-first-part : tie.After-first-part = search in
     let else1 : tie.Else1 = search in
-    read-done _ (after-first-part .first-part .ensures) (after-line-end .line-end .ensures) _ (after-read-bytes .read-bytes .ensures)
-    (else2 .if2 .left) (sym (after-spells-frame .spells-frame .ensures) ∙ not-false _ (else3 .if3 .left)) (else1 .if1 .left)
+    read-other _ (after-first-part .first-part .ensures) (after-digits-end .digits-end .ensures) _ (else2 .if2 .left) (else3 .if3 .left)
+    (sym (after-spells-frame .spells-frame .ensures) ∙ not-true _ (c .if4 .taken)) (else1 .if1 .left)
+
+add-t15 : tie.Need-add-t15
+add-t15 c =
+    let after-digits-end : tie.After-digits-end = search in
+    let after-first-part : tie.After-first-part = search in
+    let start : tie.Start = search in
+    omega (arith, end-most (start .args .input .now) (after-first-part .first-part .ensures) (after-digits-end .digits-end .ensures))
+
+returns-5 : tie.Need-returns-5
+unfolding readingOf
+returns-5 c =
+    let after-read-bytes : tie.After-read-bytes = search in
+    let else4 : tie.Else4 = search in
+    let after-spells-frame : tie.After-spells-frame = search in
+    let else3 : tie.Else3 = search in
+    let else2 : tie.Else2 = search in
+    let after-digits-end : tie.After-digits-end = search in
+    let after-first-part : tie.After-first-part = search in
+    let else1 : tie.Else1 = search in
+    read-done _ (after-first-part .first-part .ensures) (after-digits-end .digits-end .ensures) _ (after-read-bytes .read-bytes .ensures)
+    (else2 .if2 .left) (else3 .if3 .left) (sym (after-spells-frame .spells-frame .ensures) ∙ not-false _ (else4 .if4 .left)) (else1 .if1 .left)
 
 pub read-notice-spec : {M : Type 1} → statement M
 read-notice-spec =
     tie.close
     (tie.spec
     returns
-    (λ c. search needs) (λ c. search needs)  -- first-part-requires, line-end-requires
+    (λ c. search needs) (λ c. search needs)  -- first-part-requires, digits-end-requires
     returns-2
+    (λ c. search needs)  -- shared-slice-read-if3
+    returns-3
     (λ c. search digits-length)  -- slice-aggregate-digits
     (λ c. search needs)  -- spells-frame-requires
-    returns-3
-    read-bytes-requires
-    add-t13
+    returns-4
+    (λ c. search (digits-fit, needs))  -- read-bytes-requires
+    add-t15
     (λ c. search needs)  -- same-length
-    returns-4)
+    returns-5)

@@ -4,7 +4,7 @@ use mathlib.Core.Path.{sym, _∙_}
 use native.Mathlib.Omega.{arith}
 use borrow.Author.Tests.{not-true, not-false}
 use Rattle.notice.specs.Calls.{writingOf}
-use Rattle.notice.proofs.Tests.{frame-parts}
+use Rattle.notice.proofs.Tests.{frame-most}
 use Rattle.notice.proofs.Answers.{write-short, write-other, write-done}
 use borrow.Author.Needs.{needs}
 use Rattle.notice.proofs.write_notice.Statement.{statement}
@@ -28,7 +28,7 @@ write-digits-requires c κs =
     let after-shared-slice-known : tie.After-shared-slice-known = search in
     omega (
       arith,
-      frame-parts _ (sym (after-is-frame .is-frame .ensures) ∙ not-false _ (else2 .if2 .left)) .1,
+      frame-most _ (sym (after-is-frame .is-frame .ensures) ∙ not-false _ (else2 .if2 .left)),
       after-shared-slice-known .shared-slice-known .given 2,
     )
 
@@ -40,7 +40,7 @@ slice-write-line c =
     let after-shared-slice-known : tie.After-shared-slice-known = search in
     omega (
       arith,
-      frame-parts _ (sym (after-is-frame .is-frame .ensures) ∙ not-false _ (else2 .if2 .left)) .1,
+      frame-most _ (sym (after-is-frame .is-frame .ensures) ∙ not-false _ (else2 .if2 .left)),
       after-shared-slice-known .shared-slice-known .given 2,
       after-write-digits .write-digits .kept .0,
     )
@@ -57,7 +57,7 @@ returns-3 c =
     (sym (after-is-frame .is-frame .ensures) ∙ not-false _ (else2 .if2 .left))
     (omega (
       arith,
-      frame-parts _ (sym (after-is-frame .is-frame .ensures) ∙ not-false _ (else2 .if2 .left)) .1,
+      frame-most _ (sym (after-is-frame .is-frame .ensures) ∙ not-false _ (else2 .if2 .left)),
       after-shared-slice-known .shared-slice-known .given 2,
     )) (else1 .if1 .left)
 
