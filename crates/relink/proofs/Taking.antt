@@ -3,7 +3,7 @@ use mathlib.Core.Path.{_≡_, refl, sym, ap, ap₂, _∙_, subst}
 use mathlib.Core.Bool.{Bool, true, false, _||_}
 use mathlib.Core.List.{List, []}
 use Prim.Native.Nat.{ℕ, _≤_}
-use native.Mathlib.Nat.{le-of-lt, le-refl}
+use native.Mathlib.Nat.{le-refl}
 use lib.Dec.{eqb}
 use lib.ListN.{length}
 use borrow.Author.Tests.{ne-eqb}
@@ -15,7 +15,6 @@ use Rattle.graph.specs.Chart.{chart, ecc, Pairs}
 use Rattle.graph.specs.Rounds.{State, round, rounds, start}
 use Rattle.graph.specs.Opening.{shrunkCandidate, anyPair}
 use Rattle.graph.specs.Linking.{viaEither, pairsLeft, searchedTwice, unskippedRound, firstTwo, linkCase, linking}
-use Rattle.graph.proofs.Metric.{ecc-small}
 use Rattle.graph.proofs.Charts.{chart-metric, depot-in}
 use Rattle.graph.proofs.FirstTwo.{unskipped-keeps}
 use Rattle.rows.specs.Rows.{tableBit}
@@ -28,7 +27,7 @@ use Rattle.rounds.specs.Leaves.{ran, ranBy, searchAfter}
 use Rattle.rounds.specs.Workspace.{Workspace, workspace, Absorbed, absorbed, absorbing, holding, absorbOf, runOf, RoundsBegun, roundsBegun, roundsBeginOf}
 use Rattle.rounds.proofs.Holding.{Origin, Holds, leaves-over}
 use Rattle.rounds.proofs.Simulation.{Running, running-round, running-unskipped, hold, absorb}
-use Rattle.rounds.proofs.Finish.{start-holds, start-running, run-is}
+use Rattle.rounds.proofs.Finish.{start-holds, most-ecc, start-running, run-is}
 use Rattle.insertion.specs.Figured.{figured}
 use Rattle.insertion.proofs.Shrinking.{rounds-over, ran-over}
 use Rattle.relink.specs.Relinked.{relinkedBy}
@@ -83,29 +82,22 @@ module _ (K : Shape) (shape : IsShape K) (members links : List ℕ) (near : Tabl
       let A = A₁ (ecc (chart G) lo) (searchLeaves (K .words) G lo near) in
       workspace (A .paired) (searchLeaves (K .words) G lo (B .searched)) (A .marked) (A .candidate) 1
 
-  lower-fresh : memb lo (start way .references) ≡ false
+  none-yet : (r : ℕ) → memb r (start way .references) ≡ false
   unfolding start memb anyb
-  lower-fresh = refl
-
-  higher-new : memb hi (start way .references) ≡ false
-  unfolding start memb anyb
-  higher-new = refl
+  none-yet r = refl
 
   higher-fresh : memb hi (S₁ .references) ≡ false
   unfolding unskippedRound start
-  higher-fresh = memb-snoc hi [] lo ∙ rw (higher-new, ne-eqb hi lo (λ q. I .apart (sym q)))
+  higher-fresh = memb-snoc hi [] lo ∙ rw (none-yet hi, ne-eqb hi lo (λ q. I .apart (sym q)))
 
   started : Running (K .words) (K .searchedMark) (K .otherMark) (shape .most) members links (I .lower .net) (start way)
   started = start-running K shape members links (I .lower .net) way low
-
-  most-ecc : (v : ℕ) → chart G .isDestination v ≡ true → ecc (chart G) v ≤ unreached
-  most-ecc v t = le-of-lt (ecc-small (chart G) (chart-metric G (I .lower .net)) v (chart-metric G (I .lower .net) .inside v t))
 
   running-first : Running (K .words) (K .searchedMark) (K .otherMark) (shape .most) members links (I .lower .net) S₁
   running-first =
       running-unskipped (K .words) (K .searchedMark) (K .otherMark) (shape .most) members links (I .lower .net) (start way) lo started
       (depot-in G (I .lower .net) lo (I .lower .present))
-      (unskipped-keeps (chart G) (chart-metric G (I .lower .net)) unreached most-ecc (le-refl unreached) (start way) lo (depot-in G (I .lower .net) lo (I .lower .present)) (started .inv) lower-fresh)
+      (unskipped-keeps (chart G) (chart-metric G (I .lower .net)) unreached (most-ecc K shape members links (I .lower .net)) (le-refl unreached) (start way) lo (depot-in G (I .lower .net) lo (I .lower .present)) (started .inv) (none-yet lo))
 
   running-second : Running (K .words) (K .searchedMark) (K .otherMark) (shape .most) members links (I .lower .net) S₂
   running-second =
@@ -119,7 +111,7 @@ module _ (K : Shape) (shape : IsShape K) (members links : List ℕ) (near : Tabl
   first-holds : Holds (K .words) (K .searchedMark) (K .otherMark) G O S₁ M₁
   first-holds =
       hold (K .words) (K .searchedMark) (K .otherMark) (shape .most) members links (I .lower .net) O (start way) M begun-holds started lo
-      (depot-in G (I .lower .net) lo (I .lower .present)) lower-fresh near
+      (depot-in G (I .lower .net) lo (I .lower .present)) (none-yet lo) near
 
   second-holds : Holds (K .words) (K .searchedMark) (K .otherMark) G O S₂ (absorbOf (K .words) (K .searchedMark) hi (ecc (chart G) hi) (searchLeaves (K .words) G hi (B .searched)) M₁)
   second-holds =

@@ -1,0 +1,2 @@
+-- What the parts of a link leave, put together.
+pub mod Joined
