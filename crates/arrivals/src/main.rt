@@ -1,12 +1,15 @@
 // The arrival orders of the customer's first sentence: two notices A and B, three scanner lines with a map each, eight orders. It prints each order
 // with the figures of its three lines (depots open, chain, pairs), and whether the three maps are equal word for word. The third time each line hands
-// its two notices over as one batch, so that nothing is refused.
+// its two notices over as one batch, so that nothing is refused. The fourth time a link between their depots is a third notice, which makes six orders.
 mod maps;
 
 use maps::Map;
+use maps::Notice;
 use maps::first_answer;
 use maps::hand_over;
 use maps::line;
+use maps::link_answer;
+use maps::linked_line;
 use plain_search::tables::same_words;
 
 fn print_order(a_first: bool) {
@@ -129,6 +132,43 @@ fn print_first(near: u8) {
     io::write_all(1, b" (0: accepted)\n");
 }
 
+// Whether a map equals those of all six orders.
+fn same_as_all(m: Map) -> bool {
+    let a = both(
+        same(m, linked_line(Notice::A, Notice::B, Notice::L)),
+        same(m, linked_line(Notice::A, Notice::L, Notice::B)),
+    );
+    let b = both(
+        same(m, linked_line(Notice::B, Notice::A, Notice::L)),
+        same(m, linked_line(Notice::B, Notice::L, Notice::A)),
+    );
+    let l = both(
+        same(m, linked_line(Notice::L, Notice::A, Notice::B)),
+        same(m, linked_line(Notice::L, Notice::B, Notice::A)),
+    );
+    both(both(a, b), l)
+}
+
+// One order of the three on a line, beside each of the six on two other lines: where each of these equals the first, they equal each other.
+fn try_links(order: &[u8], first: Notice, second: Notice, third: Notice) {
+    let map = linked_line(first, second, third);
+    io::write_all(1, order);
+    print_figures(map);
+    print_agreement(same_as_all(map));
+}
+
+fn all_links() {
+    io::write_all(1, b"L first is refused with: ");
+    io::print_decimal(1, link_answer() as u64);
+    io::write_all(1, b"\n");
+    try_links(b"ABL ", Notice::A, Notice::B, Notice::L);
+    try_links(b"ALB ", Notice::A, Notice::L, Notice::B);
+    try_links(b"BAL ", Notice::B, Notice::A, Notice::L);
+    try_links(b"BLA ", Notice::B, Notice::L, Notice::A);
+    try_links(b"LAB ", Notice::L, Notice::A, Notice::B);
+    try_links(b"LBA ", Notice::L, Notice::B, Notice::A);
+}
+
 fn main() {
     io::write_all(1, b"A opens 3 beside 2, B opens 4 beside 1\n");
     print_first(1);
@@ -143,4 +183,9 @@ fn main() {
     print_batch(true);
     print_batch(false);
     all_batches();
+    io::write_all(
+        1,
+        b"A opens 3 beside 2, B opens 4 beside 0, L links 3 and 4: each order beside all six on two other lines\n",
+    );
+    all_links();
 }

@@ -148,3 +148,73 @@ pub fn hand_over(a_first: bool) -> Handed {
     }
     open_batch(begin(), b"01040103\n01030102\n")
 }
+
+// ---- a link among the notices
+
+// The link of two depots, with scratch of its own.
+fn link(m: Map, first: u8, second: u8) -> Taken {
+    let mut links = m.links;
+    let mut pairs = m.pairs;
+    let mut hops = [0u16; map::PLACES];
+    let mut bounds = [0u16; map::PLACES];
+    let mut skips = [0u16; map::PLACES];
+    let mut even = [0u64; map::WORDS];
+    let mut odd = [0u64; map::WORDS];
+    let got = linking::link_step(
+        m.rec,
+        &mut links,
+        &mut pairs,
+        &mut hops,
+        &mut bounds,
+        &mut skips,
+        &mut even,
+        &mut odd,
+        first,
+        second,
+    );
+    let report = got.report;
+    let outcome = report.outcome;
+    let rec = got.after;
+    let map = Map { links, pairs, rec };
+    let refusal = refusal_of(outcome);
+    Taken { map, refusal }
+}
+
+// Three notices: 3 opens beside 2, 4 opens beside 0, and these two are linked.
+pub enum Notice {
+    A,
+    B,
+    L,
+}
+
+fn offer(m: Map, notice: Notice) -> Taken {
+    match notice {
+        Notice::A => open_beside(m, 3, 2),
+        Notice::B => open_beside(m, 4, 0),
+        Notice::L => link(m, 3, 4),
+    }
+}
+
+// A notice is handed in again if it was refused.
+fn again(m: Map, refusal: u8, notice: Notice) -> Map {
+    if refusal == 0 {
+        return m;
+    }
+    let got = offer(m, notice);
+    got.map
+}
+
+// One line's map after the three in one order.
+pub fn linked_line(first: Notice, second: Notice, third: Notice) -> Map {
+    let one = offer(begin(), first);
+    let two = offer(one.map, second);
+    let three = offer(two.map, third);
+    let retried = again(three.map, one.refusal, first);
+    again(again(retried, two.refusal, second), three.refusal, third)
+}
+
+// What the link is answered where it comes first.
+pub fn link_answer() -> u8 {
+    let got = offer(begin(), Notice::L);
+    got.refusal
+}

@@ -14,15 +14,12 @@ use Rattle.map.specs.Room.{tables, Lent, lent, sizes, sizesOf}
 use Rattle.map.specs.Memory.{base}
 use Rattle.map.specs.declared.Record.{Record}
 use Rattle.notice.specs.Lines.{lineLimit, lineEnd, Line, garbled, frame, readLine}
-use Rattle.hexadecimal.specs.Hex.{isByte}
-use Rattle.notice.proofs.Tests.{frame-parts}
-use Rattle.lists.proofs.Scans.{all-at}
-use Rattle.notice.proofs.Theorems.{read-frame}
 use Rattle.update.specs.Steps.{mapRefusal}
 use Rattle.update.proofs.Keeps.{map-kept}
 use Rattle.transcript.specs.Transcript.{updateIn}
 use Rattle.line_buffer.specs.Lines.{Holding, holding, holdByte, PartLeft, partFrom}
 use Rattle.stream.specs.Feeding.{IsReady, answerTo, Feeding, feeding, progressOf, fedOf, stopped, tookLine, heldByte, takeByte, feedBytes, feedCall}
+use Rattle.stream.proofs.Answers.{read-within}
 use Rattle.stream.specs.declared.Progress.{Progress}
 use Rattle.map.proofs.Theorems.{base-shape}
 
@@ -186,12 +183,9 @@ pub record AtTurn (piece : List ℕ) (F₀ F : Feeding) : Type 0 where
 answer-free : (text : List ℕ) (rec : Record) (links : List ℕ) (B : Lent) → mapRefusal base rec links (B .pairs) (sizesOf links B) ≡ 0
     → (l : Line) → readLine text ≡ l
     → mapRefusal base (answerTo l rec links B .after) (answerTo l rec links B .links) (answerTo l rec links B .lent .pairs) (sizesOf (answerTo l rec links B .links) (answerTo l rec links B .lent)) ≡ 0
-unfolding answerTo updateIn isByte
+unfolding answerTo
 answer-free text rec links B free garbled e = free
-answer-free text rec links B free (frame f u) e =
-    let p = read-frame text f u e in
-    let q = frame-parts f (p .0) in
-    map-kept base base-shape rec links B (updateIn f) (ltb-true (getD f 1 0) 256 (all-at isByte f 1 0 (omega (arith, q)) (p .1))) free
+answer-free text rec links B free (frame f u) e = map-kept base base-shape rec links B (updateIn f) (read-within text f u e) free
 
 pub took-free : (F : Feeding) → IsFree F → IsFree (tookLine F)
 unfolding tookLine

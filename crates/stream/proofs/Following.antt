@@ -4,9 +4,6 @@ use mathlib.Core.Path.{_≡_, refl, sym, ap, ap₂, _∙_, subst}
 use mathlib.Core.Bool.{Bool, true, not}
 use mathlib.Core.List.{List, _∷_}
 use Prim.Native.Nat.{ℕ, zero, suc}
-use native.Mathlib.Omega.{arith}
-use lib.ListN.{getD}
-use borrow.Author.Tests.{ltb-true}
 use Rattle.lists.specs.Lists.{range, filterb, countb, sumOf, overwrite, firstOf}
 use Rattle.lists.proofs.Tests.{t→true, true→t, clash, not→false}
 use Rattle.lists.proofs.Counts.{count-filter, count-none, sum-filter, sum-ext}
@@ -20,11 +17,7 @@ use Rattle.map.specs.Memory.{base, places, tableWords}
 use Rattle.map.specs.Empty.{zeros, emptyRecord}
 use Rattle.map.specs.declared.Record.{Record}
 use Rattle.map.specs.Room.{Lent, sizesOf, longEnough}
-use Rattle.hexadecimal.specs.Hex.{isByte}
 use Rattle.notice.specs.Lines.{Line, garbled, frame, readLine}
-use Rattle.notice.proofs.Tests.{frame-parts}
-use Rattle.lists.proofs.Scans.{all-at}
-use Rattle.notice.proofs.Theorems.{read-frame}
 use Rattle.update.specs.UpdateCall.{updateRefusal, networkAfter, updatedBy, UpdateLeft, updateGiven, updateCall, IsWithin}
 use Rattle.update.specs.Steps.{mapRefusal}
 use Rattle.plain_list.specs.PlainList.{moved, plainAnswer, plainNext}
@@ -38,6 +31,7 @@ use Rattle.update.proofs.Empties.{empty-held, empty-memory}
 use Rattle.transcript.specs.Transcript.{updateIn, Followed, searchesBy, followBy, followLine, reportOn}
 use Rattle.line_buffer.specs.Lines.{reportOf}
 use Rattle.stream.specs.Feeding.{answerTo}
+use Rattle.stream.proofs.Answers.{read-within}
 use Rattle.map.proofs.Theorems.{base-shape}
 use Rattle.graph.proofs.Delivers.{delivers-open}
 
@@ -174,9 +168,5 @@ module _ (G : Network) (held : IsHeld base G) (rec : Record) (links : List ℕ) 
       }
 
   pub line-is : (text : List ℕ) (l : Line) → readLine text ≡ l → IsLine l
-  unfolding updateIn isByte
   line-is text garbled e = garbled-line
-  line-is text (frame f u) e =
-      let p = read-frame text f u e in
-      let q = frame-parts f (p .0) in
-      frame-line f u (ltb-true (getD f 1 0) 256 (all-at isByte f 1 0 (omega (arith, q)) (p .1)))
+  line-is text (frame f u) e = frame-line f u (read-within text f u e)

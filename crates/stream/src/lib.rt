@@ -6,9 +6,9 @@ ghost use Rattle.map.specs.Memory.{base, tableWords};
 ghost use Rattle.map.specs.Slices.{lentAt, lentBefore, lentAfter, sizesAt};
 ghost use Rattle.notice.specs.Lines.{readLine};
 ghost use Rattle.report.specs.Line.{bufferLimit};
-ghost use Rattle.update.specs.UpdateCall.{updateLeft};
+ghost use Rattle.update.specs.UpdateCall.{updateLeft, updateCall};
 ghost use Rattle.update.specs.Steps.{mapRefusal};
-ghost use Rattle.transcript.specs.Transcript.{linesLimit};
+ghost use Rattle.transcript.specs.Transcript.{linesLimit, updateIn};
 ghost use Rattle.stream.specs.Feeding.{streamBegun, beginCall, answerTo, IsReady, feeding, tookLine, feedCall, finishCall};
 use map::Record;
 use notice::Reading;
@@ -45,7 +45,56 @@ pub fn begin(links: &mut [u64], pairs: &mut [u64]) -> Progress
 
 // ---- a line's answer
 
-// Answers a line: the reader's refusal, or the opening of its frame.
+// Answers a frame by its kind: the opening of a depot, or the link of two.
+fn answer_frame(
+    rec: Record,
+    links: &mut [u64],
+    pairs: &mut [u64],
+    hops: &mut [u16],
+    bounds: &mut [u16],
+    skips: &mut [u16],
+    even: &mut [u64],
+    odd: &mut [u64],
+    frame: &[u8],
+) -> Returned
+    requires { let long = sizesAt links pairs hops bounds skips even odd in
+        ⌜ (mapRefusal base rec (now links) (now pairs) long ≡ 0) × (3 ≤ length (now frame)) ⌝ }
+    ensures { λ r.
+        let before = lentBefore pairs hops bounds skips even odd in
+        let after = lentAfter pairs hops bounds skips even odd in
+        ⌜ updateLeft r (now (links .exit)) after ≡ updateCall base rec (now (links .entry)) before (updateIn (now (frame .entry))) ⌝ }
+{
+    let code = frame[1];
+    if frame[0] == notice::OPENING {
+        return opening::open_sound(
+            rec,
+            links,
+            pairs,
+            hops,
+            bounds,
+            skips,
+            even,
+            odd,
+            code,
+            &frame[3..],
+        );
+    }
+    let other = frame[2];
+    linking::link_sound(
+        rec,
+        links,
+        pairs,
+        hops,
+        bounds,
+        skips,
+        even,
+        odd,
+        code,
+        other,
+    )
+}
+
+// Answers a line: the reader's refusal, or what its frame asks for.
 fn answer_line(
     rec: Record,
     links: &mut [u64],
@@ -67,21 +116,17 @@ fn answer_line(
     let mut frame = [0u8; notice::FRAME_LIMIT];
     let got = notice::read_notice(&mut frame, text);
     match got {
-        Reading::Frame(n, _) => {
-            let code = frame[1];
-            opening::open_sound(
-                rec,
-                links,
-                pairs,
-                hops,
-                bounds,
-                skips,
-                even,
-                odd,
-                code,
-                &frame[3..n],
-            )
-        }
+        Reading::Frame(n, _) => answer_frame(
+            rec,
+            links,
+            pairs,
+            hops,
+            bounds,
+            skips,
+            even,
+            odd,
+            &frame[..n],
+        ),
         Reading::Refused(k) => update::refused(rec, k),
     }
 }
