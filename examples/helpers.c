@@ -41,7 +41,7 @@ static void try_versions(void)
 static void try_words(void)
 {
     static const char *const words[] = {"", "short", "spoilt", "apart", "absent", "taken", "lonely", "unsorted", "unknown", "garbled",
-                                        "nobody", "overfull", "bare"};
+                                        "nobody", "overfull", "bare", "itself", "linked"};
     for (unsigned number = 0; number < 600; number++) {
         const char *expected = number < sizeof words / sizeof words[0] ? words[number] : "";
         expect("each refusal has its word, other numbers none", strcmp(zorpedi_refusal_word(number), expected) == 0);
@@ -103,6 +103,35 @@ static void try_batches(void)
     expect("no lines", zorpedi_map_open_batch(&map, left, &count, NULL, 0) == ZORPEDI_DONE && count == 0);
 }
 
+/* The path of five, whose ends are linked: the chain shrinks; a further link keeps it; and each refusal leaves the number of searches. */
+static void try_links(void)
+{
+    static const uint8_t line[] = "020105\n";
+    uint8_t frame[ZORPEDI_FRAME_SIZE], left[ZORPEDI_BATCH_SIZE], count = 77;
+    uint16_t searches = 77;
+    size_t length = 0, used = 0;
+    zorpedi_map_empty(&map);
+    expect("no depot is open", zorpedi_map_link(&map, 0, 0, &searches) == ZORPEDI_ABSENT && searches == 77);
+    for (uint8_t code = 0, before = 0; code < 5; before = code++) {
+        zorpedi_map_opened(&map, code, &before, code == 0 ? 0 : 1);
+    }
+    expect("a closed code", zorpedi_map_link(&map, 9, 0, &searches) == ZORPEDI_ABSENT);
+    expect("a closed code with itself", zorpedi_map_link(&map, 9, 9, &searches) == ZORPEDI_ABSENT);
+    expect("itself", zorpedi_map_link(&map, 2, 2, &searches) == ZORPEDI_ITSELF);
+    expect("linked", zorpedi_map_link(&map, 2, 1, &searches) == ZORPEDI_LINKED);
+    expect("a refused link leaves the number", searches == 77 && map.record[ZORPEDI_CHAIN] == 4);
+    expect("the ends", zorpedi_map_link(&map, 4, 0, &searches) == ZORPEDI_SHRANK && searches == 5);
+    expect("a ring of five", map.record[ZORPEDI_CHAIN] == 2 && map.record[ZORPEDI_PAIR_COUNT] == 5 && map.record[ZORPEDI_NUMBER] == 5);
+    expect("both ways round", zorpedi_map_are_linked(&map, 0, 4) && zorpedi_map_are_linked(&map, 4, 0));
+    expect("a link across", zorpedi_map_link(&map, 1, 3, &searches) == ZORPEDI_KEPT && searches == 2);
+    expect("its pair goes", map.record[ZORPEDI_PAIR_COUNT] == 4 && !zorpedi_map_is_farthest(&map, 1, 3));
+    expect("both ends are searched", map.skips[1] == ZORPEDI_SEARCHED && map.skips[3] == ZORPEDI_SEARCHED && map.skips[2] == ZORPEDI_UNMARKED);
+    expect("hops are those from the higher code", map.hops[3] == 0 && map.hops[1] == 1 && map.hops[0] == 2);
+    expect("its line", zorpedi_read_notice(frame, sizeof frame, &length, &used, line, sizeof line - 1) == ZORPEDI_DONE);
+    expect("a frame of three bytes", length == 3 && used == 7 && frame[0] == 2 && frame[1] == 1 && frame[2] == 5);
+    expect("no line of a batch", zorpedi_map_open_batch(&map, left, &count, line, sizeof line - 1) == ZORPEDI_GARBLED && count == 77);
+}
+
 /* Whether the walk has each bit of the pair table once, in rising order, and then none. */
 static int walks_all(void)
 {
@@ -143,6 +172,7 @@ int main(void)
     try_words();
     try_near();
     try_batches();
+    try_links();
     try_openings();
     try_pairs();
     puts(differences == 0 ? "the helpers are as the header says" : "the helpers DIFFER from the header");

@@ -1,8 +1,8 @@
 /* Zorpedi, the handover map, for C and C++.
  *
- * A map of depots and the links between them. It takes opening notices one by one and keeps the longest chain (the network's diameter) and
- * the set of farthest pairs. Link with target/staticlib/libzorpedi.a (`tools/archive` makes it). examples/seven.c shows its use. Rules
- * cited by number are those of docs/RULES.md.
+ * A map of depots and the links between them. It takes notices one by one, of depots that open and of links between open ones, and keeps the
+ * longest chain (the network's diameter) and the set of farthest pairs. Link with target/staticlib/libzorpedi.a (`tools/archive` makes
+ * it). examples/seven.c shows its use. Rules cited by number are those of docs/RULES.md.
  *
  * WHAT IS PROMISED
  * Each promise below holds for every value of every argument, and is proved. It settles the answer and every element lent: what is not named
@@ -24,18 +24,20 @@
  * what it is asked.
  *
  * REFUSALS
- * A refused call answers a number from 1 to 12: the first of its own that applies, in rising order, but that a batch looks for 11 and 12 before 9. It
+ * A refused call answers a number from 1 to 14: the first of its own that applies, in rising order, but that a batch looks for 11 and 12 before 9. It
  * changes nothing that was lent, scratch memory and single numbers included.
  *
  * VERSIONS
  * ZORPEDI_VERSION is the version of this header, zorpedi_version() that of the archive: a thousand times the major number, and the minor number.
  * - The minor number rises when something is added, and all that was there stays: a function, a helper, a macro, a field of a helper's struct, a
- *   further number that a call can be refused with, though never a call that this header says is done.
+ *   further number that a call can be refused with, though never a call that this header says is done; a further kind of frame, whose lines
+ *   were garbled before (since 3.0: up to 2.2 every kind but 01 was promised to be garbled).
  * - The major number rises, and the minor number begins at 0 again, when something that was there changes: the arguments of a function, a size,
  *   what a number or a place of memory means, a promise.
  * - Neither rises for what a program cannot tell: other code behind the same promises, other words for them.
  * So an archive serves a program if its major number is the header's and its minor number not below: zorpedi_version_serves(zorpedi_version()).
- * A program that takes every answer but those named below as a refusal is ready for further ones.
+ * A program that takes every answer but those named below as a refusal is ready for further ones, and one that looks at the kind of a frame,
+ * and leaves those that it does not know, for further kinds.
  */
 #ifndef ZORPEDI_H
 #define ZORPEDI_H
@@ -49,8 +51,8 @@ extern "C" {
 
 /* ---- the version of the interface */
 
-#define ZORPEDI_VERSION_MAJOR 2
-#define ZORPEDI_VERSION_MINOR 2
+#define ZORPEDI_VERSION_MAJOR 3
+#define ZORPEDI_VERSION_MINOR 0
 #define ZORPEDI_VERSION (ZORPEDI_VERSION_MAJOR * 1000 + ZORPEDI_VERSION_MINOR)
 
 /* The version of the archive. Where both are of one delivery it is ZORPEDI_VERSION. */
@@ -90,26 +92,30 @@ static inline int zorpedi_version_serves(uint32_t version)
 /* ---- the numbers that a call answers */
 
 enum zorpedi_answer {
-    ZORPEDI_DONE = 0,     /* done, for every call but zorpedi_open */
+    ZORPEDI_DONE = 0,     /* done, for every call but zorpedi_open and zorpedi_link */
     ZORPEDI_SHORT = 1,    /* short: a lent buffer is shorter than its size */
-    ZORPEDI_SPOILT = 2,   /* spoilt: links are not sound; for an opening, a batch and the stream, links or figures */
+    ZORPEDI_SPOILT = 2,   /* spoilt: links are not sound; for an opening, a link, a batch and the stream, links or figures */
     ZORPEDI_APART = 3,    /* apart: the links are sound, but no walk leads from the lowest open code to some open depot */
-    ZORPEDI_ABSENT = 4,   /* absent: the depot to be searched from, or whose near depots are asked, is not open */
+    ZORPEDI_ABSENT = 4,   /* absent: the depot to be searched from, or whose near depots are asked, or one to be linked, is not open */
     ZORPEDI_TAKEN = 5,    /* taken: the depot to be opened is open already */
     ZORPEDI_LONELY = 6,   /* lonely: an opening has no neighbours, and the map has a depot */
     ZORPEDI_UNSORTED = 7, /* unsorted: some neighbour is not above the one before it */
     ZORPEDI_UNKNOWN = 8,  /* unknown: some neighbour is not open; the new depot itself is not */
-    ZORPEDI_GARBLED = 9,  /* garbled: a line has no 0A among its first 517 bytes, or what stands before it does not spell a frame of kind 01 in
-                             the digits 0-9 and A-F; for the writer, the bytes are no such frame */
+    ZORPEDI_GARBLED = 9,  /* garbled: a line has no 0A among its first 517 bytes, or what stands before it does not spell a frame of kind 01 or
+                             02 in the digits 0-9 and A-F; for the writer, the bytes are no such frame; for a batch, a frame of kind 02 is
+                             none either */
     ZORPEDI_NOBODY = 10,  /* nobody: no depot of a list is open */
     ZORPEDI_OVERFULL = 11, /* overfull: a batch has more than 64 lines */
     ZORPEDI_BARE = 12,    /* bare: a batch, and no depot is open */
+    ZORPEDI_ITSELF = 13,  /* itself: a depot is to be linked with itself */
+    ZORPEDI_LINKED = 14,  /* linked: the depots to be linked are linked already */
     ZORPEDI_GREW = 71,    /* 'G', grew, zorpedi_open only: accepted, and the longest chain is greater than before */
-    ZORPEDI_KEPT = 75,    /* 'K', kept, zorpedi_open only: accepted, and it is the same */
-    ZORPEDI_SHRANK = 83   /* 'S', shrank, zorpedi_open only: accepted, and it is neither; where the figures were true it is smaller */
+    ZORPEDI_KEPT = 75,    /* 'K', kept, zorpedi_open and zorpedi_link only: accepted, and it is the same */
+    ZORPEDI_SHRANK = 83   /* 'S', shrank, zorpedi_open and zorpedi_link only: accepted, and it is neither; where the figures were true it is
+                             smaller */
 };
 
-/* The trade's word for a refusal, as above: "short" for 1 to "bare" for 12, and "" for every number that is no refusal of this header. The text
+/* The trade's word for a refusal, as above: "short" for 1 to "linked" for 14, and "" for every number that is no refusal of this header. The text
  * stays for as long as the program runs. */
 static inline const char *zorpedi_refusal_word(unsigned number)
 {
@@ -138,6 +144,10 @@ static inline const char *zorpedi_refusal_word(unsigned number)
         return "overfull";
     case ZORPEDI_BARE:
         return "bare";
+    case ZORPEDI_ITSELF:
+        return "itself";
+    case ZORPEDI_LINKED:
+        return "linked";
     default:
         return "";
     }
@@ -152,10 +162,10 @@ static inline const char *zorpedi_refusal_word(unsigned number)
  * Links are sound (rule 1.8) if the open set has as many codes as the record says, every code in a row is open and not the row's own, the rows
  * of closed codes are empty, and v is in row u exactly if u is in row v. Figures are sound if every code v in row u of the pair table has u <
  * v and both open, the pair table has as many bits as the record counts pairs, and the chain is 255 or less. A record word beyond these is
- * spoilt (2) in every call that looks at it: search, the calls on near depots, reckoning, opening, batch and stream look at the open set and the
- * number; opening, batch and stream at chain and pair count too.
+ * spoilt (2) in every call that looks at it: search, the calls on near depots, reckoning, opening, link, batch and stream look at the open set
+ * and the number; opening, link, batch and stream at chain and pair count too.
  *
- * The map of a program is the record, the link table and the pair table. All zero is the empty map. A map that only zorpedi_open,
+ * The map of a program is the record, the link table and the pair table. All zero is the empty map. A map that only zorpedi_open, zorpedi_link,
  * zorpedi_open_batch and the stream have written since it was emptied is never spoilt or apart, and its figures are true: those of its links. A
  * reckoning leaves the links as they are and writes true figures.
  */
@@ -224,6 +234,22 @@ uint8_t zorpedi_open(uint64_t *record, size_t record_size, uint64_t *links, size
                      uint64_t *even, size_t even_size, uint64_t *odd, size_t odd_size, uint16_t *searches, uint8_t code,
                      const uint8_t *neighbours, size_t neighbours_size);
 
+/* Links two open depots, whichever of them is named first.
+ * 75 'K' or 83 'S': each of the two codes joins the other's row of the link table, and both depots are searched from, the link being in place:
+ * first a, the one of lower code, then b. With D the stored chain (rules 15.2 to 15.4), and the way of a pair the lesser of its ways through a
+ * and through b, the distances of both its depots from a added, and from b: the stored pairs whose way is below D go. If one is left, or D is 0,
+ * 'K', and the chain stays. Else 'S': the rounds of zorpedi_reckon follow, without pairs, a and b being the first references, and nothing is
+ * skipped before both are searched; the chain found so far is, of each pair stored before, the lesser of D and its way, and of these the
+ * greatest, 0 without pairs. The pair count is that of the pair table; open set and number stay. *searches is the number of depots searched: 2
+ * for 'K', at most the number open for 'S'. skips and bounds mark the depots of this call as zorpedi_reckon says, all 256 places of both; hops,
+ * even and odd are as the last search leaves them, for 'K' that from b. If the figures were true, they are so again, and the chain is smaller
+ * for 'S'. On sound but false figures the same steps are taken.
+ * Refused: 1 (sizes as for zorpedi_reckon), 2 (links or figures), 3, 4 (either of the two), 13, 14. */
+uint8_t zorpedi_link(uint64_t *record, size_t record_size, uint64_t *links, size_t links_size, uint64_t *pairs, size_t pairs_size,
+                     uint16_t *hops, size_t hops_size, uint16_t *bounds, size_t bounds_size, uint16_t *skips, size_t skips_size,
+                     uint64_t *even, size_t even_size, uint64_t *odd, size_t odd_size, uint16_t *searches, uint8_t first,
+                     uint8_t second);
+
 /* Opens depots by up to 64 notice lines, which may come in any order. `lines` is one line after the other, each with its 0A; bytes behind the last
  * 0A are a line too, a garbled one.
  * 0: again and again, seen from the first line every time, the first line that zorpedi_open would accept by then is opened as zorpedi_open opens it,
@@ -231,8 +257,8 @@ uint8_t zorpedi_open(uint64_t *record, size_t record_size, uint64_t *links, size
  * lines not opened, from 0, rising; the bytes behind them keep their values. hops, bounds, skips, even and odd are as the last opening leaves them,
  * and unchanged if no line was opened. No lines at all are a batch that opens nothing.
  * Refused: 1 (sizes as for zorpedi_reckon, left below 64; the lines have none), 2 (links or figures), 3, 11, 12, 9 (some line is one that
- * zorpedi_read_notice refuses), looked for in this order. The number of a refusal stands for the whole batch (section 14 of the
- * rules). */
+ * zorpedi_read_notice refuses, or is of kind 02: a batch opens depots and nothing else), looked for in this order. The number of a refusal stands
+ * for the whole batch (section 14 of the rules). */
 uint8_t zorpedi_open_batch(uint64_t *record, size_t record_size, uint64_t *links, size_t links_size, uint64_t *pairs, size_t pairs_size,
                            uint16_t *hops, size_t hops_size, uint16_t *bounds, size_t bounds_size, uint16_t *skips, size_t skips_size,
                            uint64_t *even, size_t even_size, uint64_t *odd, size_t odd_size, uint8_t *left, size_t left_size,
@@ -240,22 +266,24 @@ uint8_t zorpedi_open_batch(uint64_t *record, size_t record_size, uint64_t *links
 
 /* ---- lines
  *
- * A notice line (section 7 of the rules) is upper-case hexadecimal, ended by byte 0A. It spells a frame: kind 01, code, neighbour count,
- * neighbours. 010503000204 opens depot 5 beside 0, 2 and 4. The frame's code is byte 1, and its neighbours begin at byte 3.
+ * A notice line (section 7 of the rules) is upper-case hexadecimal, ended by byte 0A. It spells a frame, whose first byte is its kind:
+ * - 01, an opening: kind, code, neighbour count, neighbours. 010503000204 opens depot 5 beside 0, 2 and 4. The code is byte 1, and the neighbours
+ *   begin at byte 3.
+ * - 02, a link: kind and two codes, three bytes. 020105 links depots 1 and 5. The codes are bytes 1 and 2.
  */
 
 /* Reads the notice line at the start of `input`.
  * 0: the first *length bytes of `frame` are the frame; *used is the number of bytes that the line has, 0A included.
- * Refused: 1 (frame below 258), 9. The neighbours may stand in any order: that is for the opening to judge. */
+ * Refused: 1 (frame below 258), 9. The neighbours may stand in any order: that is for the opening to judge; so may the two codes of a link. */
 uint8_t zorpedi_read_notice(uint8_t *frame, size_t frame_size, size_t *length, size_t *used, const uint8_t *input, size_t input_size);
 
-/* Writes the notice line of a frame; the frame is the whole of `frame`, three bytes more than its count.
+/* Writes the notice line of a frame; the frame is the whole of `frame`: of kind 01 three bytes more than its count, of kind 02 three bytes.
  * 0: the first *length bytes of `line` are the line, 0A included.
  * Refused: 1 (line below 517), 9. */
 uint8_t zorpedi_write_notice(uint8_t *line, size_t line_size, size_t *length, const uint8_t *frame, size_t frame_size);
 
 /* Writes a report line (rule 10.2): number, answer, depots, chain, pairs, searches, as decimals with a space between, and 0A. The answer is the
- * number that zorpedi_open or zorpedi_read_notice gave: 71, 75 and 83 are written G, K and S, any other n is written R and n.
+ * number that zorpedi_open, zorpedi_link or zorpedi_read_notice gave: 71, 75 and 83 are written G, K and S, any other n is written R and n.
  * 0: the first *length bytes of `line` are the line, 45 at most.
  * Refused: 1 (line below 48). */
 uint8_t zorpedi_report(uint8_t *line, size_t line_size, size_t *length, uint32_t number, uint8_t answer, uint16_t depots, uint16_t chain,
@@ -269,11 +297,11 @@ uint8_t zorpedi_report(uint8_t *line, size_t line_size, size_t *length, uint32_t
  */
 
 /* Feeds a piece of the input.
- * 0: the first *used bytes of the piece are used: each line that ends in them is answered, as zorpedi_read_notice and zorpedi_open answer, and
- * counted in *lines; its report stands in `out`; what follows the last of these lines is held in `line`. The first *written bytes of `out` are
- * the reports. It stops before a byte where fewer than 48 bytes of `out` are free, and what is not used is to be fed again; after the line
- * 1,000,000 nothing more is used. Record, tables and rows are as the openings leave them, one after the other; bytes of `line` are overwritten
- * from the start of each line, the others stay.
+ * 0: the first *used bytes of the piece are used: each line that ends in them is answered, as zorpedi_read_notice and, by the frame's kind,
+ * zorpedi_open or zorpedi_link answer, and counted in *lines; its report stands in `out`; what follows the last of these lines is held in
+ * `line`. The first *written bytes of `out` are the reports. It stops before a byte where fewer than 48 bytes of `out` are free, and what is not
+ * used is to be fed again; after the line 1,000,000 nothing more is used. Record, tables and rows are as the openings and links leave them, one
+ * after the other; bytes of `line` are overwritten from the start of each line, the others stay.
  * Refused: 1 (sizes as for zorpedi_open; line below 517, out below 48, *held over 517), 2 (links or figures), 3.
  * The map is checked once in each call, so feed large pieces. */
 uint8_t zorpedi_feed(uint64_t *record, size_t record_size, uint64_t *links, size_t links_size, uint64_t *pairs, size_t pairs_size,
@@ -336,6 +364,13 @@ static inline zorpedi_opened zorpedi_map_opened(zorpedi_map *map, uint8_t code, 
     opened.searches = 0; /* a refused call leaves it */
     opened.answer = zorpedi_map_open(map, code, neighbours, count, &opened.searches);
     return opened;
+}
+
+static inline uint8_t zorpedi_map_link(zorpedi_map *map, uint8_t first, uint8_t second, uint16_t *searches)
+{
+    return zorpedi_link(map->record, ZORPEDI_RECORD_SIZE, map->links, ZORPEDI_TABLE_SIZE, map->pairs, ZORPEDI_TABLE_SIZE, map->hops,
+                        ZORPEDI_CODES_SIZE, map->bounds, ZORPEDI_CODES_SIZE, map->skips, ZORPEDI_CODES_SIZE, map->even, ZORPEDI_ROW_SIZE,
+                        map->odd, ZORPEDI_ROW_SIZE, searches, first, second);
 }
 
 /* `left` is lent whole: ZORPEDI_BATCH_SIZE bytes. `lines` may be null where `size` is 0. */
@@ -416,8 +451,8 @@ static inline int zorpedi_map_is_farthest(const zorpedi_map *map, uint8_t u, uin
  *
  * zorpedi_pairs_next answers 1 and sets u and v to the next bit v of row u of the pair table, by rising u, and for each u by rising v; or it answers
  * 0 and leaves them, when there is none. Each bit comes once, so that on sound figures u < v, and as many come as the record's pair count says. It
- * looks at the map's own table: a call that may write the pairs (opening, batch, reckoning, emptying, stream) ends the walk, and a new one is to
- * begin. */
+ * looks at the map's own table: a call that may write the pairs (opening, link, batch, reckoning, emptying, stream) ends the walk, and a new one
+ * is to begin. */
 typedef struct zorpedi_pairs {
     const uint64_t *table; /* the map's pair table */
     uint32_t place;        /* where the next look begins: 256 u + v */

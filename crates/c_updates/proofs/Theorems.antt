@@ -1,4 +1,4 @@
--- OPENING AND BATCH FOR OTHER LANGUAGES ARE THE CALLS of the same names on the record in the words, so that demand 3 speaks of a list of these calls.
+-- OPENING, LINK AND BATCH FOR OTHER LANGUAGES ARE THE CALLS of the same names on the record in the words, so that demand 3 speaks of a list of these calls.
 -- Assumes nothing.
 use mathlib.Core.Path.{_≡_, refl, _∙_}
 use mathlib.Core.List.{List, [], _∷_}
@@ -6,17 +6,15 @@ use Prim.Native.Nat.{ℕ, zero, suc, _≤_}
 use native.Mathlib.Omega.{arith}
 use lib.ListN.{length, length-take}
 use borrow.Author.Tests.{le-ltb}
-use Rattle.outcome.specs.declared.Outcome.the-variants.{Accepted}
 use Rattle.lists.proofs.Fills.{overwrite-length}
-use Rattle.outcome.specs.declared.Change.{Change}
 use Rattle.rows.specs.Rows.{encodeRow}
 use Rattle.rows.proofs.Written.{encode-row-length}
 use Rattle.map.specs.Memory.{base}
 use Rattle.map.specs.Room.{Lent, sizesOf}
-use Rattle.update.specs.UpdateCall.{updateRefusal, networkAfter, updatedBy, UpdateLeft, updateGiven, updateCall}
+use Rattle.update.specs.UpdateCall.{updateRefusal, networkAfter, UpdateLeft, updateGiven, updateCall}
 use Rattle.c_values.specs.Words.{recordWords, recordOf}
 use Rattle.c_values.proofs.Theorems.{words-read}
-use Rattle.c_updates.specs.OpenOuts.{OpenOut, openFrom, openOut}
+use Rattle.c_updates.specs.UpdateOuts.{UpdateOut, handedBy, updateFrom, updateOut}
 use Rattle.c_updates.specs.BatchOuts.{BatchOut, batchFrom, batchOut}
 use Rattle.graph.specs.Opening.{Notice}
 use Rattle.graph.specs.Updates.{Update, opens}
@@ -29,33 +27,28 @@ members-four : (l : List ℕ) → recordWords ≤ length l → length (recordOf 
 unfolding recordOf
 members-four l h = length-take 4 l ∙ omega (arith, h)
 
--- ---- the opening
+-- ---- opening and link
 
 -- the words hold the record that the call leaves, and the tables are its tables
-abbrev Holds : OpenOut → UpdateLeft → Type 0
-Holds y x = (recordOf (y .words) ≡ x .after) × (y .links ≡ x .links) × (y .lent ≡ x .lent)
-
-holds-accepted : (x : UpdateLeft) (l : List ℕ) (old : ℕ) (c : Change) → length (x .after .members) ≡ 4 → Holds (openFrom (Accepted c) x l old) x
-unfolding openFrom
-holds-accepted x l old c e = (words-read (x .after) l e, refl, refl)
+abbrev Holds : UpdateOut → UpdateLeft → Type 0
+Holds y x = (recordOf (y .handed .words) ≡ x .after) × (y .links ≡ x .links) × (y .lent ≡ x .lent)
 
 module _ (l links : List ℕ) (B : Lent) (o : Update) (old : ℕ) (h : recordWords ≤ length l) where
-  refused : (k : ℕ) → let x = updateGiven (suc k) base (recordOf l) links B o in Holds (openFrom (x .report .outcome) x l old) x
-  unfolding updateGiven openFrom
-  refused k = (refl, refl, refl)
-
-  holds-given : (k : ℕ) → let x = updateGiven k base (recordOf l) links B o in Holds (openFrom (x .report .outcome) x l old) x
-  unfolding updateGiven
+  holds-given : (k : ℕ) → let x = updateGiven k base (recordOf l) links B o in Holds (updateFrom x l old) x
+  unfolding updateGiven handedBy
   holds-given zero =
-      let row = encodeRow 4 (networkAfter base (recordOf l) links o .isOpen) in
-      holds-accepted (updateGiven 0 base (recordOf l) links B o) l old (updatedBy base (recordOf l) links (B .pairs) o .change)
-      (overwrite-length row (recordOf l .members) (omega (arith, encode-row-length 4 (networkAfter base (recordOf l) links o .isOpen), members-four l h)) ∙ members-four l h)
-  holds-given (suc k) = refused k
+      let row = encodeRow 4 (networkAfter base (recordOf l) links o .isOpen) in (
+        words-read (updateGiven 0 base (recordOf l) links B o .after) l
+            (overwrite-length row (recordOf l .members) (omega (arith, encode-row-length 4 (networkAfter base (recordOf l) links o .isOpen), members-four l h)) ∙ members-four l h),
+        refl,
+        refl,
+      )
+  holds-given (suc k) = (refl, refl, refl)
 
   -- ON A RECORD OF SEVEN WORDS the call leaves what `updateCall` leaves, accepted or refused: a list of these calls is a list of those
-  pub opened-words : Holds (openOut l links B o old) (updateCall base (recordOf l) links B o)
-  unfolding updateCall openOut
-  opened-words = rw (le-ltb (length l) recordWords h) (holds-given (updateRefusal base (recordOf l) links (B .pairs) (sizesOf links B) o))
+  pub updated-words : Holds (updateOut l links B o old) (updateCall base (recordOf l) links B o)
+  unfolding updateCall updateOut
+  updated-words = rw (le-ltb (length l) recordWords h) (holds-given (updateRefusal base (recordOf l) links (B .pairs) (sizesOf links B) o))
 
 -- ---- the batch
 
