@@ -25,6 +25,11 @@ extern "C" {
         bounds: *mut u16, _: usize, skips: *mut u16, _: usize, even: *mut u64, _: usize, odd: *mut u64, _: usize,
         searches: *mut u16, code: u8, neighbours: *const u8, _: usize,
     ) -> u8;
+    pub fn zorpedi_link(
+        record: *mut u64, _: usize, links: *mut u64, _: usize, pairs: *mut u64, _: usize, hops: *mut u16, _: usize,
+        bounds: *mut u16, _: usize, skips: *mut u16, _: usize, even: *mut u64, _: usize, odd: *mut u64, _: usize,
+        searches: *mut u16, first: u8, second: u8,
+    ) -> u8;
     pub fn zorpedi_open_batch(
         record: *mut u64, _: usize, links: *mut u64, _: usize, pairs: *mut u64, _: usize, hops: *mut u16, _: usize,
         bounds: *mut u16, _: usize, skips: *mut u16, _: usize, even: *mut u64, _: usize, odd: *mut u64, _: usize,

@@ -150,6 +150,33 @@ pub fn open(m: &mut Memory, searches: &mut u16, code: u8, neighbours: &[u8]) -> 
     }
 }
 
+pub fn link(m: &mut Memory, searches: &mut u16, first: u8, second: u8) -> u8 {
+    // SAFETY: whole arrays of one struct, each named once, and one number beside them.
+    unsafe {
+        c::zorpedi_link(
+            m.record.as_mut_ptr(),
+            m.record.len(),
+            m.links.as_mut_ptr(),
+            m.links.len(),
+            m.pairs.as_mut_ptr(),
+            m.pairs.len(),
+            m.hops.as_mut_ptr(),
+            m.hops.len(),
+            m.bounds.as_mut_ptr(),
+            m.bounds.len(),
+            m.skips.as_mut_ptr(),
+            m.skips.len(),
+            m.even.as_mut_ptr(),
+            m.even.len(),
+            m.odd.as_mut_ptr(),
+            m.odd.len(),
+            searches,
+            first,
+            second,
+        )
+    }
+}
+
 pub fn open_batch(m: &mut Memory, left: &mut [u8; 64], count: &mut u8, lines: &[u8]) -> u8 {
     // SAFETY: whole arrays of one struct, each named once, and an array, a number and a slice beside them.
     unsafe {

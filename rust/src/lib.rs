@@ -1,7 +1,7 @@
 //! Zorpedi, the handover map, for Rust: safe types over `libzorpedi.a`, whose functions are proved to do what `include/zorpedi.h` says.
 //!
-//! A map holds depots and the links between them. It takes opening notices one by one and keeps the longest chain (the network's diameter)
-//! and the set of farthest pairs.
+//! A map holds depots and the links between them. It takes notices one by one, of depots that open and of links between open ones, and keeps
+//! the longest chain (the network's diameter) and the set of farthest pairs.
 //!
 //! ```
 //! use zorpedi::{Change, Map};
@@ -17,6 +17,10 @@
 //! assert_eq!(opened.change, Change::Shrank);
 //! assert_eq!(map.chain(), 3);
 //! assert_eq!(map.farthest_pairs().collect::<Vec<_>>(), [(0, 3), (1, 4)]);
+//!
+//! let linked = map.link(1, 4)?;
+//! assert_eq!(linked.change, Change::Kept);
+//! assert_eq!(map.farthest_pairs().collect::<Vec<_>>(), [(0, 3)]);
 //! # Ok::<(), zorpedi::Refusal>(())
 //! ```
 //!

@@ -1,10 +1,11 @@
 use crate::ffi;
+use crate::notice::Notice;
 use crate::refusal::Refusal;
 use crate::row::{codes, has, Codes};
 use crate::version;
 use std::fmt;
 
-/// How an accepted opening changed the longest chain. Further ways may come, so that a `match` needs an arm for them.
+/// How an accepted opening or link changed the longest chain. Further ways may come, so that a `match` needs an arm for them.
 ///
 /// ```
 /// use zorpedi::Change;
@@ -32,7 +33,7 @@ use std::fmt;
 #[derive(Clone, Copy, Debug, PartialEq, Eq, Hash)]
 #[non_exhaustive]
 pub enum Change {
-    /// The longest chain is greater than before.
+    /// The longest chain is greater than before; by a link it never is.
     Grew,
     /// It is the same.
     Kept,
@@ -55,7 +56,7 @@ impl Change {
     }
 }
 
-/// An accepted opening.
+/// An accepted opening or link.
 ///
 /// ```
 /// use zorpedi::{Map, Opened};
@@ -69,8 +70,21 @@ impl Change {
 pub struct Opened {
     /// How the longest chain changed.
     pub change: Change,
-    /// How many depots were searched: 1 if the chain grew or was kept, and never more than are open.
+    /// How many depots were searched: by an opening 1 if the chain grew or was kept, by a link 2 if it was kept; and never more than are open.
     pub searches: u16,
+}
+
+impl Opened {
+    /// What the answer of an opening or a link says.
+    fn of(answer: u8, searches: u16) -> Result<Opened, Refusal> {
+        let change = match answer {
+            b'G' => Change::Grew,
+            b'K' => Change::Kept,
+            b'S' => Change::Shrank,
+            number => return Err(Refusal::of(number)),
+        };
+        Ok(Opened { change, searches })
+    }
 }
 
 /// The nearest depot of a list: see [`Map::nearest`].
@@ -108,7 +122,7 @@ pub struct Record {
     pub pairs: u32,
 }
 
-/// What the last opening or reckoning did with a depot. Further marks may come, so that a `match` needs an arm for them.
+/// What the last opening, link or reckoning did with a depot. Further marks may come, so that a `match` needs an arm for them.
 ///
 /// ```
 /// use zorpedi::{Map, Mark};
@@ -270,21 +284,72 @@ impl Map {
     /// ```
     pub fn open(&mut self, code: u8, neighbours: &[u8]) -> Result<Opened, Refusal> {
         let mut searches = 0;
-        let change = match ffi::open(&mut self.memory, &mut searches, code, neighbours) {
-            b'G' => Change::Grew,
-            b'K' => Change::Kept,
-            b'S' => Change::Shrank,
-            number => return Err(Refusal::of(number)),
-        };
-        Ok(Opened { change, searches })
+        let answer = ffi::open(&mut self.memory, &mut searches, code, neighbours);
+        Opened::of(answer, searches)
+    }
+
+    /// Links two open depots, whichever is named first. Chain and pairs are brought up to date; the chain stays or gets shorter.
+    ///
+    /// Refused with `Spoilt`, `Apart`, `Absent` (one of them is not open), `Itself` or `Linked`; the first two only on a map made by `from_parts`.
+    ///
+    /// ```
+    /// use zorpedi::{Change, Map, Mark, Refusal};
+    ///
+    /// // The path 0-1-2-3-4-5-6, whose ends then begin to exchange parcels.
+    /// let mut map = Map::new();
+    /// map.open(0, &[])?;
+    /// for code in 1..7 {
+    ///     map.open(code, &[code - 1])?;
+    /// }
+    /// let linked = map.link(6, 0)?;
+    /// assert_eq!((linked.change, linked.searches), (Change::Shrank, 7));
+    /// assert_eq!((map.chain(), map.pair_count()), (3, 7));
+    /// assert!(map.are_linked(0, 6));
+    ///
+    /// let linked = map.link(1, 3)?;
+    /// assert_eq!((linked.change, linked.searches), (Change::Kept, 2));
+    /// assert_eq!(map.mark(1), Mark::Searched { eccentricity: 3 });
+    ///
+    /// assert_eq!(map.link(0, 6), Err(Refusal::Linked));
+    /// assert_eq!(map.link(2, 2), Err(Refusal::Itself));
+    /// assert_eq!(map.link(2, 9), Err(Refusal::Absent));
+    /// # Ok::<(), Refusal>(())
+    /// ```
+    pub fn link(&mut self, first: u8, second: u8) -> Result<Opened, Refusal> {
+        let mut searches = 0;
+        let answer = ffi::link(&mut self.memory, &mut searches, first, second);
+        Opened::of(answer, searches)
+    }
+
+    /// Does what a notice says: opens its depot, as [`Map::open`] does, or links its two depots, as [`Map::link`] does.
+    ///
+    /// ```
+    /// use zorpedi::{notice, Change, Map};
+    ///
+    /// let mut map = Map::new();
+    /// let mut rest = &b"010000\n01010100\n01020101\n020002\n"[..];
+    /// let mut changes = Vec::new();
+    /// while !rest.is_empty() {
+    ///     let (notice, used) = notice::read(rest)?;
+    ///     changes.push(map.apply(&notice)?.change);
+    ///     rest = &rest[used..];
+    /// }
+    /// assert_eq!(changes, [Change::Kept, Change::Grew, Change::Grew, Change::Shrank]);
+    /// # Ok::<(), zorpedi::Refusal>(())
+    /// ```
+    pub fn apply(&mut self, notice: &Notice) -> Result<Opened, Refusal> {
+        match notice {
+            Notice::Opening { code, neighbours } => self.open(*code, neighbours),
+            Notice::Link { first, second } => self.link(*first, *second),
+        }
     }
 
     /// Opens the depots of up to 64 notice lines, which may come in any order: again and again the first line that can be opened by then is opened,
     /// as [`Map::open`] opens it, until none can. Answers the numbers of the lines left over, from 0, rising. No order of
     /// these lines opens a depot that is not open then. Each line ends with its 0A.
     ///
-    /// Refused with `Spoilt`, `Apart`, `Overfull` (more than 64 lines), `Bare` (no depot is open yet) or, if any line is no notice, `Garbled`; the
-    /// first two only on a map made by `from_parts`.
+    /// Refused with `Spoilt`, `Apart`, `Overfull` (more than 64 lines), `Bare` (no depot is open yet) or, if any line is no notice of an opening,
+    /// `Garbled`; the first two only on a map made by `from_parts`. A link is garbled here.
     ///
     /// ```
     /// use zorpedi::{Map, Refusal};
@@ -298,8 +363,9 @@ impl Map {
     /// assert_eq!(left, [1]);
     /// assert_eq!((map.depots(), map.chain()), (4, 3));
     ///
-    /// // A line that does not read refuses the whole batch.
+    /// // A line that does not read refuses the whole batch, and so does a link.
     /// assert_eq!(map.open_batch(b"01040103\n0105010\n"), Err(Refusal::Garbled));
+    /// assert_eq!(map.open_batch(b"01040103\n020002\n"), Err(Refusal::Garbled));
     /// assert_eq!(map.depots(), 4);
     /// # Ok::<(), Refusal>(())
     /// ```
@@ -532,7 +598,7 @@ impl Map {
         (0..=255u8).flat_map(move |u| codes(row_of(&self.memory.pairs, u)).map(move |v| (u, v)))
     }
 
-    /// What the last accepted opening or reckoning did with a depot: why it was not searched, or that it was.
+    /// What the last accepted opening or link, or the last reckoning, did with a depot: why it was not searched, or that it was.
     ///
     /// ```
     /// use zorpedi::{Map, Mark};

@@ -1,12 +1,16 @@
-//! Notice lines: upper-case hexadecimal, ended by byte 0A. A line spells a frame: kind 01, code, neighbour count, neighbours.
+//! Notice lines: upper-case hexadecimal, ended by byte 0A. A line spells a frame, by its first byte, the kind: 01, an opening, then has code,
+//! neighbour count and neighbours; 02, a link, has two codes.
 //!
 //! ```
-//! use zorpedi::notice;
+//! use zorpedi::notice::{self, Notice};
 //!
-//! let (notice, used) = notice::read(b"010503000204\n010000\n")?;
-//! assert_eq!((notice.code(), notice.neighbours()), (5, &[0, 2, 4][..]));
+//! let (notice, used) = notice::read(b"010503000204\n020105\n")?;
+//! assert_eq!(notice, Notice::Opening { code: 5, neighbours: vec![0, 2, 4] });
 //! assert_eq!(used, 13);
-//! assert_eq!(notice::write(notice.frame())?, b"010503000204\n");
+//! assert_eq!(notice::write(&notice.frame())?, b"010503000204\n");
+//!
+//! let (notice, _) = notice::read(b"020105\n")?;
+//! assert_eq!(notice, Notice::Link { first: 1, second: 5 });
 //! # Ok::<(), zorpedi::Refusal>(())
 //! ```
 use crate::ffi;
@@ -18,33 +22,87 @@ pub const FRAME_LIMIT: usize = 258;
 /// The most bytes of a line, its ending included.
 pub const LINE_LIMIT: usize = 517;
 
-/// A notice that was read: the frame of a line.
-#[derive(Clone, Debug, PartialEq, Eq)]
-pub struct Notice {
-    frame: [u8; FRAME_LIMIT],
-    length: usize,
+/// The kinds of a frame: its first byte.
+const OPENING: u8 = 1;
+const LINK: u8 = 2;
+
+/// A notice, by its kind; [`Map::apply`](crate::Map::apply) does what it says. Further kinds may come, so that a `match` needs an arm for them.
+///
+/// ```
+/// use zorpedi::notice::Notice;
+///
+/// fn is_about(notice: &Notice, depot: u8) -> bool {
+///     match notice {
+///         Notice::Opening { code, .. } => *code == depot,
+///         Notice::Link { first, second } => [*first, *second].contains(&depot),
+///         _ => false,
+///     }
+/// }
+/// assert!(is_about(&Notice::Link { first: 1, second: 5 }, 5));
+/// ```
+///
+/// ```compile_fail
+/// use zorpedi::notice::Notice;
+///
+/// fn is_link(notice: &Notice) -> bool {
+///     match notice {
+///         Notice::Opening { .. } => false,
+///         Notice::Link { .. } => true,
+///     }
+/// }
+/// ```
+#[derive(Clone, Debug, PartialEq, Eq, Hash)]
+#[non_exhaustive]
+pub enum Notice {
+    /// Kind 01: a depot opens, as [`Map::open`](crate::Map::open) opens it.
+    Opening {
+        /// The code of the new depot.
+        code: u8,
+        /// Its neighbours, in the line's order; the opening judges it.
+        neighbours: Vec<u8>,
+    },
+    /// Kind 02: two open depots are linked, as [`Map::link`](crate::Map::link) links them.
+    Link {
+        /// The code that the line names first; it need not be the lower one.
+        first: u8,
+        /// The other code.
+        second: u8,
+    },
 }
 
 impl Notice {
-    /// The code of the new depot.
-    pub fn code(&self) -> u8 {
-        self.frame[1]
+    /// The frame: kind, code, neighbour count, neighbours; or kind and two codes. An opening with more than 255 neighbours has none: what this
+    /// gives for it, [`write`] refuses.
+    ///
+    /// ```
+    /// use zorpedi::notice::{self, Notice};
+    ///
+    /// assert_eq!(Notice::Opening { code: 9, neighbours: vec![5] }.frame(), [1, 9, 1, 5]);
+    /// assert_eq!(notice::write(&Notice::Link { first: 1, second: 5 }.frame())?, b"020105\n");
+    /// assert!(notice::write(&Notice::Opening { code: 9, neighbours: vec![5; 256] }.frame()).is_err());
+    /// # Ok::<(), zorpedi::Refusal>(())
+    /// ```
+    pub fn frame(&self) -> Vec<u8> {
+        match self {
+            // where the count is cut off it no longer fits the length
+            Notice::Opening { code, neighbours } => [&[OPENING, *code, neighbours.len() as u8], &neighbours[..]].concat(),
+            Notice::Link { first, second } => vec![LINK, *first, *second],
+        }
     }
 
-    /// Its neighbours, in the line's order; the opening judges it.
-    pub fn neighbours(&self) -> &[u8] {
-        &self.frame[3..self.length]
-    }
-
-    /// The frame: kind, code, neighbour count, neighbours.
-    pub fn frame(&self) -> &[u8] {
-        &self.frame[..self.length]
+    /// The notice of a frame that was read; none if its kind is one that this crate does not know.
+    fn of(frame: &[u8]) -> Option<Notice> {
+        match *frame {
+            [OPENING, code, _, ref neighbours @ ..] => Some(Notice::Opening { code, neighbours: neighbours.to_vec() }),
+            [LINK, first, second] => Some(Notice::Link { first, second }),
+            _ => None,
+        }
     }
 }
 
 /// Reads the notice line at the start of the input, and answers it with the number of bytes used, 0A included.
 ///
-/// Refused with `Garbled`.
+/// Refused with `Garbled`; so is a line of a kind that only an archive newer than this crate knows.
 ///
 /// # Panics
 ///
@@ -55,18 +113,19 @@ impl Notice {
 ///
 /// assert_eq!(notice::read(b"0105\n"), Err(Refusal::Garbled));
 /// assert_eq!(notice::read(b"010000"), Err(Refusal::Garbled)); // no ending
+/// assert_eq!(notice::read(b"02010500\n"), Err(Refusal::Garbled)); // a link has no count
 /// ```
 pub fn read(input: &[u8]) -> Result<(Notice, usize), Refusal> {
     version::require();
-    let mut notice = Notice { frame: [0; FRAME_LIMIT], length: 0 };
-    let mut used = 0;
-    Refusal::check(ffi::read_notice(&mut notice.frame, &mut notice.length, &mut used, input))?;
+    let (mut frame, mut length, mut used) = ([0; FRAME_LIMIT], 0, 0);
+    Refusal::check(ffi::read_notice(&mut frame, &mut length, &mut used, input))?;
+    let notice = Notice::of(&frame[..length]).ok_or(Refusal::Garbled)?;
     Ok((notice, used))
 }
 
 /// Writes the line of a frame, 0A included.
 ///
-/// Refused with `Garbled`: the kind is not 01, or the length is not 3 more than the neighbour count.
+/// Refused with `Garbled`: the kind is neither 01 nor 02, or the length is not that of its kind: 3 more than the neighbour count, or 3.
 ///
 /// # Panics
 ///
@@ -76,7 +135,8 @@ pub fn read(input: &[u8]) -> Result<(Notice, usize), Refusal> {
 /// use zorpedi::{notice, Refusal};
 ///
 /// assert_eq!(notice::write(&[1, 0xA0, 1, 0x0F])?, b"01A0010F\n");
-/// assert_eq!(notice::write(&[2, 0, 0]), Err(Refusal::Garbled));
+/// assert_eq!(notice::write(&[2, 0, 0])?, b"020000\n");
+/// assert_eq!(notice::write(&[2, 0, 0, 0]), Err(Refusal::Garbled));
 /// # Ok::<(), Refusal>(())
 /// ```
 pub fn write(frame: &[u8]) -> Result<Vec<u8>, Refusal> {

@@ -10,11 +10,12 @@ use std::fmt;
 /// let refusal = Map::new().search(7).unwrap_err();
 /// assert_eq!(refusal, Refusal::Absent);
 /// assert_eq!(refusal.number(), 4);
-/// assert_eq!(refusal.to_string(), "absent (4): the depot to be searched from is not open");
+/// assert_eq!(refusal.to_string(), "absent (4): the depot to be searched from, or one to be linked, is not open");
 ///
 /// let is_the_notice = match refusal {
 ///     Refusal::Short | Refusal::Spoilt | Refusal::Apart => false,
 ///     Refusal::Taken | Refusal::Lonely | Refusal::Unsorted | Refusal::Unknown | Refusal::Garbled => true,
+///     Refusal::Itself | Refusal::Linked => true,
 ///     _ => false,
 /// };
 /// assert!(!is_the_notice);
@@ -28,11 +29,11 @@ use std::fmt;
 pub enum Refusal {
     /// 1: a lent buffer is too small.
     Short,
-    /// 2: links are not sound; for an opening, a batch and the stream, links or figures.
+    /// 2: links are not sound; for an opening, a link, a batch and the stream, links or figures.
     Spoilt,
     /// 3: links are sound, but no walk leads from the lowest open code to some open depot.
     Apart,
-    /// 4: the depot to be searched from, or whose near depots are asked, is not open.
+    /// 4: the depot to be searched from, or whose near depots are asked, or one to be linked, is not open.
     Absent,
     /// 5: the depot to be opened is open already.
     Taken,
@@ -42,7 +43,7 @@ pub enum Refusal {
     Unsorted,
     /// 8: some neighbour is not open; the new depot itself is not.
     Unknown,
-    /// 9: a line that spells no frame, or bytes that are no frame.
+    /// 9: a line that spells no frame, or bytes that are no frame; in a batch, a link too.
     Garbled,
     /// 10: no depot of a list is open.
     Nobody,
@@ -50,13 +51,17 @@ pub enum Refusal {
     Overfull,
     /// 12: a batch, and no depot is open.
     Bare,
+    /// 13: a depot is to be linked with itself.
+    Itself,
+    /// 14: the depots to be linked are linked already.
+    Linked,
     /// Any other number, from an archive that is newer than this crate. Only the crate makes one, and [`Refusal::number`] gives the number.
     #[non_exhaustive]
     Other(u8),
 }
 
 /// The refusals that have a name, by their numbers, which begin at 1.
-const NAMED: [Refusal; 12] = [
+const NAMED: [Refusal; 14] = [
     Refusal::Short,
     Refusal::Spoilt,
     Refusal::Apart,
@@ -69,6 +74,8 @@ const NAMED: [Refusal; 12] = [
     Refusal::Nobody,
     Refusal::Overfull,
     Refusal::Bare,
+    Refusal::Itself,
+    Refusal::Linked,
 ];
 
 impl Refusal {
@@ -84,7 +91,7 @@ impl Refusal {
         NAMED.into_iter()
     }
 
-    /// The refusal's number: 1 to 12 for those that have a name.
+    /// The refusal's number: 1 to 14 for those that have a name.
     ///
     /// ```
     /// assert_eq!(zorpedi::Refusal::Garbled.number(), 9);
@@ -103,6 +110,8 @@ impl Refusal {
             Refusal::Nobody => 10,
             Refusal::Overfull => 11,
             Refusal::Bare => 12,
+            Refusal::Itself => 13,
+            Refusal::Linked => 14,
             Refusal::Other(number) => number,
         }
     }
@@ -138,6 +147,8 @@ impl Refusal {
             Refusal::Nobody => "nobody",
             Refusal::Overfull => "overfull",
             Refusal::Bare => "bare",
+            Refusal::Itself => "itself",
+            Refusal::Linked => "linked",
             Refusal::Other(_) => "",
         }
     }
@@ -147,7 +158,7 @@ impl Refusal {
             Refusal::Short => "a lent buffer is too small",
             Refusal::Spoilt => "links or figures are not sound",
             Refusal::Apart => "no walk leads from the lowest open code to some open depot",
-            Refusal::Absent => "the depot to be searched from is not open",
+            Refusal::Absent => "the depot to be searched from, or one to be linked, is not open",
             Refusal::Taken => "the depot to be opened is open already",
             Refusal::Lonely => "an opening has no neighbours, and the map has a depot",
             Refusal::Unsorted => "some neighbour is not above the one before it",
@@ -156,6 +167,8 @@ impl Refusal {
             Refusal::Nobody => "no depot of a list is open",
             Refusal::Overfull => "a batch has more than 64 lines",
             Refusal::Bare => "a batch, and no depot is open",
+            Refusal::Itself => "a depot is to be linked with itself",
+            Refusal::Linked => "the depots to be linked are linked already",
             Refusal::Other(_) => "the archive is newer than the crate, which has no word for it",
         }
     }

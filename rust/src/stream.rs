@@ -21,7 +21,7 @@ pub struct Fed {
     pub written: usize,
 }
 
-/// A stream of notice lines, in pieces of any size: one report line comes out for each line that goes in. It starts from an empty map and
+/// A stream of notice lines, openings and links, in pieces of any size: one report line comes out for each line that goes in. It starts from an empty map and
 /// answers 1,000,000 lines at most.
 ///
 /// ```
@@ -30,9 +30,9 @@ pub struct Fed {
 /// let mut stream = Stream::new();
 /// let mut reports = Vec::new();
 /// stream.push(b"010000\n0101", &mut reports)?;
-/// stream.push(b"0100\n0102", &mut reports)?;
+/// stream.push(b"0100\n01020101\n020200\n0103", &mut reports)?;
 /// stream.end(&mut reports)?;
-/// assert_eq!(reports, b"1 K 1 0 0 1\n2 G 2 1 1 1\n3 R9 2 1 1 0\n");
+/// assert_eq!(reports, b"1 K 1 0 0 1\n2 G 2 1 1 1\n3 G 3 2 1 1\n4 S 3 1 3 3\n5 R9 3 1 3 0\n");
 /// assert_eq!(stream.map().chain(), 1);
 /// # Ok::<(), zorpedi::Refusal>(())
 /// ```

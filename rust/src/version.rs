@@ -31,9 +31,9 @@ impl Version {
     /// The version that this crate was written for.
     ///
     /// ```
-    /// assert_eq!(zorpedi::Version::WANTED.to_string(), "2.2");
+    /// assert_eq!(zorpedi::Version::WANTED.to_string(), "3.0");
     /// ```
-    pub const WANTED: Version = Version { major: 2, minor: 2 };
+    pub const WANTED: Version = Version { major: 3, minor: 0 };
 
     /// The version of the archive that is linked.
     ///

@@ -2,7 +2,7 @@
 mod inputs;
 mod plain;
 
-use inputs::lines::{longest_line, notice_line, some_input};
+use inputs::lines::{link_line, longest_line, notice_line, some_input};
 use inputs::{Dice, Growth, Shape, SHAPES};
 use plain::stream::output;
 use std::env;
@@ -123,6 +123,16 @@ fn the_seven_lines() {
     );
 }
 
+/// A path of five whose ends are linked, and the refusals of a link; one with a count, or with fewer codes, is garbled.
+#[test]
+fn links() {
+    gives(
+        b"020000\n010000\n01010100\n01020101\n01030102\n01040103\n020400\n020004\n020303\n020305\n020505\n02\n0200\n02000400\n020103\n020204",
+        "1 R4 0 0 0 0\n2 K 1 0 0 1\n3 G 2 1 1 1\n4 G 3 2 1 1\n5 G 4 3 1 1\n6 G 5 4 1 1\n7 S 5 2 5 5\n8 R14 5 2 5 0\n9 R13 5 2 5 0\n\
+         10 R4 5 2 5 0\n11 R4 5 2 5 0\n12 R9 5 2 5 0\n13 R9 5 2 5 0\n14 R9 5 2 5 0\n15 K 5 2 4 2\n16 R9 5 2 4 0\n",
+    );
+}
+
 #[test]
 fn little_inputs() {
     gives(b"", "");
@@ -180,17 +190,21 @@ fn lines_of_megabytes() {
     gives(&around("010000\n", 65_536 * 8 - 7, "\n01010100\n"), reports);
 }
 
-/// So many lines, as no shift has: a network of 200 depots that opens over the first half, and lines between that are refused in every way.
+/// So many lines, as no shift has: a network of 200 depots that opens over the first half, links among them, and lines between that are refused in every
+/// way.
 fn many_lines(count: usize) -> Vec<u8> {
     let mut dice = Dice::new(30_000_000);
     let growth = Growth::new(&mut dice, Shape::Shortcuts);
-    let refused = ["", "010", "020000", "0105", "01FF0101FE", "0105020100", "0105FF", "0100\r", "01050105"];
+    let refused = ["", "010", "020000", "02000001", "0105", "01FF0101FE", "0105020100", "0105FF", "0100\r", "01050105"];
     let mut input = Vec::new();
     let mut opened = 0;
     for i in 0..count {
         if i % 2_500 == 7 && opened < 200 {
             input.extend(notice_line(growth.order[opened], &growth.neighbours(&mut dice, opened, 200)));
             opened += 1;
+        } else if i % 10_000 == 5_003 {
+            let open = &growth.order[..opened];
+            input.extend(link_line(dice.pick(open) as u8, dice.pick(open) as u8));
         } else {
             input.extend_from_slice(dice.pick(&refused).as_bytes());
             input.push(0x0A);
@@ -253,6 +267,25 @@ fn growths_of_256_depots() {
         let input: Vec<u8> = (0..256).flat_map(|i| notice_line(growth.order[i], &growth.neighbours(&mut dice, i, 256))).collect();
         assert_eq!(output(&input).lines().filter(|line| !line.contains('R')).count(), 256);
         follow(&input);
+    }
+}
+
+/// A path or a tree of 256 depots, and every link of some codes with all others.
+#[test]
+fn links_of_256_depots() {
+    for (seed, shape) in [Shape::Path, Shape::Heap].into_iter().enumerate() {
+        let mut dice = Dice::new(34_000_000 + seed as u64);
+        let growth = Growth::new(&mut dice, shape);
+        let mut input: Vec<u8> = (0..256).flat_map(|i| notice_line(growth.order[i], &growth.neighbours(&mut dice, i, 256))).collect();
+        for code in [0, 63, 64, 255] {
+            let mut others: Vec<u8> = (0..=255).collect();
+            dice.shuffle(&mut others);
+            input.extend(others.iter().flat_map(|&other| if other % 2 == 0 { link_line(code, other) } else { link_line(other, code) }));
+        }
+        let expected = output(&input);
+        assert_eq!(expected.lines().filter(|line| line.contains(" R13 ")).count(), 4);
+        assert!(expected.contains(" R14 ") && expected.contains(" S "));
+        assert_same(&run(&input), &expected);
     }
 }
 
@@ -432,7 +465,7 @@ fn usage() {
         let (written, said) = written_and_said(child);
         drop(open);
         assert!(written.starts_with("Usage: follow < NOTICES > REPORTS\n"), "{argument}: {written}");
-        for word in ["G ", "K ", "S ", "taken", "lonely", "unsorted", "unknown", "garbled", "1,000,000 lines"] {
+        for word in ["G ", "K ", "S ", "taken", "lonely", "unsorted", "unknown", "garbled", "020105", "absent", "itself", "linked", "1,000,000 lines"] {
             assert!(written.contains(word), "{word}");
         }
         assert_eq!(said, "");

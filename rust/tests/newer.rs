@@ -17,14 +17,16 @@ mod stream;
 #[path = "../src/version.rs"]
 mod version;
 
-/// The calls, each of which gives the answer that was set and touches nothing.
+/// The calls, each of which gives the answer that was set; but for the reader, which has a frame, they touch nothing.
 mod ffi {
     use crate::map::{Memory, Search};
     use std::cell::Cell;
 
     thread_local! {
-        pub static VERSION: Cell<u32> = const { Cell::new(2002) };
+        pub static VERSION: Cell<u32> = const { Cell::new(3000) };
         pub static ANSWER: Cell<u8> = const { Cell::new(0) };
+        /// What a line reads as, where the answer is 0.
+        pub static FRAME: Cell<&'static [u8]> = const { Cell::new(&[1, 0, 0]) };
     }
 
     pub struct Progress {
@@ -70,11 +72,20 @@ mod ffi {
         ANSWER.get()
     }
 
+    pub fn link(_: &mut Memory, _: &mut u16, _: u8, _: u8) -> u8 {
+        ANSWER.get()
+    }
+
     pub fn open_batch(_: &mut Memory, _: &mut [u8; 64], _: &mut u8, _: &[u8]) -> u8 {
         ANSWER.get()
     }
 
-    pub fn read_notice(_: &mut [u8], _: &mut usize, _: &mut usize, _: &[u8]) -> u8 {
+    pub fn read_notice(frame: &mut [u8], length: &mut usize, _: &mut usize, _: &[u8]) -> u8 {
+        if ANSWER.get() == 0 {
+            let read = FRAME.get();
+            frame[..read.len()].copy_from_slice(read);
+            *length = read.len();
+        }
         ANSWER.get()
     }
 
@@ -96,6 +107,7 @@ mod ffi {
 }
 
 use map::{Change, Map};
+use notice::Notice;
 use refusal::Refusal;
 use std::panic::catch_unwind;
 use stream::Stream;
@@ -107,6 +119,7 @@ fn answers(number: u8) -> Vec<Option<Refusal>> {
     let (mut map, mut stream) = (Map::new(), Stream::new());
     vec![
         map.open(1, &[]).err(),
+        map.link(1, 2).err(),
         map.open_batch(b"").err(),
         map.search(1).err(),
         map.within(1, 1).err(),
@@ -126,22 +139,44 @@ fn numbers_without_a_name() {
         let expected = Refusal::from_number(number).unwrap_or(Refusal::Other(number));
         let said = answers(number);
         let is_letter = b"GKS".contains(&number);
-        assert_eq!(said[0], (!is_letter).then_some(expected));
-        assert_eq!(said[1..], vec![Some(expected); 9]);
+        assert_eq!(said[..2], vec![(!is_letter).then_some(expected); 2]);
+        assert_eq!(said[2..], vec![Some(expected); 9]);
         assert_eq!(expected.number(), number);
-        assert_eq!(expected.word().is_empty(), number > 12);
+        assert_eq!(expected.word().is_empty(), number > 14);
         assert!(expected.to_string().contains(&format!("({number})")));
     }
-    assert_eq!(answers(0)[1..], vec![None; 9]);
-    assert_eq!(Refusal::of(13).to_string(), "refused (13): the archive is newer than the crate, which has no word for it");
+    assert_eq!(answers(0)[2..], vec![None; 9]);
+    assert_eq!(Refusal::of(15).to_string(), "refused (15): the archive is newer than the crate, which has no word for it");
 }
 
 #[test]
-fn the_letters_of_an_opening() {
+fn the_letters_of_an_opening_or_a_link() {
     for (letter, change) in [(b'G', Change::Grew), (b'K', Change::Kept), (b'S', Change::Shrank)] {
         ffi::ANSWER.set(letter);
         assert_eq!(Map::new().open(0, &[]).map(|opened| opened.change), Ok(change));
+        assert_eq!(Map::new().link(0, 1).map(|linked| linked.change), Ok(change));
         assert_eq!(change.letter(), char::from(letter));
+    }
+}
+
+/// A frame is a notice by its kind; one of a kind that the crate does not know is garbled to it.
+#[test]
+fn kinds_without_a_name() {
+    let opening = Notice::Opening { code: 7, neighbours: vec![5, 3] };
+    let link = Notice::Link { first: 9, second: 2 };
+    let kinds: [(&'static [u8], Result<Notice, Refusal>); 5] = [
+        (&[1, 7, 2, 5, 3], Ok(opening)),
+        (&[2, 9, 2], Ok(link)),
+        (&[3, 9], Err(Refusal::Garbled)),
+        (&[4, 7, 0], Err(Refusal::Garbled)),
+        (&[0x11, 0, 7, 0, 0], Err(Refusal::Garbled)),
+    ];
+    ffi::ANSWER.set(0);
+    for (frame, expected) in kinds {
+        ffi::FRAME.set(frame);
+        let read = notice::read(b"").map(|(notice, _)| notice);
+        assert_eq!(read, expected);
+        assert!(read.is_err() || read.is_ok_and(|notice| notice.frame() == frame));
     }
 }
 
@@ -151,16 +186,18 @@ fn archives_of_other_versions() {
     let ways: [fn(); 4] =
         [|| drop(Map::new()), || drop(Stream::new()), || drop(notice::read(b"010000\n")), || drop(notice::write(&[1, 0, 0]))];
     for (version, serves) in [
-        (2002, true),
-        (2003, true),
-        (2999, true),
+        (3000, true),
+        (3001, true),
+        (3999, true),
         (0, false),
         (1000, false),
         (1999, false),
         (2000, false),
-        (2001, false),
-        (3000, false),
-        (3001, false),
+        (2002, false),
+        (2999, false),
+        (4000, false),
+        (4001, false),
+        (4003, false),
         (u32::MAX, false),
     ] {
         ffi::VERSION.set(version);
@@ -169,8 +206,8 @@ fn archives_of_other_versions() {
             assert_eq!(catch_unwind(way).is_ok(), serves, "{version}");
         }
     }
-    ffi::VERSION.set(3003);
+    ffi::VERSION.set(4003);
     let said = catch_unwind(Map::new).expect_err("it does not serve");
     let text = said.downcast_ref::<String>().expect("a text");
-    assert_eq!(text, "libzorpedi.a has version 3.3, this crate was written for 2.2");
+    assert_eq!(text, "libzorpedi.a has version 4.3, this crate was written for 3.0");
 }

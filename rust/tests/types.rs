@@ -1,6 +1,7 @@
 //! The safe types, by what a user sees of them.
 use std::thread;
-use zorpedi::{notice, report, Change, Map, Mark, Opened, Refusal, Search, Stream, Version};
+use zorpedi::notice::{self, Notice};
+use zorpedi::{report, Change, Map, Mark, Opened, Refusal, Search, Stream, Version};
 
 const SEVEN: [&str; 7] = ["010000\n", "01010100\n", "01020101\n", "01030102\n", "01040103\n", "010503000204\n", "010503000204\n"];
 
@@ -23,12 +24,78 @@ fn the_seven_lines_notice_by_notice() -> Result<(), Refusal> {
     for (number, line) in (1..).zip(SEVEN) {
         let answer = notice::read(line.as_bytes()).and_then(|(notice, used)| {
             assert_eq!(used, line.len());
-            map.open(notice.code(), notice.neighbours())
+            map.apply(&notice)
         });
         reports += &report::line(number, answer, &map);
     }
     assert_eq!(reports, REPORTS);
     assert_eq!(map.farthest_pairs().collect::<Vec<_>>(), [(0, 3), (1, 4)]);
+    Ok(())
+}
+
+/// A path of four, two links, and one of each refusal: by the calls, by notices, and as a stream.
+#[test]
+fn links_in_three_ways() -> Result<(), Refusal> {
+    let lines =
+        ["020000\n", "010000\n", "01010100\n", "01020101\n", "01030102\n", "020300\n", "020202\n", "020301\n", "020003\n", "02000300\n"];
+    let expected =
+        "1 R4 0 0 0 0\n2 K 1 0 0 1\n3 G 2 1 1 1\n4 G 3 2 1 1\n5 G 4 3 1 1\n6 S 4 2 2 4\n7 R13 4 2 2 0\n8 K 4 2 1 2\n9 R14 4 2 1 0\n\
+                    10 R9 4 2 1 0\n";
+    let mut map = Map::new();
+    let mut reports = String::new();
+    for (number, line) in (1..).zip(lines) {
+        let answer = notice::read(line.as_bytes()).and_then(|(notice, _)| {
+            assert_eq!(notice::write(&notice.frame())?, line.as_bytes());
+            map.apply(&notice)
+        });
+        reports += &report::line(number, answer, &map);
+    }
+    assert_eq!(reports, expected);
+
+    let mut stream = Stream::new();
+    let mut reports = Vec::new();
+    stream.push(lines.concat().as_bytes(), &mut reports)?;
+    stream.end(&mut reports)?;
+    assert_eq!(String::from_utf8_lossy(&reports), expected);
+    assert_eq!(stream.map(), &map);
+
+    let mut called = Map::new();
+    assert_eq!(called.link(0, 0), Err(Refusal::Absent));
+    called.open(0, &[])?;
+    for code in 1..4 {
+        called.open(code, &[code - 1])?;
+    }
+    let Opened { change, searches, .. } = called.link(0, 3)?;
+    assert_eq!((change, searches), (Change::Shrank, 4));
+    let linked = called.link(1, 3)?;
+    assert_eq!((linked.change, linked.searches), (Change::Kept, 2));
+    assert_eq!(called, map);
+    assert_eq!(
+        (called.mark(1), called.mark(2), called.mark(3)),
+        (Mark::Searched { eccentricity: 1 }, Mark::Unmarked, Mark::Searched { eccentricity: 1 })
+    );
+    Ok(())
+}
+
+/// The frames of notices that a program makes: they are written as lines that read as these notices, but for one with too many neighbours.
+#[test]
+fn notices_by_kind() -> Result<(), Refusal> {
+    for (notice, line) in [
+        (Notice::Opening { code: 5, neighbours: vec![0, 2, 4] }, "010503000204\n"),
+        (Notice::Opening { code: 255, neighbours: vec![] }, "01FF00\n"),
+        (Notice::Link { first: 1, second: 5 }, "020105\n"),
+        (Notice::Link { first: 5, second: 1 }, "020501\n"),
+        (Notice::Link { first: 255, second: 255 }, "02FFFF\n"),
+    ] {
+        assert_eq!(notice::write(&notice.frame())?, line.as_bytes());
+        assert_eq!(notice::read(line.as_bytes())?, (notice, line.len()));
+    }
+    let longest = Notice::Opening { code: 255, neighbours: (0..=254).collect() };
+    assert_eq!(notice::read(&notice::write(&longest.frame())?)?, (longest, notice::LINE_LIMIT));
+    for count in [256, 257, 511, 512] {
+        let more = Notice::Opening { code: 255, neighbours: vec![7; count] };
+        assert_eq!(notice::write(&more.frame()), Err(Refusal::Garbled));
+    }
     Ok(())
 }
 
@@ -68,7 +135,10 @@ fn each_refusal() -> Result<(), Refusal> {
     assert_eq!(map.open(13, &[12, 10]), Err(Refusal::Unsorted));
     assert_eq!(map.open(13, &[12, 13]), Err(Refusal::Unknown));
     assert_eq!(map.search(13), Err(Refusal::Absent));
+    assert_eq!((map.link(13, 10), map.link(13, 13)), (Err(Refusal::Absent), Err(Refusal::Absent)));
+    assert_eq!((map.link(12, 12), map.link(12, 11)), (Err(Refusal::Itself), Err(Refusal::Linked)));
     assert_eq!(map.open_batch(b"01140113\n0"), Err(Refusal::Garbled));
+    assert_eq!(map.open_batch(b"010D010C\n020A0C\n"), Err(Refusal::Garbled));
     assert_eq!(map.open_batch(&[b'\n'; 65]), Err(Refusal::Overfull));
     assert_eq!(Map::new().open_batch(b"010000\n"), Err(Refusal::Bare));
     assert_eq!(notice::read(b"x\n"), Err(Refusal::Garbled));
@@ -81,6 +151,7 @@ fn each_refusal() -> Result<(), Refusal> {
     record.number += 1;
     let mut apart = Map::from_parts(record, map.links(), map.pairs());
     assert_eq!(apart.open(13, &[12]), Err(Refusal::Apart));
+    assert_eq!(apart.link(10, 12), Err(Refusal::Apart));
     assert_eq!(apart.open_batch(b""), Err(Refusal::Apart));
     assert_eq!(apart.search(10), Err(Refusal::Apart));
     assert_eq!(apart.reckon(), Err(Refusal::Apart));
@@ -89,6 +160,7 @@ fn each_refusal() -> Result<(), Refusal> {
     links[4 * 10] = 0;
     let mut spoilt = Map::from_parts(map.record(), &links, map.pairs());
     assert_eq!(spoilt.open(13, &[12]), Err(Refusal::Spoilt));
+    assert_eq!(spoilt.link(10, 12), Err(Refusal::Spoilt));
     assert_eq!(spoilt.open_batch(b""), Err(Refusal::Spoilt));
     assert_eq!(spoilt.search(10), Err(Refusal::Spoilt));
     assert_eq!(spoilt.reckon(), Err(Refusal::Spoilt));
@@ -101,7 +173,10 @@ fn each_refusal() -> Result<(), Refusal> {
 /// Each refusal has the number and the word of the trade, and every other number has none.
 #[test]
 fn the_refusals_that_have_a_name() {
-    let words = ["short", "spoilt", "apart", "absent", "taken", "lonely", "unsorted", "unknown", "garbled", "nobody", "overfull", "bare"];
+    let words = [
+        "short", "spoilt", "apart", "absent", "taken", "lonely", "unsorted", "unknown", "garbled", "nobody", "overfull", "bare", "itself",
+        "linked",
+    ];
     let named: Vec<(u8, &str)> = Refusal::all().map(|refusal| (refusal.number(), refusal.word())).collect();
     assert_eq!(named, (1..).zip(words).collect::<Vec<_>>());
     for refusal in Refusal::all() {
@@ -153,14 +228,16 @@ fn a_batch_in_two_orders() -> Result<(), Refusal> {
     Ok(())
 }
 
-/// The same notices in another order leave an equal map.
+/// The same notices in another order leave an equal map, whichever code of a link comes first.
 #[test]
 fn two_orders() -> Result<(), Refusal> {
     let mut one = path(0..4)?;
     let mut other = one.clone();
     one.open(8, &[0, 3])?;
+    one.link(1, 3)?;
     one.open(9, &[1])?;
     other.open(9, &[1])?;
+    other.link(3, 1)?;
     assert_ne!(one, other);
     other.open(8, &[0, 3])?;
     assert_eq!(one, other);

@@ -14,7 +14,7 @@ fn beside(what: &str, m: &mut Lent, plainly: impl Fn(&mut Lent) -> u8, call: imp
         panic!("{what}, answer {answer}: {difference}");
     }
     // The plain way is held to the rule too.
-    if (1..=12).contains(&answer) {
+    if (1..=14).contains(&answer) {
         assert!(*m == start, "{what}: refused with {answer}, and something changed");
     }
     answer
@@ -44,6 +44,10 @@ pub fn reckon(m: &mut Lent) -> u8 {
 pub fn open(m: &mut Lent, code: u8, neighbours: &[u8]) -> u8 {
     m.input = Buffer::new(neighbours.to_vec());
     beside("open", m, |m| expected::open(m, code), |m| raw::open(m, code))
+}
+
+pub fn link(m: &mut Lent, first: u8, second: u8) -> u8 {
+    beside("link", m, |m| expected::link(m, first, second), |m| raw::link(m, first, second))
 }
 
 pub fn open_batch(m: &mut Lent, lines: &[u8]) -> u8 {

@@ -1,5 +1,5 @@
-//! The calls on a map, by chance: lists of openings, true and false figures, damaged maps, any memory.
-use crate::both::{empty, open, open_batch, reckon, search};
+//! The calls on a map, by chance: lists of openings, true and false figures, damaged maps, any memory. Links are tried more closely in links.rs.
+use crate::both::{empty, link, open, open_batch, reckon, search};
 use crate::expected::{network, store_map};
 use crate::inputs::growths::some_size;
 use crate::inputs::{Dice, Growth, SHAPES};
@@ -83,7 +83,7 @@ fn run_list(seed: u64, size: usize, tally: &mut Tally) {
         let chain = m.record.data[5];
         let answer = open(&mut m, code, &neighbours);
         tally.count(answer);
-        if answer > 9 && (size <= 40 || dice.once_in(8)) {
+        if b"GKS".contains(&answer) && (size <= 40 || dice.once_in(8)) {
             assert_opened(&m, chain, code, answer);
         }
     }
@@ -192,6 +192,7 @@ fn memory_of_no_map() {
         let mut dice = Dice::new(4_000_000 + seed);
         let mut m = any_memory(&mut dice);
         assert_eq!(open(&mut m, 1, &[2, 3]), 2);
+        assert_eq!(link(&mut m, 1, 2), 2);
         assert_eq!(search(&mut m, 1), 2);
         assert_eq!(reckon(&mut m), 2);
         assert_eq!(empty(&mut m), 0);
@@ -216,6 +217,8 @@ fn short_and_long_buffers() {
                 let (code, neighbours) = some_notice(&mut dice, &network.open);
                 let opened = open(&mut m.clone(), code, &neighbours);
                 assert_eq!(opened == 1, lent < size);
+                let linked = link(&mut m.clone(), code, dice.byte());
+                assert_eq!(linked == 1, lent < size);
                 let batched = open_batch(&mut m.clone(), b"");
                 assert_eq!(batched == 1, lent < size);
                 let reckoned = reckon(&mut m.clone());
@@ -224,7 +227,7 @@ fn short_and_long_buffers() {
                 assert_eq!(searched == 1, lent < size && ![2, 4, 5].contains(&which));
                 let emptied = empty(&mut m);
                 assert_eq!(emptied == 1, lent < size && which < 3);
-                for answer in [opened, batched, reckoned, searched, emptied] {
+                for answer in [opened, linked, batched, reckoned, searched, emptied] {
                     tally.count(answer);
                 }
             }
@@ -247,6 +250,7 @@ fn several_short_buffers() {
         }
         let (code, neighbours) = some_notice(&mut dice, &network.open);
         open(&mut m.clone(), code, &neighbours);
+        link(&mut m.clone(), code, dice.byte());
         open_batch(&mut m.clone(), b"");
         search(&mut m.clone(), code);
         reckon(&mut m.clone());

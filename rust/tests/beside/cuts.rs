@@ -116,7 +116,7 @@ fn digits() {
 }
 
 /// Each refusal with the figures of the map as it is: on the empty map neighbours are unsorted or unknown; then 5 (also where 7 holds too), 6, 7
-/// (falling, equal, and where 8 holds too), 8 (unknown, and the new code itself), 9 (kind, counts, an odd digit).
+/// (falling, equal, and where 8 holds too), 8 (unknown, and the new code itself), 9 (kind, counts, an odd digit); a link's are below.
 #[test]
 fn refusals() {
     given(
@@ -124,10 +124,22 @@ fn refusals() {
         "1 R7 0 0 0 0\n2 R8 0 0 0 0\n3 R8 0 0 0 0\n4 R9 0 0 0 0\n5 K 1 0 0 1\n6 R5 1 0 0 0\n",
     );
     given(
-        b"010000\n01010100\n01020101\n01010100\n0101020100\n010300\n0103020100\n0103020101\n0103020904\n01030104\n0103020003\n020300\n\
+        b"010000\n01010100\n01020101\n01010100\n0101020100\n010300\n0103020100\n0103020101\n0103020904\n01030104\n0103020003\n030300\n\
           010301\n0103000\n0103010201\n01030102\n",
         "1 K 1 0 0 1\n2 G 2 1 1 1\n3 G 3 2 1 1\n4 R5 3 2 1 0\n5 R5 3 2 1 0\n6 R6 3 2 1 0\n7 R7 3 2 1 0\n8 R7 3 2 1 0\n9 R7 3 2 1 0\n\
          10 R8 3 2 1 0\n11 R8 3 2 1 0\n12 R9 3 2 1 0\n13 R9 3 2 1 0\n14 R9 3 2 1 0\n15 R9 3 2 1 0\n16 G 4 3 1 1\n",
+    );
+}
+
+/// A path of five whose ends are linked, and the refusals of a link: a closed code (also with itself), itself, linked, garbled.
+#[test]
+fn links() {
+    given(
+        b"020000\n010000\n020000\n01010100\n01020101\n01030102\n01040103\n020400\n020004\n020303\n020305\n020505\n02000\n02000400\n0200\n\
+          02\n020103\n020301\n01050104\n020205",
+        "1 R4 0 0 0 0\n2 K 1 0 0 1\n3 R13 1 0 0 0\n4 G 2 1 1 1\n5 G 3 2 1 1\n6 G 4 3 1 1\n7 G 5 4 1 1\n8 S 5 2 5 5\n9 R14 5 2 5 0\n\
+         10 R13 5 2 5 0\n11 R4 5 2 5 0\n12 R4 5 2 5 0\n13 R9 5 2 5 0\n14 R9 5 2 5 0\n15 R9 5 2 5 0\n16 R9 5 2 5 0\n17 K 5 2 4 2\n\
+         18 R14 5 2 4 0\n19 G 6 3 2 1\n20 R9 6 3 2 0\n",
     );
 }
 

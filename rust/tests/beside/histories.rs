@@ -140,7 +140,7 @@ impl History {
             }
         };
         self.tally.count(answer);
-        if answer > 9 && self.doubt.is_none() {
+        if b"GKS".contains(&answer) && self.doubt.is_none() {
             assert_opened(&self.m, before, notice.code, answer);
         }
         answer

@@ -72,7 +72,7 @@ fn every_part_of_the_longest_line() {
 fn faults_by_name() {
     let mut m = any_memory(&mut Dice::new(8_200_000));
     let zeros = [b'0'; 700];
-    let faults: [(&str, &[u8]); 18] = [
+    let faults: [(&str, &[u8]); 22] = [
         ("lower case", b"01ab00\n"),
         ("another letter", b"01G500\n"),
         ("a space between", b"01 0500\n"),
@@ -82,7 +82,11 @@ fn faults_by_name() {
         ("the count above the neighbours", b"01050200\n"),
         ("the count below the neighbours", b"0105010001\n"),
         ("kind 0", b"000500\n"),
-        ("kind 2", b"020500\n"),
+        ("kind 3", b"030500\n"),
+        ("a link with a count", b"02010500\n"),
+        ("a link with a third code", b"02010506\n"),
+        ("a link of one code", b"0201\n"),
+        ("a link of none", b"02\n"),
         ("no ending", b"010500"),
         ("an empty line", b"\n"),
         ("an empty input", b""),
@@ -100,28 +104,54 @@ fn faults_by_name() {
 #[test]
 fn lines_with_others_behind_them() {
     let mut m = any_memory(&mut Dice::new(8_300_000));
-    let lines: [(&[u8], usize, usize); 4] =
-        [(b"010500\n", 3, 7), (b"010500\n010503000204\n", 3, 7), (b"01FF02FFFE\n\n\nxyz", 5, 11), (b"010503000204\n", 6, 13)];
+    let lines: [(&[u8], usize, usize); 6] = [
+        (b"010500\n", 3, 7),
+        (b"010500\n010503000204\n", 3, 7),
+        (b"01FF02FFFE\n\n\nxyz", 5, 11),
+        (b"010503000204\n", 6, 13),
+        (b"020105\n", 3, 7),
+        (b"02FF00\n020105\n", 3, 7),
+    ];
     for (input, length, used) in lines {
         assert_eq!((read(&mut m, input), m.length, m.used), (0, length, used));
     }
 }
 
-/// The line of rule 7.2 with every byte at every place: only other digits, and a neighbour count that is right, read.
-#[test]
-fn every_character_in_every_place() {
-    let mut dice = Dice::new(8_500_000);
-    let mut m = any_memory(&mut dice);
+/// How many of the lines read that have some byte at some place of this one.
+fn with_every_byte_in_every_place(line: &[u8]) -> u32 {
+    let mut m = any_memory(&mut Dice::new(8_500_000));
     let mut tally = Tally::new();
-    for place in 0..13 {
+    for place in 0..line.len() {
         for byte in 0..=255 {
-            let mut line = b"010503000204\n".to_vec();
-            line[place] = byte;
-            tally.count(read(&mut m, &line));
+            let mut other = line.to_vec();
+            other[place] = byte;
+            tally.count(read(&mut m, &other));
         }
     }
+    tally.assert_only(&[0, 9]);
+    tally.times(0)
+}
+
+/// The line of rule 7.2, and that of a link: only other digits, and a neighbour count that is right, read.
+#[test]
+fn every_character_in_every_place() {
     // sixteen digits for the two of the code and the six of the neighbours, one for each other place
-    assert_eq!((tally.times(0), tally.times(9)), (8 * 16 + 5, 13 * 256 - (8 * 16 + 5)));
+    assert_eq!(with_every_byte_in_every_place(b"010503000204\n"), 8 * 16 + 5);
+    // sixteen for the four of the codes
+    assert_eq!(with_every_byte_in_every_place(b"020105\n"), 4 * 16 + 3);
+    // the opening 010100 is as long as a link: the kind may be either digit, the count only the one
+    assert_eq!(with_every_byte_in_every_place(b"010100\n"), 2 * 16 + 6);
+}
+
+#[test]
+fn links_of_every_code() {
+    let mut tally = Tally::new();
+    for first in 0..=255 {
+        for second in [0, 1, 10, 127, 255, first, 255 - first] {
+            write_and_read(&[2, first, second], &mut tally);
+        }
+    }
+    tally.assert_only(&[0]);
 }
 
 /// Bytes that differ from place to place and from seed to seed.
@@ -151,12 +181,12 @@ fn frames_of_every_count() {
     tally.assert_only(&[0]);
 }
 
-/// Frames of 0 to 299 bytes: of the kinds 0, 1 and 2, with the count 5, and with one that fits modulo 256.
+/// Frames of 0 to 299 bytes: of the kinds 0 to 3, with the count 5, and with one that fits modulo 256.
 #[test]
 fn frames_of_every_length() {
     let mut tally = Tally::new();
     for length in 0..300 {
-        for (kind, count) in [(length % 3, 5), (1, 5), (1, length + 253)] {
+        for (kind, count) in [(0, 5), (1, 5), (2, 5), (3, 5), (1, length + 253), (2, length + 253)] {
             let mut frame = filled(length, length);
             for (place, byte) in [(0, kind), (2, count)] {
                 if let Some(there) = frame.get_mut(place) {
@@ -166,8 +196,8 @@ fn frames_of_every_length() {
             write_and_read(&frame, &mut tally);
         }
     }
-    // the 256 lengths from 3 on that fit their count, and 8 bytes with the count 5 twice (8 is of kind 2 in turn)
-    assert_eq!((tally.times(0), tally.times(9)), (257, 900 - 257));
+    // of kind 1 the 256 lengths from 3 on that fit their count, and 8 bytes with the count 5; of kind 2 three bytes, twice
+    assert_eq!((tally.times(0), tally.times(9)), (259, 1_800 - 259));
 }
 
 #[test]

@@ -1,31 +1,26 @@
-//! Links between two open depots, by the plain implementation: held to a search from every depot, on every network of up to five depots and on others by
-//! chance, with true figures and with false but sound ones; and to cases worked by hand. The calls for C have no links yet.
-use crate::both::{empty, open};
-use crate::expected::{self, network, store_figures, store_map};
+//! Links between two open depots: on every network of up to five depots and on others by chance, with true figures and with false but sound ones, between
+//! openings and batches, as calls and as lines; and cases worked by hand. What a link leaves is held to a search from every depot as well.
+use crate::both::{self, empty, feed, open, open_batch, read, reckon, write};
+use crate::expected::{network, store_figures, store_map};
 use crate::inputs::growths::some_size;
-use crate::inputs::lines::{notice_line, some_frame, some_line};
+use crate::inputs::lines::{link_line, notice_line};
 use crate::inputs::{Dice, Growth, SHAPES};
-use crate::lent::{Lent, SIZES};
+use crate::lent::{Buffer, Lent, SIZES};
 use crate::maps::{any_figures, any_memory, damage, true_map, DAMAGES};
-use crate::plain::lines::{any_frame_of, frame_of, is_any_frame, is_frame, line_of};
+use crate::plain::lines::line_of;
 use crate::plain::network::Pairs;
-use crate::plain::stream::{any_output, output};
 use crate::plain::words::bits_of_table;
 use crate::plain::{Figures, Map, Network};
 use crate::tally::Tally;
 use crate::truth::{assert_linked, assert_linked_falsely};
 use std::collections::BTreeSet;
 
-/// The link, and the same with its codes the other way round. A refused one changes nothing.
+/// The link, and the same with its codes the other way round.
 fn link(m: &mut Lent, first: u8, second: u8) -> u8 {
-    let before = m.clone();
     let mut turned = m.clone();
-    let answer = expected::link(m, first, second);
-    assert_eq!(expected::link(&mut turned, second, first), answer);
+    let answer = both::link(m, first, second);
+    assert_eq!(both::link(&mut turned, second, first), answer);
     assert!(turned == *m, "{first} and {second} differ from {second} and {first}");
-    if (1..=14).contains(&answer) {
-        assert!(*m == before, "refused with {answer}, and something changed");
-    }
     answer
 }
 
@@ -118,10 +113,34 @@ fn some_ends(dice: &mut Dice, open: &BTreeSet<usize>) -> (u8, u8) {
     (first, if dice.once_in(12) { first } else { some(dice) })
 }
 
-/// Openings and links in turns, from the empty map.
+/// A link as some history has it: now and then one of its buffers is short, and then it is refused with that.
+fn some_link(dice: &mut Dice, m: &mut Lent) -> (u8, u8, u8) {
+    let (first, second) = some_ends(dice, &network(m).open);
+    if dice.once_in(20) {
+        let mut short = m.clone();
+        let which = dice.below(8);
+        let lent = dice.below(SIZES[which]);
+        short.set_lent(which, lent);
+        return (first, second, link(&mut short, first, second));
+    }
+    (first, second, link(m, first, second))
+}
+
+/// A line of the depot that comes next, or of one that is open already, or of a closed neighbour.
+fn some_opening(dice: &mut Dice, growth: &Growth, next: usize, size: usize) -> (u8, Vec<u8>) {
+    let code = growth.order[next] as u8;
+    match dice.below(12) {
+        0 => (growth.order[dice.below(next + 1)] as u8, growth.neighbours(dice, next, size)),
+        1 => (code, vec![code]),
+        2 => (code, Vec::new()),
+        _ => (code, growth.neighbours(dice, next, size)),
+    }
+}
+
+/// Openings, batches and links in turns, refused ones among them, from the empty map. Each call takes what the one before left.
 #[test]
 fn histories_with_links() {
-    let mut tally = Tally::new();
+    let (mut links, mut openings) = (Tally::new(), Tally::new());
     for seed in 0..400 {
         let mut dice = Dice::new(26_200_000 + seed);
         let size = if seed % 40 == 0 { 256 } else { 4 + dice.below(40) };
@@ -132,23 +151,85 @@ fn histories_with_links() {
         let mut next = 0;
         while next < size {
             let chain = m.record.data[5];
-            if next > 2 && dice.once_in(3) {
-                let (first, second) = some_ends(&mut dice, &network(&m).open);
-                let answer = link(&mut m, first, second);
+            if dice.once_in(3) {
+                let (first, second, answer) = some_link(&mut dice, &mut m);
                 if b"KS".contains(&answer) && (size < 256 || dice.once_in(8)) {
                     assert_linked(&m, chain, first, second, answer);
                 }
-                tally.count(answer);
-            } else {
-                next += 1;
-                // true figures go into the next call: the opening of the archive takes what the link left
-                open(&mut m, growth.order[next - 1] as u8, &growth.neighbours(&mut dice, next - 1, size));
+                links.count(answer);
+                continue;
             }
+            let (code, neighbours) = some_opening(&mut dice, &growth, next, size);
+            if next > 0 && dice.once_in(6) {
+                assert_eq!(open_batch(&mut m, &notice_line(code.into(), &neighbours)), 0);
+            } else {
+                openings.count(open(&mut m, code, &neighbours));
+            }
+            next += usize::from(network(&m).open.len() > next);
+        }
+        let (record, pairs) = (m.record.clone(), m.pairs.clone());
+        assert_eq!(reckon(&mut m), 0);
+        assert_eq!((m.record, m.pairs), (record, pairs), "the figures at the end");
+    }
+    links.assert_only(&[1, 4, 13, 14, b'K', b'S']);
+    links.assert_all(&[1, 4, 13, 14, b'K', b'S'], 100);
+    openings.assert_all(&[5, 6, 8, b'G', b'K', b'S'], 100);
+    println!("{} kept, {} shrank", links.times(b'K'), links.times(b'S'));
+}
+
+/// The same from figures that are false but sound, and made so again between the calls.
+#[test]
+fn histories_from_false_figures() {
+    let mut tally = Tally::new();
+    for seed in 0..300 {
+        let mut dice = Dice::new(26_250_000 + seed);
+        let shape = dice.pick(&SHAPES);
+        let growth = Growth::new(&mut dice, shape);
+        let (begun, size) = (2 + dice.below(20), 40);
+        let mut m = any_memory(&mut dice);
+        let grown = growth.network(&mut dice, begun);
+        store_map(&mut m, &Map { figures: any_figures(&mut dice, &grown), network: grown });
+        for next in begun..size {
+            if dice.once_in(3) {
+                let figures = any_figures(&mut dice, &network(&m));
+                store_figures(&mut m, &figures);
+            }
+            let before = m.clone();
+            let (first, second, answer) = some_link(&mut dice, &mut m);
+            if b"KS".contains(&answer) {
+                assert_linked_falsely(&m, &before, first, second, answer);
+            }
+            tally.count(answer);
+            let (code, neighbours) = (growth.order[next] as u8, growth.neighbours(&mut dice, next, size));
+            open(&mut m, code, &neighbours);
         }
     }
-    tally.assert_only(&[4, 13, 14, b'K', b'S']);
-    tally.assert_all(&[4, 13, 14, b'K', b'S'], 100);
+    tally.assert_only(&[1, 4, 13, 14, b'K', b'S']);
+    tally.assert_all(&[1, 4, 13, 14, b'K', b'S'], 100);
     println!("{} kept, {} shrank", tally.times(b'K'), tally.times(b'S'));
+}
+
+/// Two histories with the same openings and links, the links in another order and the codes of each the other way round: links, chain and pairs are equal.
+#[test]
+fn links_in_another_order() {
+    let mut shrank = 0;
+    for seed in 0..150 {
+        let mut dice = Dice::new(26_270_000 + seed);
+        let (mut one, network) = true_map(&mut dice);
+        let mut other = one.clone();
+        if network.open.len() < 2 {
+            continue;
+        }
+        let mut ends: Vec<(u8, u8)> = (0..12).map(|_| some_ends(&mut dice, &network.open)).collect();
+        let forward: Vec<u8> = ends.iter().map(|&(first, second)| both::link(&mut one, first, second)).collect();
+        dice.shuffle(&mut ends);
+        for &(first, second) in &ends {
+            both::link(&mut other, second, first);
+        }
+        assert_eq!((&one.record, &one.links, &one.pairs), (&other.record, &other.links, &other.pairs));
+        shrank += forward.iter().filter(|&&answer| answer == b'S').count();
+    }
+    assert!(shrank > 50, "{shrank} links made the chain shorter");
 }
 
 /// Link after link until all depots are linked, or many are.
@@ -217,6 +298,31 @@ fn links_of_damaged_maps() {
         }
     }
     tally.assert_all(&[2, 3, 4, 13, 14, b'K'], 5);
+}
+
+/// Each buffer in turn at every critical size, on maps that are sound, spoilt or apart: short comes before everything else.
+#[test]
+fn links_in_short_and_long_buffers() {
+    let mut tally = Tally::new();
+    for seed in 0..20 {
+        for which in 0..8 {
+            let size = SIZES[which];
+            for lent in [0, 1, size / 2, size - 1, size, size + 1, size + 3] {
+                let mut dice = Dice::new(26_550_000 + 1000 * seed + 10 * which as u64);
+                let (mut m, network) = true_map(&mut dice);
+                if seed % 3 == 0 {
+                    let way = dice.below(DAMAGES);
+                    damage(&mut dice, &mut m, &network, way);
+                }
+                m.set_lent(which, lent);
+                let (first, second) = some_ends(&mut dice, &network.open);
+                let answer = link(&mut m, first, second);
+                assert_eq!(answer == 1, lent < size);
+                tally.count(answer);
+            }
+        }
+    }
+    tally.assert_all(&[1, 2, 4, 14, b'K', b'S'], 10);
 }
 
 // ---- worked by hand
@@ -305,7 +411,7 @@ fn links_on_figures_that_are_false() {
     }
 }
 
-/// One fault more each time: linked, itself, absent, apart, spoilt, short.
+/// One fault more each time: linked, itself, absent, apart, spoilt (figures, then links too), short.
 #[test]
 fn the_first_refusal_of_several() {
     let mut m = path(3);
@@ -315,11 +421,17 @@ fn the_first_refusal_of_several() {
     m.record.data[4] = 4;
     assert_eq!((link(&mut m, 0, 1), link(&mut m, 1, 1), link(&mut m, 8, 8)), (3, 3, 3));
     m.record.data[6] += 1;
-    assert_eq!((link(&mut m, 0, 1), link(&mut m, 8, 8)), (2, 2));
+    assert_eq!((link(&mut m, 0, 1), link(&mut m, 1, 1), link(&mut m, 8, 8), link(&mut m, 0, 2)), (2, 2, 2, 2));
+    m.record.data[4] = 3;
+    assert_eq!((link(&mut m, 0, 1), link(&mut m, 1, 1), link(&mut m, 8, 8), link(&mut m, 0, 2)), (2, 2, 2, 2));
     for which in 0..8 {
         let mut short = m.clone();
         short.set_lent(which, SIZES[which] - 1);
         assert_eq!((link(&mut short, 0, 1), link(&mut short, 8, 8)), (1, 1));
+        // and where nothing else is wrong
+        let mut short = path(3);
+        short.set_lent(which, SIZES[which] - 1);
+        assert_eq!(link(&mut short, 0, 2), 1);
     }
 }
 
@@ -338,48 +450,36 @@ fn links_of_no_two_depots() {
 /// Three bytes of kind 02 and no others, whatever the codes.
 #[test]
 fn frames_of_links() {
+    let mut m = any_memory(&mut Dice::new(26_800_000));
     for first in 0..=255 {
         for second in [0, 1, 9, first, 127, 255] {
             let frame = [2, first, second];
-            let line = line_of(&frame);
-            assert_eq!((is_any_frame(&frame), is_frame(&frame)), (true, false));
-            assert_eq!(any_frame_of(line.as_bytes()), Some((frame.to_vec(), 7)));
-            assert_eq!(frame_of(line.as_bytes()), None);
+            assert_eq!((write(&mut m, &frame), m.length), (0, 7));
+            assert_eq!(m.line.data[..7], *line_of(&frame).as_bytes());
+            assert_eq!((read(&mut m, line_of(&frame).as_bytes()), m.length, m.used), (0, 3, 7));
+            assert_eq!(m.frame.data[..3], frame);
         }
     }
     for line in [
         "02\n",
-        "0200\n",
-        "02000\n",
-        "020001",
-        "0200010\n",
-        "02000100\n",
+        "0201\n",
+        "02010\n",
+        "020105",
+        "0201050\n",
+        "02010500\n",
         "02550154\n",
         "0200020001\n",
         "02000a\n",
         " 020001\n",
         "020001\r\n",
     ] {
-        assert_eq!(any_frame_of(line.as_bytes()), None, "{line}");
+        assert_eq!(read(&mut m, line.as_bytes()), 9, "{line}");
     }
-    assert_eq!(any_frame_of(b"02FF0A\n020001\n"), Some((vec![2, 255, 10], 7)));
-}
-
-/// Everything else reads as it did.
-#[test]
-fn lines_of_other_kinds() {
-    for seed in 0..20_000 {
-        let mut dice = Dice::new(26_800_000 + seed);
-        let line = some_line(&mut dice);
-        if line.starts_with(b"02") {
-            assert_eq!(frame_of(&line), None);
-        } else {
-            assert_eq!(any_frame_of(&line), frame_of(&line));
-        }
-        let mut frame = some_frame(&mut dice);
-        frame[0] = dice.below(6) as u8;
-        assert_eq!(is_any_frame(&frame), frame[0] == 1 || (frame[0] == 2 && frame.len() == 3));
+    for frame in [&[2][..], &[2, 1], &[2, 1, 5, 0], &[2, 0, 1, 0], &[2, 1, 5, 6, 7, 8, 9, 10], &[2; 258]] {
+        assert_eq!(write(&mut m, frame), 9, "{frame:?}");
     }
+    assert_eq!((read(&mut m, b"02FF0A\n020001\n"), m.length, m.used), (0, 3, 7));
+    assert_eq!(m.frame.data[..3], [2, 255, 10]);
 }
 
 /// A path of five that closes, and the refusals of a link.
@@ -390,20 +490,73 @@ fn a_stream_with_links() {
     let reports =
         "1 R4 0 0 0 0\n2 K 1 0 0 1\n3 G 2 1 1 1\n4 G 3 2 1 1\n5 G 4 3 1 1\n6 G 5 4 1 1\n7 S 5 2 5 5\n8 R14 5 2 5 0\n9 R13 5 2 5 0\n\
                    10 R4 5 2 5 0\n11 R4 5 2 5 0\n12 R9 5 2 5 0\n13 R9 5 2 5 0\n14 K 5 2 4 2\n";
-    assert_eq!(any_output(input), reports);
-    // where openings are the only kind
-    assert_eq!(output(b"010000\n020000\n"), "1 K 1 0 0 1\n2 R9 1 0 0 0\n");
-    assert_eq!(any_output(b"010000\n020000"), "1 K 1 0 0 1\n2 R9 1 0 0 0\n");
+    let mut m = begun(&mut Dice::new(26_810_000), 1_000);
+    assert_eq!((feed(&mut m, input), m.used), (0, input.len()));
+    assert_eq!(String::from_utf8_lossy(&m.out.data[..m.written]), reports);
+    // what the last link left: the search from 3
+    assert_eq!((m.skips.data[1], m.skips.data[3], m.hops.data[3], m.hops.data[0]), (256, 256, 0, 2));
 }
 
-/// In a batch a link is garbled, and refuses the lines about it.
+/// A stream at its begin, with so much room for reports.
+fn begun(dice: &mut Dice, room: usize) -> Lent {
+    let mut m = any_memory(dice);
+    assert_eq!(empty(&mut m), 0);
+    (m.lines, m.held) = (0, 0);
+    m.out = Buffer::new(dice.bytes(room));
+    m
+}
+
+/// Openings and links as calls and as the lines of a stream: the maps, the marks and the last search are the same.
+#[test]
+fn calls_and_lines() {
+    let mut tally = Tally::new();
+    for seed in 0..60 {
+        let mut dice = Dice::new(26_820_000 + seed);
+        let size = 3 + dice.below(30);
+        let shape = dice.pick(&SHAPES);
+        let growth = Growth::new(&mut dice, shape);
+        let mut fed = begun(&mut dice, 100);
+        let mut called = fed.clone();
+        for i in 0..size {
+            let (code, neighbours) = (growth.order[i], growth.neighbours(&mut dice, i, size));
+            open(&mut called, code as u8, &neighbours);
+            assert_eq!(feed(&mut fed, &notice_line(code, &neighbours)), 0);
+            while dice.once_in(2) {
+                let (first, second) = some_ends(&mut dice, &network(&called).open);
+                let answer = both::link(&mut called, first, second);
+                tally.count(answer);
+                assert_eq!((feed(&mut fed, &link_line(first, second)), fed.used), (0, 7));
+                let said = String::from_utf8_lossy(&fed.out.data[..fed.written]).into_owned();
+                let letter = if b"KS".contains(&answer) { char::from(answer).to_string() } else { format!("R{answer}") };
+                assert_eq!(said.split(' ').nth(1), Some(letter.as_str()));
+                assert_eq!((&fed.record, &fed.links, &fed.pairs), (&called.record, &called.links, &called.pairs));
+                assert_eq!((&fed.hops, &fed.bounds, &fed.skips), (&called.hops, &called.bounds, &called.skips));
+                assert_eq!((&fed.even, &fed.odd), (&called.even, &called.odd));
+            }
+        }
+    }
+    tally.assert_only(&[4, 13, 14, b'K', b'S']);
+    tally.assert_all(&[4, 13, 14, b'K', b'S'], 20);
+}
+
+/// In a batch a link is garbled, wherever it stands, and refuses the lines about it; one that would be refused as a link too.
 #[test]
 fn a_link_in_a_batch() {
-    let mut map = Map::empty();
-    assert!(map.open(0, &[]).is_ok() && map.open(1, &[0]).is_ok() && map.open(2, &[1]).is_ok());
-    let lines = [notice_line(3, &[2]), b"020002\n".to_vec()].concat();
-    assert_eq!(map.open_batch(&lines).err(), Some(9));
-    assert_eq!(map.open_batch(b"020002\n").err(), Some(9));
-    assert_eq!(map.network.open.len(), 3);
-    assert!(!map.network.are_linked(0, 2));
+    let mut m = path(3);
+    let lines = [notice_line(3, &[2]), notice_line(4, &[3]), notice_line(5, &[0])];
+    for ends in [[0, 2], [2, 0], [0, 1], [1, 1], [7, 0]] {
+        for place in 0..=lines.len() {
+            let mut batch = lines.to_vec();
+            batch.insert(place, link_line(ends[0], ends[1]));
+            assert_eq!(open_batch(&mut m, &batch.concat()), 9, "the link of {ends:?} at {place}");
+        }
+        assert_eq!(open_batch(&mut m, &link_line(ends[0], ends[1])), 9);
+        assert_eq!(open_batch(&mut m, &link_line(ends[0], ends[1]).repeat(64)), 9);
+        assert_eq!(open_batch(&mut m, &link_line(ends[0], ends[1]).repeat(65)), 11);
+    }
+    assert_eq!((network(&m).open.len(), network(&m).are_linked(0, 2)), (3, false));
+    assert_eq!((open_batch(&mut m, &lines.concat()), m.left_count), (0, 0));
+    assert_eq!(link(&mut m, 0, 2), b'S');
+    assert_eq!(empty(&mut m), 0);
+    assert_eq!(open_batch(&mut m, b"020000\n"), 12);
 }

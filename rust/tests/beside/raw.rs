@@ -73,6 +73,17 @@ pub fn open(m: &mut Lent, code: u8) -> u8 {
 }
 
 #[rustfmt::skip]
+pub fn link(m: &mut Lent, first: u8, second: u8) -> u8 {
+    unsafe {
+        c::zorpedi_link(
+            m.record.pointer(), m.record.lent, m.links.pointer(), m.links.lent, m.pairs.pointer(), m.pairs.lent,
+            m.hops.pointer(), m.hops.lent, m.bounds.pointer(), m.bounds.lent, m.skips.pointer(), m.skips.lent,
+            m.even.pointer(), m.even.lent, m.odd.pointer(), m.odd.lent, &mut m.searches, first, second,
+        )
+    }
+}
+
+#[rustfmt::skip]
 pub fn open_batch(m: &mut Lent) -> u8 {
     unsafe {
         c::zorpedi_open_batch(

@@ -1,5 +1,5 @@
 //! Faults one by one, on a grid of 100 depots of the codes 0 to 99: each call is held to the refusal that has to come, and to changing nothing.
-use crate::both::{empty, feed, finish, open, open_batch, reckon, search};
+use crate::both::{empty, feed, finish, link, open, open_batch, reckon, search};
 use crate::expected::store_map;
 use crate::inputs::{Dice, Growth, Shape};
 use crate::lent::Lent;
@@ -19,19 +19,21 @@ fn grid() -> Lent {
 /// The line of the notice 200 beside 0.
 const LINE: &[u8] = b"01C80100\n";
 
-/// What search, reckoning, opening, batch and the two calls of a stream answer on this memory: from depot 0, of the notice 200 beside 0, of no input.
-fn answers(m: &Lent) -> [u8; 6] {
+/// What search, reckoning, opening, link, batch and the two calls of a stream answer on this memory: from depot 0, of the notice 200 beside 0, of 0 and 99, of
+/// no input.
+fn answers(m: &Lent) -> [u8; 7] {
     let mut m = m.clone();
     let searched = search(&mut m.clone(), 0);
     let reckoned = reckon(&mut m.clone());
     let opened = open(&mut m.clone(), 200, &[0]);
+    let linked = link(&mut m.clone(), 0, 99);
     let batched = open_batch(&mut m.clone(), LINE);
-    [searched, reckoned, opened, batched, feed(&mut m.clone(), b""), finish(&mut m)]
+    [searched, reckoned, opened, linked, batched, feed(&mut m.clone(), b""), finish(&mut m)]
 }
 
 #[test]
 fn nothing_is_wrong_with_the_grid() {
-    assert_eq!(answers(&grid()), [0, 0, b'K', 0, 0, 0]);
+    assert_eq!(answers(&grid()), [0, 0, b'K', b'S', 0, 0, 0]);
 }
 
 /// Each of the 65,536 bits of the link table alone: a link one way round, to itself, at a closed code. One call in turn for each.
@@ -40,11 +42,12 @@ fn each_single_link_bit() {
     let mut m = grid();
     for bit in 0..65_536 {
         flip(&mut m.links.data, bit / 256, bit % 256);
-        let answer = match (bit + bit / 256) % 5 {
+        let answer = match (bit + bit / 256) % 6 {
             0 => search(&mut m, 0),
             1 => reckon(&mut m),
             2 => open(&mut m, 200, &[0]),
             3 => open_batch(&mut m, LINE),
+            4 => link(&mut m, 0, 99),
             _ => feed(&mut m, LINE),
         };
         assert_eq!(answer, 2, "bit {} of row {}", bit % 256, bit / 256);
@@ -59,7 +62,7 @@ fn some_single_link_bits_with_every_call() {
     for i in 0..1024 {
         let (u, v) = (i % 256, (i + 64 * (i / 256)) % 256);
         flip(&mut m.links.data, u, v);
-        assert_eq!(answers(&m), [2; 6], "bit {v} of row {u}");
+        assert_eq!(answers(&m), [2; 7], "bit {v} of row {u}");
         flip(&mut m.links.data, u, v);
     }
 }
@@ -73,7 +76,7 @@ fn links_to_closed_codes() {
         for (one, other) in [(u, v), (v, u)] {
             flip(&mut m.links.data, one, other);
         }
-        assert_eq!(answers(&m), [2; 6], "{u} and {v}");
+        assert_eq!(answers(&m), [2; 7], "{u} and {v}");
         for (one, other) in [(u, v), (v, u)] {
             flip(&mut m.links.data, one, other);
         }
@@ -85,7 +88,7 @@ fn every_number_open_but_the_right_one() {
     let mut m = grid();
     for number in (0..300).chain([65_536 + 100, (1 << 32) + 100, u64::MAX]) {
         m.record.data[4] = number;
-        let right = if number == 100 { [0, 0, b'K', 0, 0, 0] } else { [2; 6] };
+        let right = if number == 100 { [0, 0, b'K', b'S', 0, 0, 0] } else { [2; 7] };
         assert_eq!(answers(&m), right, "{number} open");
     }
 }
@@ -96,9 +99,9 @@ fn each_code_of_the_open_set() {
     for v in 0..256 {
         let mut m = grid();
         m.record.data[v / 64] ^= 1 << (v % 64);
-        assert_eq!(answers(&m), [2; 6], "code {v}, not counted");
+        assert_eq!(answers(&m), [2; 7], "code {v}, not counted");
         m.record.data[4] = if v < 100 { 99 } else { 101 };
-        assert_eq!(answers(&m), [if v < 100 { 2 } else { 3 }; 6], "code {v}");
+        assert_eq!(answers(&m), [if v < 100 { 2 } else { 3 }; 7], "code {v}");
     }
 }
 
@@ -117,6 +120,7 @@ fn single_pairs() {
             assert_eq!(answer, if u < v && v < 100 && count == 1 { 0 } else { 2 }, "pair {u}, {v}, counted {count}");
             let opened = open(&mut m.clone(), 200, &[0]);
             assert_eq!(opened == 2, answer == 2);
+            assert_eq!(link(&mut m.clone(), 0, 99) == 2, answer == 2);
             assert_eq!(open_batch(&mut m.clone(), LINE), answer);
             assert_eq!((search(&mut m.clone(), 0), reckon(&mut m)), (0, 0));
             tally.count(answer);
@@ -133,11 +137,13 @@ fn every_chain() {
         m.record.data[5] = chain;
         assert_eq!(feed(&mut m.clone(), b""), if chain < 256 { 0 } else { 2 }, "chain {chain}");
         assert_eq!(open(&mut m.clone(), 200, &[0]) == 2, chain > 255);
+        assert_eq!(link(&mut m.clone(), 0, 99) == 2, chain > 255);
         assert_eq!(open_batch(&mut m.clone(), LINE), if chain < 256 { 0 } else { 2 });
         assert_eq!((search(&mut m.clone(), 0), reckon(&mut m.clone())), (0, 0));
         assert_eq!(empty(&mut m), 0);
         m.record.data[5] = chain;
         assert_eq!(open_batch(&mut m, LINE), if chain < 256 { 12 } else { 2 });
+        assert_eq!(link(&mut m, 0, 0), if chain < 256 { 4 } else { 2 });
         let first = [b'K', b'S', 2][usize::from(chain > 0) + usize::from(chain > 255)];
         assert_eq!(open(&mut m, 7, &[]), first, "the first opening, chain {chain}");
     }
@@ -153,22 +159,28 @@ fn the_first_refusal_of_several() {
     assert_eq!(open(&mut m, 200, &[]), 6);
     assert_eq!((open(&mut m, 0, &[]), open(&mut m, 0, &[201, 0]), open(&mut m, 0, &[0])), (5, 5, 5));
     assert_eq!((search(&mut m, 200), reckon(&mut m.clone())), (4, 0));
+    // a link that is there; of a depot with itself; with a closed one, and of a closed one with itself
+    assert_eq!((link(&mut m, 0, 1), link(&mut m, 1, 1), link(&mut m, 200, 1), link(&mut m, 200, 200)), (14, 13, 4, 4));
     // one line of a batch is garbled; there are 65 of them
     assert_eq!((open_batch(&mut m, b"\n"), open_batch(&mut m, &[b'\n'; 65])), (9, 11));
     // depot 150 is open without a link
     m.record.data[2] |= 1 << (150 - 128);
     m.record.data[4] = 101;
     assert_eq!((open(&mut m, 0, &[]), search(&mut m, 200), reckon(&mut m), open_batch(&mut m, &[b'\n'; 65])), (3, 3, 3, 3));
+    assert_eq!((link(&mut m, 0, 1), link(&mut m, 1, 1), link(&mut m, 200, 200)), (3, 3, 3));
     // the pair count is wrong: only who looks at figures sees it
     let mut figures = m.clone();
     figures.record.data[6] += 1;
     assert_eq!((open(&mut figures, 0, &[]), search(&mut figures, 200), reckon(&mut figures)), (2, 3, 3));
     assert_eq!((feed(&mut figures, b""), finish(&mut figures), open_batch(&mut figures, &[b'\n'; 65])), (2, 2, 2));
+    assert_eq!((link(&mut figures, 0, 1), link(&mut figures, 1, 1), link(&mut figures, 200, 200)), (2, 2, 2));
     // so is the number open
     m.record.data[4] = 100;
     assert_eq!((open(&mut m, 0, &[]), search(&mut m, 200), reckon(&mut m), open_batch(&mut m, &[b'\n'; 65])), (2, 2, 2, 2));
+    assert_eq!((link(&mut m, 0, 1), link(&mut m, 1, 1), link(&mut m, 200, 200)), (2, 2, 2));
     m.set_lent(7, 3);
     assert_eq!((open(&mut m, 0, &[]), search(&mut m, 200), reckon(&mut m), open_batch(&mut m, &[b'\n'; 65])), (1, 1, 1, 1));
+    assert_eq!((link(&mut m, 0, 1), link(&mut m, 1, 1), link(&mut m, 200, 200)), (1, 1, 1));
 }
 
 /// A record and a pair table of another map: sound links, and figures that name closed codes.
@@ -179,7 +191,7 @@ fn figures_of_another_map() {
     let mut m = grid();
     let network = crate::expected::network(&m);
     store_map(&mut m, &Map { network: network.clone(), figures: other });
-    assert_eq!(answers(&m), [0, 0, 2, 2, 2, 2]);
+    assert_eq!(answers(&m), [0, 0, 2, 2, 2, 2, 2]);
     store_map(&mut m, &Map { network, figures: Figures::default() });
-    assert_eq!(answers(&m), [0, 0, b'G', 0, 0, 0]);
+    assert_eq!(answers(&m), [0, 0, b'G', b'K', 0, 0, 0]);
 }

@@ -1,5 +1,5 @@
 //! Buffers one element below their named size, at it and one above it, in every combination, for every call.
-use crate::both::{empty, feed, finish, nearest, open, open_batch, read, reckon, report, search, within, write};
+use crate::both::{empty, feed, finish, link, nearest, open, open_batch, read, reckon, report, search, within, write};
 use crate::inputs::lines::notice_line;
 use crate::inputs::Dice;
 use crate::lent::{Lent, SIZES};
@@ -81,6 +81,22 @@ fn of_an_opening() {
     every_combination(&m, &MAP, 3, |m| open(m, closed, &[code]));
 }
 
+/// The link of the lowest open code with a closed one, with itself and with another open one: short comes first.
+#[test]
+fn of_a_link() {
+    let (m, code) = small_map(700);
+    let other = (0..=255).rev().find(|&v| m.record.data[usize::from(v / 64)] >> (v % 64) & 1 == 1).expect("two are open");
+    for second in [closed_code(&m), code, other] {
+        every_combination(&m, &MAP, 3, |m| link(m, code, second));
+    }
+    // nothing else is asked for
+    let mut m = m;
+    for which in [8, 9, 10, 11, 12] {
+        m.set_lent(which, 0);
+    }
+    assert_eq!(link(&mut m, code, code), 13);
+}
+
 /// The places for the lines left over are asked for even where none is, and where there is no line.
 #[test]
 fn of_a_batch() {
@@ -116,7 +132,7 @@ fn of_a_stream() {
 fn of_the_line_calls() {
     let m = any_memory(&mut Dice::new(17_500_000));
     let kept = Fields { number: 1, answer: b'K', depots: 1, chain: 0, pairs: 0, searches: 1 };
-    for (input, frame) in [(&b"010500\n"[..], &[1, 5, 0][..]), (b"", b"")] {
+    for (input, frame) in [(&b"010500\n"[..], &[1, 5, 0][..]), (b"020500\n", &[2, 5, 0]), (b"", b"")] {
         every_combination(&m, &[8], 3, |m| read(m, input));
         every_combination(&m, &[9], 3, |m| write(m, frame));
     }

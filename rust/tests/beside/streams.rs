@@ -1,6 +1,6 @@
 //! The stream: pieces of many sizes, little room for reports, damaged maps, the last lines.
 use crate::both::{empty, feed, finish};
-use crate::inputs::lines::{notice_line, some_input, some_line};
+use crate::inputs::lines::{link_line, notice_line, some_input, some_line};
 use crate::inputs::{Dice, Growth, SHAPES};
 use crate::lent::{Buffer, Lent, SIZES};
 use crate::maps::{any_memory, damage, true_map, DAMAGES};
@@ -106,8 +106,14 @@ fn from_any_memory() {
             _ => {}
         }
         let mut piece = Vec::new();
+        let open: Vec<u8> = network.open.iter().map(|&code| code as u8).collect();
         for _ in 0..dice.below(5) {
-            piece.extend(some_line(&mut dice));
+            // a link of open depots, or any line
+            if !open.is_empty() && dice.once_in(3) {
+                piece.extend(link_line(dice.pick(&open), dice.pick(&open)));
+            } else {
+                piece.extend(some_line(&mut dice));
+            }
         }
         let room = 48 + dice.below(150);
         m.out = Buffer::new(dice.bytes(room));

@@ -1,5 +1,5 @@
 //! The worked cases of docs/RULES.md, by their numbers; the plain implementation is held to them as well.
-use crate::both::{empty, feed, finish, nearest, open, read, reckon, report, search, within, write};
+use crate::both::{empty, feed, finish, link, nearest, open, read, reckon, report, search, within, write};
 use crate::inputs::Dice;
 use crate::lent::{Buffer, Lent};
 use crate::maps::any_memory;
@@ -78,13 +78,34 @@ fn the_seven_lines_one_by_one() {
     }
 }
 
-fn path_of_seven() -> Lent {
+/// The path of this many depots, from 0 on.
+fn path(size: u8) -> Lent {
     let mut m = emptied();
     assert_eq!(open(&mut m, 0, &[]), b'K');
-    for code in 1..7 {
+    for code in 1..size {
         assert_eq!(open(&mut m, code, &[code - 1]), b'G');
     }
     m
+}
+
+fn path_of_seven() -> Lent {
+    path(7)
+}
+
+/// Rule 15.7, both links on the path, and the second on the ring too: it keeps the chain there.
+#[test]
+fn links_on_the_path_of_five() {
+    let mut ring = path(5);
+    assert_eq!((figures(&ring), pairs(&ring)), ((5, 4, 1), vec![(0, 4)]));
+    assert_eq!((link(&mut ring, 0, 4), ring.searches), (b'S', 5));
+    assert_eq!((figures(&ring), pairs(&ring)), ((5, 2, 5), vec![(0, 2), (0, 3), (1, 3), (1, 4), (2, 4)]));
+    assert_reckoned(&ring);
+
+    let mut path = path(5);
+    assert_eq!((link(&mut path, 1, 3), figures(&path), pairs(&path)), (b'S', (5, 3, 1), vec![(0, 4)]));
+    assert_reckoned(&path);
+
+    assert_eq!((link(&mut ring, 1, 3), ring.searches, figures(&ring)), (b'K', 2, (5, 2, 4)));
 }
 
 #[test]

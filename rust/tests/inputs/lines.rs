@@ -8,13 +8,21 @@ pub fn notice_line(code: usize, neighbours: &[u8]) -> Vec<u8> {
     line_of(&[&[1, code as u8, neighbours.len() as u8], neighbours].concat()).into_bytes()
 }
 
+/// The line of a link.
+pub fn link_line(first: u8, second: u8) -> Vec<u8> {
+    line_of(&[2, first, second]).into_bytes()
+}
+
 /// The line of 255 neighbours, 517 bytes: 255 opens beside 0 to 254.
 pub fn longest_line() -> Vec<u8> {
     notice_line(255, &(0..=254).collect::<Vec<u8>>())
 }
 
-/// A frame that is right.
+/// A frame that is right, of either kind.
 pub fn some_frame(dice: &mut Dice) -> Vec<u8> {
+    if dice.once_in(4) {
+        return vec![2, dice.byte(), dice.byte()];
+    }
     let count = match dice.below(6) {
         0 => 0,
         1 => 255,
@@ -58,7 +66,7 @@ pub fn some_line(dice: &mut Dice) -> Vec<u8> {
 
 /// A line that is most likely refused, on any map.
 fn some_refused_line(dice: &mut Dice) -> Vec<u8> {
-    match dice.below(8) {
+    match dice.below(10) {
         0 => b"\n".to_vec(),
         1 => notice_line(dice.below(256), &[]),
         2 => {
@@ -76,17 +84,28 @@ fn some_refused_line(dice: &mut Dice) -> Vec<u8> {
             let code = dice.below(256);
             notice_line(code, &dice.bytes(count))
         }
+        5 => link_line(dice.byte(), dice.byte()),
+        6 => {
+            let code = dice.byte();
+            link_line(code, code)
+        }
+        // a link with one byte more
+        7 => line_of(&[2, dice.byte(), dice.byte(), 0]).into_bytes(),
         _ => some_line(dice),
     }
 }
 
-/// An input: a growth, with lines between that are refused or do not read, and perhaps no ending.
+/// An input: a growth and links between what is open, in turns, with lines between that are refused or do not read, and perhaps no ending.
 pub fn some_input(dice: &mut Dice, size: usize) -> Vec<u8> {
     let shape = dice.pick(&SHAPES);
     let growth = Growth::new(dice, shape);
     let mut input = Vec::new();
     for i in 0..size {
         input.extend(notice_line(growth.order[i], &growth.neighbours(dice, i, size)));
+        while dice.once_in(3) {
+            let open = &growth.order[..=i];
+            input.extend(link_line(dice.pick(open) as u8, dice.pick(open) as u8));
+        }
         while dice.once_in(3) {
             input.extend(some_refused_line(dice));
         }

@@ -1,5 +1,5 @@
 //! Openings in a batch: up to 64 notice lines together, in whatever order they came.
-use super::lines::frame_of;
+use super::lines::{frame_of, is_opening};
 use super::opening::{Map, Work};
 
 /// The most lines of a batch.
@@ -26,7 +26,7 @@ impl Map {
         let mut waiting = Vec::new();
         for (number, line) in lines.into_iter().enumerate() {
             // only frames that open a depot: a link is garbled here, though the stream takes it
-            let (frame, _) = frame_of(line).ok_or(9)?;
+            let (frame, _) = frame_of(line).filter(|(frame, _)| is_opening(frame)).ok_or(9)?;
             waiting.push((number as u8, frame));
         }
         let mut last = None;

@@ -1,13 +1,8 @@
 //! Notice lines and report lines.
 
-/// The frame of an opening, of the line that stands at the start of the input, and the bytes used, 0A with them; none where it is garbled.
+/// The frame of the line that stands at the start of the input, and the bytes used, 0A with them; none where it is garbled.
 pub fn frame_of(input: &[u8]) -> Option<(Vec<u8>, usize)> {
     bytes_of(input).filter(|(frame, _)| is_frame(frame))
-}
-
-/// The same for frames of either kind.
-pub fn any_frame_of(input: &[u8]) -> Option<(Vec<u8>, usize)> {
-    bytes_of(input).filter(|(frame, _)| is_any_frame(frame))
 }
 
 /// The bytes that the line at the start of the input spells, a frame or not.
@@ -23,14 +18,18 @@ fn bytes_of(input: &[u8]) -> Option<(Vec<u8>, usize)> {
     Some((digits.chunks(2).map(|two| 16 * two[0] + two[1]).collect(), end + 1))
 }
 
-/// Kind 01, code, neighbour count, and that many neighbours.
 pub fn is_frame(frame: &[u8]) -> bool {
+    is_opening(frame) || is_link(frame)
+}
+
+/// Kind 01, code, neighbour count, and that many neighbours.
+pub fn is_opening(frame: &[u8]) -> bool {
     frame.len() >= 3 && frame[0] == 1 && frame.len() == 3 + usize::from(frame[2])
 }
 
-/// An opening's frame, or a link's: kind 02 and its two codes.
-pub fn is_any_frame(frame: &[u8]) -> bool {
-    is_frame(frame) || (frame.len() == 3 && frame[0] == 2)
+/// Kind 02 and two codes.
+pub fn is_link(frame: &[u8]) -> bool {
+    frame.len() == 3 && frame[0] == 2
 }
 
 /// The line of a frame.

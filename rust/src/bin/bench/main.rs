@@ -95,6 +95,8 @@ fn make_inputs(places: &Places) -> Outcome<Vec<Input>> {
         ("ring that closes", inputs::ring(), 41, 3, 41),
         ("worst case for skipping", inputs::alternate(), 9, 5, 41),
         ("a million lines", inputs::million(), 3, 3, 15),
+        // no goal
+        ("links after regional growth", inputs::links(), 41, 3, 41),
     ];
     let mut made = Vec::new();
     for (i, (name, bytes, reps, naive_reps, process_runs)) in all.into_iter().enumerate() {
