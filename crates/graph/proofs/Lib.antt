@@ -28,3 +28,4 @@ pub mod Apart
 pub mod Refusals
 pub mod Rising
 pub mod Nearby
+pub mod Summary

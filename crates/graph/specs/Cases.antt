@@ -1,9 +1,9 @@
 -- THE WORKED CASES over networks, computed by the checker (`refl`): the empty map, the single map and the path of seven reckoned (rule 5.6), the
--- order in which depots are listed, and the seven stream lines (rule 10.5). Assumes nothing.
+-- report of the path of seven, the order in which depots are listed, and the seven stream lines (rule 10.5). Assumes nothing.
 use mathlib.Core.Path.{_≡_, refl}
 use mathlib.Core.Bool.{false, cond, _&&_, _||_}
 use mathlib.Core.List.{List, [], _∷_, _++_}
-use Prim.Native.Nat.{ℕ, zero, suc}
+use Prim.Native.Nat.{ℕ, zero, suc, _/_, _%_}
 use lib.Dec.{eqb, ltb}
 use lib.ListN.{length, getD}
 use Rattle.lists.specs.Lists.{range, mapl, firstOf}
@@ -12,6 +12,7 @@ use Rattle.outcome.specs.declared.Outcome.the-variants.{Accepted}
 use Rattle.graph.specs.Network.{Network}
 use Rattle.graph.specs.Distance.{vertices}
 use Rattle.graph.specs.Chart.{chart, Pairs, countPairs}
+use Rattle.graph.specs.Summary.{distanceSum, pairNumber, eccCount}
 use Rattle.graph.specs.Rounds.{markOf, boundOf, reckon}
 use Rattle.graph.specs.Opening.{emptyNetwork, addDepot}
 use Rattle.graph.specs.Updates.{Update, opens, updateFaults, applied, steps}
@@ -59,6 +60,33 @@ reckoning G =
       chain = S .candidate;
       pairs = pairList vs (S .pairs);
     }
+
+-- ---- the network report
+
+-- sum of the distances, number of pairs, quotient and remainder; how many depots have the eccentricities 0, 1, ..
+pub record ReportCase : Type 0 where
+  pub sum : ℕ
+  pub pairs : ℕ
+  pub quotient : ℕ
+  pub remainder : ℕ
+  pub counts : List ℕ
+
+unfoldable pub reportOf : ℕ → Network → ReportCase
+unfolding chart distanceSum pairNumber eccCount mapl range
+reportOf limit G =
+    let C = chart G in
+    record {
+      sum = distanceSum C;
+      pairs = pairNumber C;
+      quotient = distanceSum C / pairNumber C;
+      remainder = distanceSum C % pairNumber C;
+      counts = mapl (eccCount C) (range limit);
+    }
+
+-- the path of seven: 6 pairs at distance 1, 5 at 2, .., 1 at 6
+pub reporting : reportOf 8 (path 7) ≡ record { sum = 56; pairs = 21; quotient = 2; remainder = 14; counts = 0 ∷ 0 ∷ 0 ∷ 1 ∷ 2 ∷ 2 ∷ 2 ∷ 0 ∷ [] }
+unfolding reportOf path
+reporting = refl
 
 -- ---- the order of the depots
 

@@ -21,11 +21,13 @@ pub mod Batch
 pub mod Refusals
 -- 11. depots near one: within so many links, and the nearest of a list
 pub mod Nearby
--- 12. the worked cases of the rules, computed; crate `cases` cites their inputs (`path`, `sevenLines`) and `AnswerLine`
+-- 12. the sum of distances over the pairs, their number, and the depots of each eccentricity
+pub mod Summary
+-- 13. the worked cases of the rules, computed; crate `cases` cites their inputs (`path`, `sevenLines`) and `AnswerLine`
 pub mod Cases
--- 13. further cases, one for each rule that those leave open. Nobody has to believe this file
+-- 14. further cases, one for each rule that those leave open. Nobody has to believe this file
 pub mod RuleCases
--- 14. links worked by hand. Nobody has to believe this file
+-- 15. links worked by hand. Nobody has to believe this file
 pub mod LinkCases
--- 15. batches worked by hand. Nobody has to believe this file
+-- 16. batches worked by hand. Nobody has to believe this file
 pub mod BatchCases

@@ -57,3 +57,7 @@ itselfLinked = 13
 -- linked: a link's two ends are linked already
 abbrev pub linkedAlready : ℕ
 linkedAlready = 14
+
+-- too few: the map has fewer than two depots
+abbrev pub tooFew : ℕ
+tooFew = 15

@@ -32,6 +32,8 @@ pub const ITSELF: u8 = 13;
 
 pub const LINKED: u8 = 14;
 
+pub const TOO_FEW: u8 = 15;
+
 // ---- the answer
 
 // How the longest chain changed with an accepted opening.
