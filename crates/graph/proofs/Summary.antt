@@ -125,6 +125,11 @@ module _ (G : Network) (net : IsNet G) where
           let ov = delivers-open G v (true→t (destination-is v mv)) in
           omega (arith, distance-below G net u v (dist G u v) ou (distance-is G net u v ou ov), l)
 
+  -- two destinations or more are a pair or more
+  pub pairs-positive : 1 < countb (delivers G) (vertices G) → 0 < pairNumber (chart G)
+  unfolding pairNumber destinations chart
+  pairs-positive two = pairs-some (listedBy (delivers G) G) once (omega (arith, length-count (delivers G) (vertices G), two))
+
   pub summary-is : (limit : ℕ) (counts : ℕ → ℕ) → length (vertices G) ≤ limit → 1 < countb (delivers G) (vertices G)
       → ((e : ℕ) → e < limit → counts e ≡ eccCount (chart G) e)
       → IsSummary G (delivers G) limit (distanceSum (chart G)) (pairNumber (chart G))
@@ -137,7 +142,7 @@ module _ (G : Network) (net : IsNet G) where
     arePairs = refl;
     twice = pairs-twice (listedBy (delivers G) G) once;
     mean = sym (div-add-mod' (distanceSum (chart G)) (pairNumber (chart G)));
-    part = mod-lt (distanceSum (chart G)) (pairs-some (listedBy (delivers G) G) once (omega (arith, length-count (delivers G) (vertices G), two)));
+    part = mod-lt (distanceSum (chart G)) (pairs-positive two);
     eccentricity = ecc (chart G);
     isEcc = λ u tu. eccentricity-is G net u (delivers-open G u tu);
     counted = same;
