@@ -50,14 +50,6 @@ slice-write-counts c =
     let start : tie.Start = search back in
     omega (arith, farthest after-tally-all, start .pre .5)
 
-returns : tie.Need-returns
-returns c =
-    let after-tally-all : tie.After-tally-all = search in
-    let after-search-sound : tie.After-search-sound = search in
-    let is = after-search-sound .search-sound .ensures in
-    let tallied = after-tally-all .tally-all .ensures in
-    (tally-is 4 _ _ _ _ is tallied, search-leaves 4 [] _ _ _ is, count-is 4 _ _ _ _ is tallied _)
-
 pub search-target-spec : {M : Type 1} → statement M
 search-target-spec =
     tie.close
@@ -68,4 +60,4 @@ search-target-spec =
     (λ c. search needs)  -- mul-counts-2
     slice-write-counts
     (λ c. search needs) (λ c. search needs) (λ c. search needs) (λ c. search needs)  -- same-length, same-length-2, same-length-3, same-length-4
-    returns)
+    (λ c. search (tally-is, search-leaves, count-is)))  -- returns

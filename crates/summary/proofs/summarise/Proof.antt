@@ -13,11 +13,6 @@ use borrow.Author.Needs.{needs}
 use Rattle.summary.proofs.summarise.Statement.{statement}
 use Rattle.summary.proofs.summarise.Tie as tie
 
-returns : tie.Need-returns
-returns c =
-    let after-summary-refusal : tie.After-summary-refusal = search in
-    summary-refused base _ _ _ _ (after-summary-refusal .summary-refusal .ensures) (c .if1 .taken)
-
 -- no refusal holds
 unrefused : (c : tie.Else1) →
     let start : tie.Start = search in
@@ -71,7 +66,7 @@ summarise-spec =
     tie.close
     (tie.spec
     (λ c. search needs)  -- summary-refusal-requires
-    returns
+    (λ c. search summary-refused)  -- returns
     slice-aggregate-total-over
     total-over-requires
     div-t25

@@ -20,9 +20,6 @@ Inv-loop targets hops u t₀ from₀ t from = IsTallying (λ v. getD hops v 0) u
 abbrev μ-loop : tie.MeasureT-loop
 μ-loop targets hops u t₀ from₀ t from = 256 - from
 
-loop-holds : tie.Need-loop-holds Inv-loop μ-loop
-loop-holds c = (tallying-none _ _ _, search needs)
-
 returns : tie.Need-returns Inv-loop μ-loop
 returns c =
     let after-next-open : tie.After-next-open Inv-loop μ-loop = search in
@@ -58,12 +55,6 @@ shared-slice-read-with-target c =
     let start : tie.Start Inv-loop μ-loop = search in
     omega (arith, is-code after-known-told, start .pre .1)
 
-with-target-requires : tie.Need-with-target-requires Inv-loop μ-loop
-with-target-requires c κs =
-    let at-loop : tie.At-loop Inv-loop μ-loop = search in
-    let w = at-loop .loop .inv in
-    (omega (arith, w .0 .smallSum, w .1), omega (arith, w .0 .fewPairs, w .1))
-
 add-from : tie.Need-add-from Inv-loop μ-loop
 add-from c =
     let after-known-told : tie.After-known-told Inv-loop μ-loop = search in
@@ -93,12 +84,12 @@ tally-all-spec =
     (tie.spec
     Inv-loop
     μ-loop
-    loop-holds
+    (λ c. search (tallying-none, needs))  -- loop-holds
     (λ c. search needs) (λ c. search needs) (λ c. search needs)  -- next-open-requires, enum-known-next, enum-told
     returns
     mul-with-target
     shared-slice-read-with-target
-    with-target-requires
+    (λ c. search needs)  -- with-target-requires
     add-from
     loop-less
     loop-again)

@@ -1,7 +1,7 @@
 -- `summary::total_over` meets its contract. The loop's invariant: what is done, with the targets from `from` on, gives what all give. The measure is the
 -- codes left.
 -- Assumes nothing.
-use mathlib.Core.Path.{_≡_, refl, ap, _∙_, subst}
+use mathlib.Core.Path.{_≡_, ap, _∙_, subst}
 use mathlib.Core.List.{List, [], List·Memᴰ}
 use Prim.Native.Nat.{ℕ, _-_, _≤_, _<_}
 use native.Mathlib.Omega.{arith}
@@ -57,17 +57,11 @@ loop-holds c =
       totalling-none _ 4 _ _ _ _ (network-most 4 (start .args .targets .now) [])
           (λ e h. ap (λ (l : List ℕ). getD l e 0) (after-fill .fill .ensures) ∙ fill-at (λ v. 0) (start .args .counts .now) 256 e 0 h),
       search needs,
-      refl,
-      refl,
-      refl,
-      refl,
+      search needs,
+      search needs,
+      search needs,
+      search needs,
     )
-
-same-length-4 : tie.Need-same-length-4 Inv-loop μ-loop
-same-length-4 c =
-    let at-loop : tie.At-loop Inv-loop μ-loop = search in
-    let after-fill : tie.After-fill Inv-loop μ-loop = search back in
-    omega (arith, at-loop .loop .inv .5, after-fill .fill .kept)
 
 returns : tie.Need-returns Inv-loop μ-loop
 returns c =
@@ -120,11 +114,11 @@ search-target-requires c κs =
     let after-fill : tie.After-fill Inv-loop μ-loop = search back in
     let start : tie.Start Inv-loop μ-loop = search back in
     let w = at-loop .loop .inv in (
-      start .pre .0,
-      start .pre .1,
-      omega (arith, w .2, start .pre .2),
-      omega (arith, w .3, start .pre .3),
-      omega (arith, w .4, start .pre .4),
+      search needs,
+      search needs,
+      search needs,
+      search needs,
+      search needs,
       omega (arith, w .5, after-fill .fill .kept, start .pre .5, has-place after-known-told),
       totalling-room _ 4 _ _ _ _ (w .0) (is-next after-known-told) _ (has-place after-known-told),
       is-code after-known-told,
@@ -186,8 +180,8 @@ total-over-spec =
     μ-loop
     (λ c. search needs)  -- fill-requires
     loop-holds
-    (λ c. search needs) (λ c. search needs) (λ c. search needs)  -- next-open-requires, enum-known-next, enum-told
-    (λ c. search needs) (λ c. search needs) (λ c. search needs) same-length-4  -- same-length, same-length-2, same-length-3, same-length-4
+    (λ c. search needs) (λ c. search needs) (λ c. search needs) (λ c. search needs)  -- next-open-requires, enum-known-next, enum-told, same-length
+    (λ c. search needs) (λ c. search needs) (λ c. search needs)  -- same-length-2, same-length-3, same-length-4
     returns
     search-target-requires
     add-sum
