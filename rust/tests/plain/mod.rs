@@ -9,6 +9,8 @@ pub mod nearby;
 pub mod network;
 pub mod opening;
 pub mod stream;
+pub mod summary;
+pub mod survey;
 pub mod words;
 
 pub use network::{Figures, Network};
