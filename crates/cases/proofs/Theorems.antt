@@ -29,10 +29,10 @@ use Rattle.plain_list.specs.PlainList.{moved}
 use Rattle.update.specs.Memory.{Memory, emptyMemory}
 use Rattle.update.proofs.Memories.{network-path, network-read}
 use Rattle.update.proofs.Empties.{empty-held, none-diameter, none-farthest, empty-memory}
+use Rattle.decimal.specs.Decimal.{spell, decimal, field}
 use Rattle.hexadecimal.specs.Hex.{isDigit, digitValue, bytesOf}
 use Rattle.notice.specs.Lines.{endOf, spellsFrame, isFrame, readHead}
-use Rattle.report.specs.Decimal.{spell, decimal}
-use Rattle.report.specs.Line.{outcomeText, field, figuresText}
+use Rattle.report.specs.Line.{outcomeText, figuresText}
 use Rattle.transcript.specs.Transcript.{transcript}
 use Rattle.stream.proofs.Theorems.{pieces-alike}
 use Rattle.transcript.specs.Texts.{bytesIn}

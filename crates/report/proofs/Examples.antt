@@ -4,9 +4,9 @@ use mathlib.Core.List.{[], _∷_}
 use Rattle.outcome.specs.Outcome.{letterOf, refusalOf}
 use Rattle.outcome.specs.declared.Change.the-variants.{Shrank}
 use Rattle.outcome.specs.declared.Outcome.the-variants.{Accepted, Refused}
+use Rattle.decimal.specs.Decimal.{spell, decimal, field}
 use Rattle.report.specs.declared.ReportFields.{ReportFields}
-use Rattle.report.specs.Decimal.{spell, decimal}
-use Rattle.report.specs.Line.{outcomeText, field, figuresText, reportLine}
+use Rattle.report.specs.Line.{outcomeText, figuresText, reportLine}
 
 -- `6 S 6 3 2 6`
 abbrev sixth : ReportFields

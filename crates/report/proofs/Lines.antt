@@ -15,25 +15,15 @@ use Rattle.outcome.specs.Outcome.{letterOf, refusalOf}
 use Rattle.outcome.specs.declared.Change.{Change}
 use Rattle.outcome.specs.declared.Outcome.{Outcome}
 use Rattle.outcome.specs.declared.Outcome.the-variants.{Accepted, Refused}
+use Rattle.decimal.specs.Decimal.{decimal, field}
+use Rattle.decimal.specs.Placed.{Placed}
+use Rattle.decimal.proofs.Decimals.{decimal-word, decimal-half}
+use Rattle.decimal.proofs.Places.{placed-byte, placed-join, placed-text, placed-end, placed-whole}
+use Rattle.decimal.proofs.Numbers.{field-length}
 use Rattle.report.specs.declared.ReportFields.{ReportFields}
 use Rattle.report.specs.declared.Written.{Written}
 use Rattle.report.specs.declared.Written.the-variants.{Line, Refused as NoLine}
-use Rattle.report.specs.Decimal.{decimal}
-use Rattle.report.specs.Line.{outcomeText, field, figuresText, reportLine, bufferLimit, reportDone, reportRefused, ReportLeft, reportLeft, writtenOf, reportCall, handedBack}
-use Rattle.report.specs.Placed.{Placed}
-use Rattle.report.proofs.Decimals.{decimal-word, decimal-half}
-use Rattle.report.proofs.Places.{placed-byte, placed-join, placed-text, placed-end, placed-whole}
-
--- ---- a field
-
-pub field-length : (text : List ℕ) → length (field text) ≡ length text + 1
-unfolding field
-field-length text = omega arith
-
--- a space, and the text behind it
-pub field-placed : {text old new : List ℕ} {at end : ℕ} → Placed text (at + 1) (set old at 32) end new → at < length old → Placed (field text) at old end new
-unfolding field
-field-placed {old = old} {at = at} w h = placed-join (placed-byte at old 32 h) w (omega arith)
+use Rattle.report.specs.Line.{outcomeText, figuresText, reportLine, bufferLimit, reportDone, reportRefused, ReportLeft, reportLeft, writtenOf, reportCall, handedBack}
 
 -- ---- the outcome
 

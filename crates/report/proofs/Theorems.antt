@@ -13,10 +13,10 @@ use Rattle.outcome.specs.Outcome.{letterOf, refusalOf}
 use Rattle.outcome.specs.declared.Change.the-variants.{Grew, Kept, Shrank}
 use Rattle.outcome.specs.declared.Outcome.{Outcome}
 use Rattle.outcome.specs.declared.Outcome.the-variants.{Accepted, Refused}
+use Rattle.decimal.specs.Decimal.{spell, decimal, field}
+use Rattle.decimal.proofs.Decimals.{decimal-word, decimal-half, decimal-byte, isGraph, decimal-graph, decimal-injective}
 use Rattle.report.specs.declared.ReportFields.{ReportFields}
-use Rattle.report.specs.Decimal.{decimal, spell}
-use Rattle.report.specs.Line.{outcomeText, field, figuresText, reportLine, IsWithin, bufferLimit, reportCall, handedBack}
-use Rattle.report.proofs.Decimals.{decimal-word, decimal-half, decimal-byte, isGraph, decimal-graph, decimal-injective}
+use Rattle.report.specs.Line.{outcomeText, figuresText, reportLine, IsWithin, bufferLimit, reportCall, handedBack}
 
 -- ---- the outcome's text
 

@@ -9,7 +9,7 @@ use Rattle.outcome.specs.Numbers.{shortBuffer}
 use Rattle.outcome.specs.Outcome.{letterOf, refusalOf}
 use Rattle.outcome.specs.declared.Outcome.{Outcome}
 use Rattle.outcome.specs.declared.Outcome.the-variants.{Accepted, Refused}
-use Rattle.report.specs.Decimal.{decimal}
+use Rattle.decimal.specs.Decimal.{decimal, field}
 use Rattle.report.specs.declared.ReportFields.{ReportFields}
 use Rattle.report.specs.declared.Written.{Written}
 use Rattle.report.specs.declared.Written.the-variants.{Line, Refused as NoLine}
@@ -18,10 +18,6 @@ use Rattle.report.specs.declared.Written.the-variants.{Line, Refused as 
 unfoldable pub outcomeText : Outcome → List ℕ
 outcomeText (Accepted c) = letterOf (Accepted c) ∷ []
 outcomeText (Refused n) = letterOf (Refused n) ∷ decimal (refusalOf (Refused n))
-
--- a field behind the first: one space before it
-unfoldable pub field : List ℕ → List ℕ
-field text = 32 ∷ text
 
 -- depots open, chain, pair count and searches of this call
 unfoldable pub figuresText : ReportFields → List ℕ

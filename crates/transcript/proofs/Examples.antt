@@ -6,10 +6,10 @@ use Prim.Native.Nat.{ℕ, zero, suc}
 use Rattle.lists.specs.Lists.{allb}
 use Rattle.outcome.specs.Outcome.{letterOf, refusalOf}
 use Rattle.plain_list.specs.PlainList.{moved}
+use Rattle.decimal.specs.Decimal.{spell, decimal, field}
 use Rattle.hexadecimal.specs.Hex.{isDigit, digitValue, bytesOf}
 use Rattle.notice.specs.Lines.{endOf, spellsFrame, isFrame, readHead}
-use Rattle.report.specs.Decimal.{spell, decimal}
-use Rattle.report.specs.Line.{outcomeText, field, figuresText}
+use Rattle.report.specs.Line.{outcomeText, figuresText}
 use Rattle.transcript.specs.Transcript.{transcript}
 use Rattle.transcript.specs.Texts.{bytesIn}
 

@@ -1,8 +1,8 @@
 -- `report::put_figures` meets its contract: the four fields, each behind the one before it.
 -- Assumes nothing.
 use native.Mathlib.Omega.{arith}
+use Rattle.decimal.proofs.Places.{placed-join}
 use Rattle.report.specs.Line.{figuresText}
-use Rattle.report.proofs.Places.{placed-join}
 use Rattle.report.proofs.Lines.{figures-length}
 use borrow.Author.Needs.{needs}
 use Rattle.report.proofs.put_figures.Statement.{statement}
@@ -61,8 +61,9 @@ put-figures-spec =
     put-field-requires
     (λ c. search needs)  -- cast-put-field-2
     put-field-requires-2
-    put-field-requires-3
     (λ c. search needs)  -- cast-put-field-3
+    put-field-requires-3
+    (λ c. search needs)  -- cast-put-field-4
     put-field-requires-4
     (λ c. search needs)  -- same-length
     returns)

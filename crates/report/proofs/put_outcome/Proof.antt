@@ -3,8 +3,8 @@
 use mathlib.Core.Path.{_∙_}
 use native.Mathlib.Omega.{arith}
 use lib.ListN.{length-set}
+use Rattle.decimal.proofs.Decimals.{decimal-byte}
 use Rattle.report.proofs.Lines.{accepted-placed, refused-placed}
-use Rattle.report.proofs.Decimals.{decimal-byte}
 use borrow.Author.Needs.{needs}
 use Rattle.report.proofs.put_outcome.Statement.{statement}
 use Rattle.report.proofs.put_outcome.Tie as tie

@@ -4,10 +4,10 @@ use mathlib.Core.Path.{_∙_}
 use native.Mathlib.Omega.{arith}
 use lib.ListN.{length, length-set}
 use Prim.Native.Nat.{_≤_}
-use Rattle.report.specs.Decimal.{decimal}
+use Rattle.decimal.specs.Decimal.{decimal}
+use Rattle.decimal.proofs.Decimals.{decimal-word}
 use Rattle.report.specs.Line.{figuresText, writtenOf}
 use Rattle.report.proofs.Lines.{figures-most, report-short, report-done, line-placed}
-use Rattle.report.proofs.Decimals.{decimal-word}
 use borrow.Author.Needs.{needs}
 use Rattle.report.proofs.write_report.Statement.{statement}
 use Rattle.report.proofs.write_report.Tie as tie
@@ -71,6 +71,7 @@ write-report-spec =
     tie.close
     (tie.spec
     returns
+    (λ c. search needs)  -- cast-put-number
     put-number-requires
     put-outcome-requires
     put-figures-requires

@@ -1,17 +1,18 @@
--- A number put into a buffer from its last digit to its first: how many digits it has, and a turn of `put_number`. Assumes nothing.
+-- A number put into a buffer from its last digit to its first: how many digits it has, a turn of `put_number`, and a field. Assumes nothing.
 use mathlib.Core.Path.{_≡_, refl, sym, ap, _∙_, subst}
 use mathlib.Core.Bool.{Bool, true, false}
 use mathlib.Core.List.{List, [], _∷_, _++_, append-assoc}
 use Prim.Native.Nat.{ℕ, zero, suc, _+_, _/_, _%_, _^_, _≤_, _<_}
+use native.Mathlib.Nat.{zero-add, one-le-pow, pow-succ', div-one, div-div-eq-div-mul}
 use native.Mathlib.Omega.{arith}
 use lib.Dec.{ltb}
 use lib.ListN.{length, set, length-append}
 use borrow.Author.Tests.{ltb-true, ltb-false}
 use Rattle.lists.proofs.Appends.{append-none}
-use Rattle.report.specs.Decimal.{numeral, decimal}
-use Rattle.report.specs.Placed.{Placed}
-use Rattle.report.proofs.Decimals.{decimal-one, decimal-more}
-use Rattle.report.proofs.Places.{placed-none, placed-before, placed-size, placed-text, placed-end}
+use Rattle.decimal.specs.Decimal.{numeral, decimal, field}
+use Rattle.decimal.specs.Placed.{Placed}
+use Rattle.decimal.proofs.Decimals.{decimal-one, decimal-more}
+use Rattle.decimal.proofs.Places.{placed-byte, placed-none, placed-before, placed-size, placed-join, placed-text, placed-end}
 
 -- ---- how many digits
 
@@ -31,9 +32,18 @@ digits-some n = by-size (ltb n 10) refl
 pub digits-first : (n : ℕ) → n < 10 → 1 ≡ length (decimal n)
 digits-first n h = sym (one-length n h)
 
+-- between two powers of ten
 pub digits-are : (k n : ℕ) → 10 ^ suc k ≤ n → n < 10 ^ suc (suc k) → suc (suc k) ≡ length (decimal n)
 digits-are zero n h l = omega (arith, more-length n (omega arith), one-length (n / 10) (omega arith))
 digits-are (suc k) n h l = omega (arith, more-length n (omega arith), digits-are k (n / 10) (omega arith) (omega arith))
+
+-- the last k, and the d before them
+pub digits-behind : (k n d : ℕ) → 10 ^ k ≤ n → d ≡ length (decimal (n / 10 ^ k)) → k + d ≡ length (decimal n)
+digits-behind zero n d h e = zero-add d ∙ e ∙ ap (λ (m : ℕ). length (decimal m)) (div-one n)
+digits-behind (suc k) n d h e =
+    let q : n / 10 ^ suc k ≡ n / 10 / 10 ^ k = ap (λ (m : ℕ). n / m) (pow-succ' 10 k) ∙ sym (div-div-eq-div-mul n 10 (10 ^ k)) in
+    let p : 1 ≤ 10 ^ k = one-le-pow k 10 (omega arith) in
+    omega (arith, more-length n (omega arith), digits-behind k (n / 10) d (omega arith) (e ∙ ap (λ (m : ℕ). length (decimal m)) q))
 
 -- ---- a turn
 
@@ -86,3 +96,14 @@ module _ (n at : ℕ) (old : List ℕ) (room : at + length (decimal n) ≤ lengt
         let q : i ≡ at = omega (arith, f .left, one-length m h) in
         subst (λ (j : ℕ). Placed (decimal n) j old end (set line i (numeral m))) q
         (placed-text (placed-before (numeral m) (f .stands) fill-inside) (sym (f .whole ∙ ap (λ (r : List ℕ). r ++ f .text) (decimal-one m h))))
+
+-- ---- a field
+
+pub field-length : (text : List ℕ) → length (field text) ≡ length text + 1
+unfolding field
+field-length text = omega arith
+
+-- a space, and the text behind it
+pub field-placed : {text old new : List ℕ} {at end : ℕ} → Placed text (at + 1) (set old at 32) end new → at < length old → Placed (field text) at old end new
+unfolding field
+field-placed {old = old} {at = at} w h = placed-join (placed-byte at old 32 h) w (omega arith)

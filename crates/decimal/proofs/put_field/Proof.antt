@@ -1,13 +1,13 @@
--- `report::put_field` meets its contract: the space, and the number behind it.
+-- `decimal::put_field` meets its contract: the space, and the number behind it.
 -- Assumes nothing.
 use mathlib.Core.Path.{_∙_}
 use native.Mathlib.Omega.{arith}
 use lib.ListN.{length-set}
-use Rattle.report.specs.Decimal.{decimal}
-use Rattle.report.proofs.Lines.{field-length, field-placed}
+use Rattle.decimal.specs.Decimal.{decimal}
+use Rattle.decimal.proofs.Numbers.{field-length, field-placed}
 use borrow.Author.Needs.{needs}
-use Rattle.report.proofs.put_field.Statement.{statement}
-use Rattle.report.proofs.put_field.Tie as tie
+use Rattle.decimal.proofs.put_field.Statement.{statement}
+use Rattle.decimal.proofs.put_field.Tie as tie
 
 slice-write-line : tie.Need-slice-write-line
 slice-write-line c =

@@ -1,10 +1,10 @@
--- `report::put_number` meets its contract: from the last digit to the first, each before those that stand. The measure is what is left of the
+-- `decimal::put_number` meets its contract: from the last digit to the first, each before those that stand. The measure is what is left of the
 -- number. Assumes nothing.
 use borrow.Author.Needs.{needs}
 use native.Mathlib.Omega.{arith}
-use Rattle.report.proofs.Numbers.{Filling, digits-some, fill-start, fill-size, fill-place, fill-before, fill-more, fill-end}
-use Rattle.report.proofs.put_number.Statement.{statement}
-use Rattle.report.proofs.put_number.Tie as tie
+use Rattle.decimal.proofs.Numbers.{Filling, digits-some, fill-start, fill-size, fill-place, fill-before, fill-more, fill-end}
+use Rattle.decimal.proofs.put_number.Statement.{statement}
+use Rattle.decimal.proofs.put_number.Tie as tie
 
 abbrev Inv-loop : tie.InvT-loop
 Inv-loop line₀ at n end i₀ m₀ line i m = Filling n at end line₀ line i m

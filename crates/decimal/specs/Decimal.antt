@@ -16,3 +16,7 @@ spell (suc k) (suc m) = spell k (suc m / 10) ++ (numeral (suc m % 10) ∷ [])
 unfoldable pub decimal : ℕ → List ℕ
 decimal zero = numeral 0 ∷ []
 decimal (suc m) = spell (suc m) (suc m)
+
+-- a field behind the first: one space before it
+unfoldable pub field : List ℕ → List ℕ
+field text = 32 ∷ text

@@ -8,7 +8,7 @@ use native.Mathlib.Omega.{arith}
 use lib.ListN.{length, set, take, drop, length-append, length-take, length-drop, take-append-drop}
 use lib.Seq.{length-take-le, set-append-left, set-split, take-at, take-set-lt, take-suc-set, drop-append-add, drop-drop}
 use Rattle.lists.specs.Lists.{overwrite}
-use Rattle.report.specs.Placed.{Placed}
+use Rattle.decimal.specs.Placed.{Placed}
 
 pub placed-byte : (at : ℕ) (old : List ℕ) (x : ℕ) → at < length old → Placed (x ∷ []) at old (at + 1) (set old at x)
 placed-byte at old x h = record { behind = refl; is = set-split old at x h ∙ ap (λ (n : ℕ). take at old ++ (x ∷ drop n old)) (sym (add-one at)) }

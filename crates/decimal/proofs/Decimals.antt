@@ -9,7 +9,7 @@ use lib.ListN.{length, length-append}
 use borrow.Author.Tests.{lt-ltb}
 use Rattle.lists.specs.Lists.{allb}
 use Rattle.lists.proofs.Tests.{and-true, and-intro}
-use Rattle.report.specs.Decimal.{numeral, spell, decimal}
+use Rattle.decimal.specs.Decimal.{numeral, spell, decimal}
 
 -- ---- one step
 
@@ -63,11 +63,14 @@ spell-most (suc k) (suc m) (suc n) h =
     let l : length (spell k (suc n / 10)) ≤ m = spell-most k m (suc n / 10) (omega arith) in
     omega (arith, length-append (spell k (suc n / 10)) (numeral (suc n % 10) ∷ []))
 
--- a number below 10 ^ (m + 1) has at most m + 1 digits; so the three widths of rule 10.2
+-- a number below 10 ^ (m + 1) has at most m + 1 digits; so the widths of 64, 32, 16 and 8 bits
 decimal-most : (m n : ℕ) → n < 10 ^ suc m → length (decimal n) ≤ suc m
 unfolding decimal
 decimal-most m zero h = omega arith
 decimal-most m (suc n) h = spell-most (suc n) (suc m) (suc n) h
+
+pub decimal-long : (n : ℕ) → n < 2 ^ 64 → length (decimal n) ≤ 20
+decimal-long n h = decimal-most 19 n (omega arith)
 
 pub decimal-word : (n : ℕ) → n < 2 ^ 32 → length (decimal n) ≤ 10
 decimal-word n h = decimal-most 9 n (omega arith)

@@ -1,4 +1,4 @@
--- What the inner functions promise: a text stands from a place on, and the place behind it. Assumes nothing.
+-- What a function promises that puts a text into lent memory: it stands from a place on, and the place behind it. Assumes nothing.
 use mathlib.Core.Path.{_≡_}
 use mathlib.Core.List.{List, _++_}
 use Prim.Native.Nat.{ℕ, _+_}
