@@ -3,7 +3,7 @@ use mathlib.Core.Path.{_≡_, refl, sym, ap, _∙_}
 use mathlib.Core.Logic.{_⊎_, inl, inr}
 use mathlib.Core.Bool.{Bool, true, false, not}
 use mathlib.Core.List.{List, [], _∷_, _++_}
-use Prim.Native.Nat.{ℕ, _+_, _≤_, _<_, min}
+use Prim.Native.Nat.{ℕ, zero, suc, _+_, _≤_, _<_, min}
 use native.Mathlib.Numerals.{add-one}
 use native.Mathlib.Omega.{arith}
 use lib.Dec.{eqb}
@@ -12,7 +12,7 @@ use lib.Seq.{take-all, take-take, take-append-le, take-suc-set}
 use borrow.Author.Tests.{lt-ltb, le-ltb, not-true}
 use Rattle.lists.specs.Lists.{allb}
 use Rattle.lists.proofs.Tests.{and-true, and-intro, lt-or-ge}
-use Rattle.notice.specs.Lines.{lineLimit, lineEnd, readHead, readLine, onto, linesOf}
+use Rattle.notice.specs.Lines.{lineLimit, lineEnd, endOf, garbled, readHead, readLine, onto, linesOf}
 use Rattle.line_buffer.specs.Lines.{Holding, holdByte}
 
 -- no byte ends the line
@@ -56,6 +56,24 @@ pub open-more : (p : List ℕ) (b : ℕ) → isOpenLine p ≡ true → eqb b lin
 unfolding isOpenLine allb
 open-more [] b o e = rw (e)
 open-more (c ∷ p) b o e = let q = open-byte c p o in and-intro (ap not (q .0)) (open-more p b (q .1) e)
+
+-- a line without its end is garbled
+open-end : (p : List ℕ) → isOpenLine p ≡ true → endOf p ≡ length p
+unfolding endOf
+open-end [] o = refl
+open-end (b ∷ p) o = let q = open-byte b p o in rw (q .0) (ap suc (open-end p (q .1)))
+
+open-take : (k : ℕ) (p : List ℕ) → isOpenLine p ≡ true → isOpenLine (take k p) ≡ true
+unfolding isOpenLine allb
+open-take zero p o = refl
+open-take (suc k) [] o = refl
+open-take (suc k) (b ∷ p) o = let q = open-byte b p o in and-intro (ap not (q .0)) (open-take k p (q .1))
+
+pub open-garbled : (p : List ℕ) → isOpenLine p ≡ true → readLine p ≡ garbled
+unfolding readLine readHead
+open-garbled p o =
+    let head = take lineLimit p in
+    rw (le-ltb (endOf head) (length head) (omega (arith, open-end head (open-take lineLimit p o))))
 
 -- the reader looks at the first 517 bytes alone
 pub read-first : (text : List ℕ) → readLine (take lineLimit text) ≡ readLine text

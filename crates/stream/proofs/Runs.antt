@@ -17,7 +17,7 @@ use Rattle.map.specs.Room.{sizesOf, longEnough}
 use Rattle.notice.specs.Lines.{lineEnd, readLine, linesOf}
 use Rattle.report.specs.Line.{bufferLimit, reportLine}
 use Rattle.update.proofs.Memories.{IsHeld, Says}
-use Rattle.transcript.specs.Transcript.{linesLimit, followLine, reportOn, reportsFrom}
+use Rattle.transcript.specs.Transcript.{linesLimit, followLine, reportOn, reportsFrom, networkAfter}
 use Rattle.line_buffer.specs.Lines.{holding, pasted}
 use Rattle.stream.specs.Feeding.{Feeding, stopped, tookLine, heldByte, takeByte, feedBytes}
 use Rattle.line_buffer.proofs.Stops.{going}
@@ -34,6 +34,10 @@ pub record Place : Type 0 where
 -- the reports of the rest r of the input, from there
 unfoldable pub restFrom : Place → List ℕ → List ℕ
 restFrom a r = reportsFrom (a .lines) (a .network) (take (linesLimit - a .lines) (linesOf (a .begun ++ r)))
+
+-- the network after the rest r of the input, from there
+unfoldable pub networkFrom : Place → List ℕ → Network
+networkFrom a r = networkAfter (a .network) (take (linesLimit - a .lines) (linesOf (a .begun ++ r)))
 
 -- lent memory and progress stand at a place
 pub record StandsAt (a : Place) (F : Feeding) : Type 0 where
@@ -53,7 +57,7 @@ afterLine a = record { lines = a .lines + 1; network = followLine (a .network) (
 abbrev pub lineReport : Place → List ℕ
 lineReport a = reportLine (reportOn (a .lines + 1) (followLine (a .network) (readLine (a .begun))))
 
-pasted-read : (text : List ℕ) (at : ℕ) (out : List ℕ) → at ≤ length out → take (at + length text) (pasted text at out) ≡ take at out ++ text
+pub pasted-read : (text : List ℕ) (at : ℕ) (out : List ℕ) → at ≤ length out → take (at + length text) (pasted text at out) ≡ take at out ++ text
 unfolding pasted overwrite
 pasted-read text at out l =
     ap (λ (k : ℕ). take (k + length text) (take at out ++ (text ++ drop (length text) (drop at out)))) (sym (length-take-le at out l))
@@ -106,14 +110,34 @@ rest-held : (a : Place) (b : ℕ) (r : List ℕ) → restFrom (withByte a b) r �
 unfolding restFrom
 rest-held a b r = ap (λ (t : List ℕ). reportsFrom (a .lines) (a .network) (take (linesLimit - a .lines) (linesOf t))) (append-snoc (a .begun) b r)
 
+-- and the network after it
+network-line : (a : Place) (l : List ℕ) (ls : List (List ℕ)) → a .lines < linesLimit
+    → networkAfter (a .network) (take (linesLimit - a .lines) (l ∷ ls)) ≡ networkAfter (followLine (a .network) (readLine l) .network) (take (linesLimit - (a .lines + 1)) ls)
+unfolding networkAfter
+network-line a l ls h =
+    let e : linesLimit - a .lines ≡ suc (linesLimit - (a .lines + 1)) = omega arith in
+    ap (λ (k : ℕ). networkAfter (a .network) (take k (l ∷ ls))) e
+
+network-ended : (a : Place) (r : List ℕ) → isOpenLine (a .begun) ≡ true → a .lines < linesLimit → networkFrom a (lineEnd ∷ r) ≡ networkFrom (afterLine (withByte a lineEnd)) r
+unfolding networkFrom
+network-ended a r o h =
+    ap (λ (ls : List (List ℕ)). networkAfter (a .network) (take (linesLimit - a .lines) ls)) (lines-ended (a .begun) r o)
+    ∙ network-line a (a .begun ++ (lineEnd ∷ [])) (linesOf r) h
+
+network-held : (a : Place) (b : ℕ) (r : List ℕ) → networkFrom (withByte a b) r ≡ networkFrom a (b ∷ r)
+unfolding networkFrom
+network-held a b r = ap (λ (t : List ℕ). networkAfter (a .network) (take (linesLimit - a .lines) (linesOf t))) (append-snoc (a .begun) b r)
+
 -- ---- a byte
 
--- from F to F′ the bytes c are used: what is written then, with the rest from there, is what was written before with the rest from F
+-- from F to F′ the bytes c are used: what is written then, with the rest from there, is what was written before with the rest from F; and the
+-- network after the rest is one
 pub record Goes (a : Place) (F F′ : Feeding) (c : List ℕ) : Type 0 where
   pub place : Place
   pub stands : StandsAt place F′
   pub isOpen : isOpenLine (place .begun) ≡ true
   pub rest : (r : List ℕ) → take (F′ .fed .written) (F′ .out) ++ restFrom place r ≡ take (F .fed .written) (F .out) ++ restFrom a (c ++ r)
+  pub follows : (r : List ℕ) → networkFrom place r ≡ networkFrom a (c ++ r)
 
 held-stands : (a : Place) (F : Feeding) (b : ℕ) → StandsAt a F → StandsAt (withByte a b) (heldByte b F)
 unfolding heldByte
@@ -147,6 +171,7 @@ module _ (a : Place) (F : Feeding) (is : StandsAt a F) (o : isOpenLine (a .begun
             ∙ ap (λ (t : List ℕ). t ++ lineReport (withByte a lineEnd) ++ restFrom (afterLine (withByte a lineEnd)) r) (ap₂ (λ (k : ℕ) (out : List ℕ). take k out) (w .0) (w .1))
             ∙ append-append (take (F .fed .written) (F .out)) (lineReport (withByte a lineEnd)) (restFrom (afterLine (withByte a lineEnd)) r)
             ∙ ap (λ (t : List ℕ). take (F .fed .written) (F .out) ++ t) (sym (rest-ended a r o (omega (arith, room .0, is .lines))));
+        follows = λ r. sym (network-ended a r o (omega (arith, room .0, is .lines)));
       }
 
   held-goes : (b : ℕ) → eqb b lineEnd ≡ false → Goes a F (heldByte b F) (b ∷ [])
@@ -157,6 +182,7 @@ module _ (a : Place) (F : Feeding) (is : StandsAt a F) (o : isOpenLine (a .begun
         stands = held-stands a F b is;
         isOpen = open-more (a .begun) b o e;
         rest = λ r. ap₂ (λ (t u : List ℕ). t ++ u) (ap₂ (λ (k : ℕ) (out : List ℕ). take k out) (w .0) (w .1)) (rest-held a b r);
+        follows = network-held a b;
       }
 
   byte-goes : (b : ℕ) → Goes a F (takeByte b F) (b ∷ [])
@@ -217,10 +243,10 @@ goes-along : {a : Place} {F G G′ : Feeding} {c c′ : List ℕ} → G ≡ G′
 goes-along {a} {F} {G} {G′} {c} {c′} p q g = subst (λ (d : List ℕ). Goes a F G′ d) q (subst (λ (H : Feeding). Goes a F H c) p g)
 
 goes-none : (a : Place) (F : Feeding) → StandsAt a F → isOpenLine (a .begun) ≡ true → Goes a F F []
-goes-none a F is o = record { place = a; stands = is; isOpen = o; rest = λ r. refl }
+goes-none a F is o = record { place = a; stands = is; isOpen = o; rest = λ r. refl; follows = λ r. refl }
 
 goes-both : (a : Place) (F F₁ F₂ : Feeding) (b : ℕ) (c : List ℕ) (one : Goes a F F₁ (b ∷ [])) → Goes (one .place) F₁ F₂ c → Goes a F F₂ (b ∷ c)
-goes-both a F F₁ F₂ b c one two = record { place = two .place; stands = two .stands; isOpen = two .isOpen; rest = λ r. two .rest r ∙ one .rest (c ++ r) }
+goes-both a F F₁ F₂ b c one two = record { place = two .place; stands = two .stands; isOpen = two .isOpen; rest = λ r. two .rest r ∙ one .rest (c ++ r); follows = λ r. two .follows r ∙ one .follows (c ++ r) }
 
 pub bytes-go : (bs : List ℕ) (a : Place) (F : Feeding) → StandsAt a F → isOpenLine (a .begun) ≡ true → Goes a F (feedBytes bs F) (take (feedBytes bs F .fed .used - F .fed .used) bs)
 bytes-go [] a F is o = goes-along (sym (bytes-nil F)) (sym (take-nil (feedBytes [] F .fed .used - F .fed .used))) (goes-none a F is o)

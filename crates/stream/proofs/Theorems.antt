@@ -8,22 +8,23 @@ use native.Mathlib.Nat.{zero-add}
 use native.Mathlib.Omega.{arith}
 use lib.ListN.{length, take}
 use borrow.Author.Tests.{lt-leb, le-leb}
+use Rattle.graph.specs.Network.{Network}
 use Rattle.graph.specs.Opening.{emptyNetwork}
 use Rattle.map.specs.Memory.{base, places, tableWords}
 use Rattle.map.specs.Room.{Lent, sizesOf, longEnough}
 use Rattle.notice.specs.Lines.{lineLimit}
 use Rattle.report.specs.Line.{bufferLimit}
-use Rattle.update.proofs.Memories.{Says}
+use Rattle.update.proofs.Memories.{IsHeld, Says}
 use Rattle.update.proofs.Empties.{empty-held}
-use Rattle.transcript.specs.Transcript.{linesLimit, transcript}
+use Rattle.transcript.specs.Transcript.{linesLimit, transcript, networkIn}
 use Rattle.stream.specs.Feeding.{StreamBegun, streamBegun, beginCall, IsReady, Feeding, stopped, feedBytes}
 use Rattle.stream.specs.Pieces.{Standing, Turn, turnLeft, standsAfter, usedBy, writtenBy, lastWritten, HasBegun}
 use Rattle.stream.specs.declared.Progress.{Progress}
 use Rattle.line_buffer.proofs.Stops.{stopped-lines}
 use Rattle.stream.proofs.Lines.{open-none}
 use Rattle.stream.proofs.Following.{begun-says, says-free}
-use Rattle.stream.proofs.Runs.{Place, restFrom, bytes-all, bytes-first}
-use Rattle.stream.proofs.Turning.{entering, StandsOn, turn-is, Turned, turns-go, rest-over, finish-goes}
+use Rattle.stream.proofs.Runs.{Place, restFrom, networkFrom, bytes-all, bytes-first}
+use Rattle.stream.proofs.Turning.{entering, StandsOn, turn-is, Turned, turns-go, rest-over, network-over, finish-goes, network-still}
 use Rattle.map.proofs.Theorems.{base-shape}
 use Rattle.lists.proofs.Appends.{append-none}
 
@@ -35,6 +36,10 @@ atStart = record { lines = 0; network = emptyNetwork; begun = [] }
 whole-rest : (input : List ℕ) → restFrom atStart input ≡ transcript input
 unfolding atStart restFrom transcript
 whole-rest input = refl
+
+whole-network : (input : List ℕ) → networkFrom atStart input ≡ networkIn input
+unfolding atStart networkFrom networkIn
+whole-network input = refl
 
 begun-on : (s : Standing) → HasBegun s → StandsOn atStart s
 unfolding atStart beginCall
@@ -57,6 +62,12 @@ turned : (s : Standing) → HasBegun s → (ts : List Turn) → Turned atStart s
 unfolding atStart
 turned s is ts = turns-go ts atStart s (begun-on s is) open-none
 
+-- a stream stands on the map of a network, in buffers that have their named sizes
+pub record IsMapOf (G : Network) (s : Standing) : Type 0 where
+  pub isHeld : IsHeld base G
+  pub isSaid : Says base G (s .progress .rec) (s .links) (s .lent .pairs)
+  pub long : longEnough base (sizesOf (s .links) (s .lent)) ≡ true
+
 -- ---- HOWEVER THE INPUT IS CUT INTO PIECES, and whatever buffers are lent for the reports: what the turns and the end write is the whole output
 -- of the bytes used
 pub pieces-alike : (s : Standing) → HasBegun s → (ts : List Turn) (out : List ℕ) → bufferLimit ≤ length out
@@ -68,6 +79,17 @@ pieces-alike s is ts out room =
     ∙ ap (restFrom atStart) (append-none (usedBy s ts))
     ∙ whole-rest (usedBy s ts)
 
+-- and after the turns the memory is the map of the bytes used, a stretch that is held being no line yet
+pub pieces-network : (s : Standing) → HasBegun s → (ts : List Turn) → IsMapOf (networkIn (usedBy s ts)) (standsAfter s ts)
+pieces-network s is ts =
+    let t = turned s is ts in
+    subst (λ (G : Network). IsMapOf G (standsAfter s ts))
+    (sym (network-still (t .place .lines) (t .place .network) (t .place .begun) (t .isOpen))
+    ∙ t .follows []
+    ∙ ap (networkFrom atStart) (append-none (usedBy s ts))
+    ∙ whole-network (usedBy s ts))
+    (record { isHeld = t .stands .isHeld; isSaid = t .stands .isSaid; long = t .stands .long })
+
 -- after the last line of a stream nothing is read: whatever follows, the output is what was written
 pub rest-unread : (s : Standing) → HasBegun s → (ts : List Turn) (rest : List ℕ) → linesLimit ≤ standsAfter s ts .progress .lines
     → writtenBy s ts ≡ transcript (usedBy s ts ++ rest)
@@ -77,6 +99,20 @@ rest-unread s is ts rest l =
     ∙ sym (ap (λ (x : List ℕ). writtenBy s ts ++ x) (rest-over (t .place) rest (omega (arith, l, t .stands .lines))))
     ∙ t .rest rest
     ∙ whole-rest (usedBy s ts ++ rest)
+
+-- nor followed
+pub rest-unfollowed : (s : Standing) → HasBegun s → (ts : List Turn) (rest : List ℕ) → linesLimit ≤ standsAfter s ts .progress .lines
+    → networkIn (usedBy s ts) ≡ networkIn (usedBy s ts ++ rest)
+rest-unfollowed s is ts rest l =
+    let t = turned s is ts in
+    let over : linesLimit ≤ t .place .lines = omega (arith, l, t .stands .lines) in
+    sym (whole-network (usedBy s ts))
+    ∙ sym (ap (networkFrom atStart) (append-none (usedBy s ts)))
+    ∙ sym (t .follows [])
+    ∙ network-over (t .place) [] over
+    ∙ sym (network-over (t .place) rest over)
+    ∙ t .follows rest
+    ∙ whole-network (usedBy s ts ++ rest)
 
 -- a turn uses a byte at least where one is left, a line may come and the buffer has room for a report; it leaves none unless it stops
 pub turn-uses : (s : Standing) (out : List ℕ) (b : ℕ) (bs : List ℕ) → s .progress .lines < linesLimit → bufferLimit ≤ length out

@@ -3,7 +3,7 @@ use mathlib.Core.Path.{_≡_, refl, sym, ap, _∙_, subst}
 use mathlib.Core.Logic.{_⊎_, inl, inr}
 use mathlib.Core.Bool.{Bool, true, false, _||_}
 use mathlib.Core.List.{List, [], _∷_, _++_}
-use Prim.Native.Nat.{ℕ, _+_, _-_, _≤_, _<_, zero-le}
+use Prim.Native.Nat.{ℕ, zero, suc, _+_, _-_, _≤_, _<_, zero-le}
 use native.Mathlib.Nat.{lt-irrefl}
 use native.Mathlib.Omega.{arith}
 use lib.Dec.{eqb}
@@ -12,14 +12,14 @@ use lib.Seq.{take-nil}
 use borrow.Author.Tests.{eq-eqb, ne-eqb, leb-true}
 use Rattle.lists.proofs.Tests.{look, or-left}
 use Rattle.graph.specs.Network.{Network}
-use Rattle.notice.specs.Lines.{readLine, linesOf}
+use Rattle.notice.specs.Lines.{Line, readLine, linesOf}
 use Rattle.report.specs.Line.{bufferLimit}
-use Rattle.transcript.specs.Transcript.{linesLimit, followLine, reportsFrom}
+use Rattle.transcript.specs.Transcript.{linesLimit, followLine, reportsFrom, networkAfter}
 use Rattle.stream.specs.Feeding.{Feeding, feeding, fedOf, stopped, tookLine, feedBytes, feedCall, finishCall}
 use Rattle.stream.specs.Pieces.{Standing, Turn, turnLeft, standingAfter, standsAfter, usedBy, writtenBy, lastWritten}
 use Rattle.line_buffer.proofs.Stops.{going, stopped-lines}
-use Rattle.stream.proofs.Lines.{isOpenLine, lines-open}
-use Rattle.stream.proofs.Runs.{Place, restFrom, StandsAt, Goes, lineReport, took-written, rest-line, bytes-go}
+use Rattle.stream.proofs.Lines.{isOpenLine, lines-open, open-garbled}
+use Rattle.stream.proofs.Runs.{Place, restFrom, networkFrom, StandsAt, Goes, lineReport, took-written, rest-line, bytes-go}
 use Rattle.lists.proofs.Appends.{append-append, append-none}
 
 -- a stream between two calls, as a call finds it
@@ -59,10 +59,11 @@ pub record Turned (a : Place) (s : Standing) (ts : List Turn) : Type 0 where
   pub stands : StandsOn place (standsAfter s ts)
   pub isOpen : isOpenLine (place .begun) ≡ true
   pub rest : (r : List ℕ) → writtenBy s ts ++ restFrom place r ≡ restFrom a (usedBy s ts ++ r)
+  pub follows : (r : List ℕ) → networkFrom place r ≡ networkFrom a (usedBy s ts ++ r)
 
 turned-nil : (a : Place) (s : Standing) → StandsOn a s → isOpenLine (a .begun) ≡ true → Turned a s []
 unfolding standsAfter writtenBy usedBy
-turned-nil a s is o = record { place = a; stands = is; isOpen = o; rest = λ r. refl }
+turned-nil a s is o = record { place = a; stands = is; isOpen = o; rest = λ r. refl; follows = λ r. refl }
 
 turned-cons : (a : Place) (s : Standing) (t : Turn) (ts : List Turn) (one : Goes a (entering s (t .out)) (turnLeft s t) (take (turnLeft s t .fed .used) (t .piece)))
     → Turned (one .place) (standingAfter (turnLeft s t)) ts → Turned a s (t ∷ ts)
@@ -80,6 +81,7 @@ turned-cons a s t ts one more =
           ∙ ap (λ (x : List ℕ). w ++ x) (more .rest r)
           ∙ one .rest (usedBy s₁ ts ++ r)
           ∙ ap (restFrom a) (sym (append-append c (usedBy s₁ ts) r));
+      follows = λ r. more .follows r ∙ one .follows (usedBy s₁ ts ++ r) ∙ ap (networkFrom a) (sym (append-append c (usedBy s₁ ts) r));
     }
 
 pub turns-go : (ts : List Turn) (a : Place) (s : Standing) → StandsOn a s → isOpenLine (a .begun) ≡ true → Turned a s ts
@@ -94,6 +96,10 @@ turns-go (t ∷ ts) a s is o =
 pub rest-over : (a : Place) (r : List ℕ) → linesLimit ≤ a .lines → restFrom a r ≡ []
 unfolding restFrom reportsFrom
 rest-over a r l = let e : linesLimit - a .lines ≡ 0 = omega arith in ap (λ (k : ℕ). reportsFrom (a .lines) (a .network) (take k (linesOf (a .begun ++ r)))) e
+
+pub network-over : (a : Place) (r : List ℕ) → linesLimit ≤ a .lines → networkFrom a r ≡ a .network
+unfolding networkFrom networkAfter
+network-over a r l = let e : linesLimit - a .lines ≡ 0 = omega arith in ap (λ (k : ℕ). networkAfter (a .network) (take k (linesOf (a .begun ++ r)))) e
 
 rest-none : (n : ℕ) (G : Network) → restFrom (record { lines = n; network = G; begun = [] }) [] ≡ []
 unfolding restFrom reportsFrom linesOf
@@ -147,3 +153,19 @@ module _ (s : Standing) (out : List ℕ) (room : bufferLimit ≤ length out) whe
           finish-takes (ap (λ (x : Bool). x || stopped F) (ne-eqb (s .progress .held) 0 some) ∙ e)
           ∙ took-written (record { lines = n; network = G; begun = b ∷ p }) F (on-any (record { lines = n; network = G; begun = b ∷ p }) s out is) zero-le
           ∙ sym (rest-stretch n G b p o (omega (arith, l, is .lines)))
+
+-- ---- a stretch that is held changes no map
+
+pub network-still : (n : ℕ) (G : Network) (p : List ℕ) → isOpenLine p ≡ true → networkFrom (record { lines = n; network = G; begun = p }) [] ≡ G
+unfolding networkFrom networkAfter followLine linesOf
+network-still n G [] o = ap (networkAfter G) (take-nil (linesLimit - n))
+network-still n G (b ∷ p) o =
+    ap (λ (t : List ℕ). networkAfter G (take (linesLimit - n) (linesOf t))) (append-none (b ∷ p))
+    ∙ ap (λ (ls : List (List ℕ)). networkAfter G (take (linesLimit - n) ls)) (lines-open b p o)
+    ∙ go (linesLimit - n)
+  where
+    go : (k : ℕ) → networkAfter G (take k ((b ∷ p) ∷ [])) ≡ G
+    go zero = refl
+    go (suc k) =
+        ap (networkAfter (followLine G (readLine (b ∷ p)) .network)) (take-nil k)
+        ∙ ap (λ (l : Line). followLine G l .network) (open-garbled (b ∷ p) o)

@@ -79,3 +79,16 @@ reportsFrom n G (l ∷ ls) = let x = followLine G (readLine l) in reportLine (re
 unfoldable pub transcript : List ℕ → List ℕ
 unfolding reportsFrom emptyNetwork linesOf
 transcript input = reportsFrom 0 emptyNetwork (take linesLimit (linesOf input))
+
+-- ---- the network after
+
+-- the network after some lines
+unfoldable pub networkAfter : Network → List (List ℕ) → Network
+unfolding followLine readLine
+networkAfter G [] = G
+networkAfter G (l ∷ ls) = networkAfter (followLine G (readLine l) .network) ls
+
+-- the network after an input, from an empty map
+unfoldable pub networkIn : List ℕ → Network
+unfolding networkAfter emptyNetwork linesOf
+networkIn input = networkAfter emptyNetwork (take linesLimit (linesOf input))
