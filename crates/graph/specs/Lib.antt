@@ -21,7 +21,7 @@ pub mod Batch
 pub mod Refusals
 -- 11. depots near one: within so many links, and the nearest of a list
 pub mod Nearby
--- 12. the sum of distances over the pairs, their number, and the depots of each eccentricity. Nobody has to believe this file
+-- 12. the sum of distances over the pairs, their number, and the depots of each eccentricity
 pub mod Summary
 -- 13. the worked cases of the rules, computed; crate `cases` cites their inputs (`path`, `sevenLines`) and `AnswerLine`
 pub mod Cases

@@ -1,5 +1,3 @@
--- the targets tallied, one after the other
-pub mod Tallies
 -- the destinations searched, one after the other
 pub mod Totalling
 -- what all searches leave: the tables, the counts, and the sums

@@ -1,9 +1,9 @@
--- The call of the network report, which nothing makes yet but our own crates. Order of reading:
--- 1. the report on lent memory. Nobody has to believe this file
+-- The call of the network report. Order of reading:
+-- 1. the report on lent memory
 pub mod SummaryCall
--- 2. which refusals it gives, by rule 8.1. Nobody has to believe this file
+-- 2. which refusals it gives, by rule 8.1
 pub mod Refusals
--- 3. what an accepted report answers and leaves, by the published words. Nobody has to believe this file
+-- 3. what an accepted report answers and leaves, by the published words
 pub mod Demand2
 -- 4. the code's inner steps. Nobody has to believe this file
 pub mod Steps

@@ -1,8 +1,7 @@
 -- THE INNER STEPS of the report: the tally of one destination, its eccentricity counted, and all destinations in turn. The hops are those of searches
 -- over the link table. Assumes nothing.
 use mathlib.Core.List.{List, [], _∷_, List·Memᴰ}
-use mathlib.Core.Bool.{cond}
-use Prim.Native.Nat.{ℕ, _+_, _*_, _<_, max}
+use Prim.Native.Nat.{ℕ, _+_, _*_, _<_}
 use lib.Dec.{ltb}
 use lib.ListN.{length, getD, set}
 use Rattle.lists.specs.Lists.{range, filterb, sumOf, maxOf, mapl, overwrite}
@@ -14,10 +13,6 @@ use Rattle.layers.specs.Layers.{searchLeaves}
 use Rattle.summary.specs.declared.Tally.{Tally}
 
 -- ---- one destination u, h being the hops of a search from it
-
--- the target v at the hop d
-unfoldable pub tallyMore : ℕ → ℕ → ℕ → Tally → Tally
-tallyMore u v d t = record { sum = t .sum + cond (ltb u v) d 0; pairs = t .pairs + cond (ltb u v) 1 0; ecc = max (t .ecc) d }
 
 -- all targets: those above u are its pairs
 unfoldable pub tallyOf : (ℕ → ℕ) → ℕ → List ℕ → Tally

@@ -1,15 +1,15 @@
 // The network report: the sum of the distances over all pairs of depots, the number of pairs, the mean, and how many depots have each eccentricity.
-// A search from each depot in rising code, and one pass over what it left.
+// A search from each depot in rising code; of what it left, the hops above that depot are added, and the last layer gives the eccentricity.
 ghost use mathlib.Core.List.{[]};
 ghost use mathlib.Core.Path.{_≡_};
-ghost use Prim.Native.Nat.{_*_, _<_, _≤_, max};
+ghost use Prim.Native.Nat.{_<_, _≤_};
 ghost use lib.ListN.{length, getD};
 ghost use Rattle.lists.specs.Lists.{maxOf};
-ghost use Rattle.graph.specs.Distance.{vertices, dist};
+ghost use Rattle.graph.specs.Distance.{vertices, unreached, dist};
 ghost use Rattle.map.specs.Slices.{tablesBefore, tablesAfter};
 ghost use Rattle.map.specs.Memory.{base, places, tableWords, networkOf, tableNetwork};
 ghost use Rattle.layers.specs.Layers.{searchLeaves};
-ghost use Rattle.summary.specs.Steps.{tallyMore, tallyOf, countOne, AreNear, totalled, totalOver};
+ghost use Rattle.summary.specs.Steps.{tallyOf, countOne, AreNear, totalled, totalOver};
 ghost use Rattle.summary.specs.SummaryCall.{summaryRefusal, summaryLeft, summaryCall};
 use map::Record;
 use rows::Next;
@@ -21,56 +21,6 @@ struct Tally {
     sum: u64,
     pairs: u64,
     ecc: u16,
-}
-
-// The greater of two hops.
-fn greater(a: u16, b: u16) -> u16
-    ensures { λ r. ⌜ r ≡ max a b ⌝ }
-{
-    if a < b { b } else { a }
-}
-
-// With the target v at this hop: a pair with u where v is above u.
-fn with_target(t: Tally, u: usize, v: usize, hop: u16) -> Tally
-    requires { ⌜ (t .sum ≤ 65536 * places base) × (t .pairs ≤ places base) ⌝ }
-    ensures { λ r. ⌜ r ≡ tallyMore u v hop t ⌝ }
-{
-    let ecc = greater(t.ecc, hop);
-    if v <= u {
-        return Tally {
-            sum: t.sum,
-            pairs: t.pairs,
-            ecc: ecc,
-        };
-    }
-    Tally {
-        sum: t.sum + hop as u64,
-        pairs: t.pairs + 1,
-        ecc: ecc,
-    }
-}
-
-// The tally of u over all targets.
-fn tally_all(targets: &[u64], hops: &[u16], u: usize) -> Tally
-    requires { ⌜ (base .words ≤ length (now targets)) × (places base ≤ length (now hops)) ⌝ }
-    ensures { λ r.
-        let depots = vertices (networkOf (base .words) (now (targets .entry)) []) in
-        ⌜ r ≡ tallyOf (λ v. getD (now (hops .entry)) v 0) u depots ⌝ }
-{
-    let mut t = Tally {
-        sum: 0,
-        pairs: 0,
-        ecc: 0,
-    };
-    let mut from: usize = 0;
-    loop {
-        let next = map::next_open(targets, map::WORDS, from);
-        let Next::At(v) = next else {
-            return t;
-        };
-        t = with_target(t, u, v, hops[v]);
-        from = v + 1;
-    }
 }
 
 // Searches from u, tallies the targets, and counts one destination of its eccentricity.
@@ -91,6 +41,7 @@ fn search_target(
         × (base .words ≤ length (now even))
         × (base .words ≤ length (now odd))
         × (ecc < length (now counts))
+        × (ecc < unreached)
         × (getD (now counts) ecc 0 ≤ places base)
         × (u < places base) ⌝ }
     ensures { λ r.
@@ -102,11 +53,17 @@ fn search_target(
         × (after ≡ searchLeaves (base .words) N u before)
         × (now (counts .exit) ≡ countOne (maxOf (dist N u) depots) (now (counts .entry))) ⌝ }
 {
-    search::search_sound(links, hops, even, odd, u);
-    let t = tally_all(targets, &*hops, u);
-    let e = t.ecc as usize;
+    let depth = search::search_sound(links, hops, even, odd, u);
+    let last = search::last_layer(&*even, &*odd, depth);
+    let ecc = targets::greatest_hop(targets, &*hops, last, map::WORDS, depth);
+    let later = targets::sum_above(targets, &*hops, map::WORDS, u);
+    let e = ecc as usize;
     counts[e] = counts[e] + 1;
-    t
+    Tally {
+        sum: later.sum,
+        pairs: later.pairs,
+        ecc: ecc,
+    }
 }
 
 // ---- all destinations

@@ -120,6 +120,7 @@ search-target-requires c κs =
       search needs,
       search needs,
       omega (arith, w .5, after-fill .fill .kept, start .pre .5, has-place after-known-told),
+      omega (arith, has-place after-known-told),
       totalling-room _ 4 _ _ _ _ (w .0) (is-next after-known-told) _ (has-place after-known-told),
       is-code after-known-told,
     )
