@@ -12,7 +12,7 @@ pub follow-spec : {M : Type 1} → statement M
 follow-spec =
     tie.close
     (tie.spec
-    (λ c. search needs) (λ c. search needs)  -- answer-all-requires, end-requires
+    (λ c. search needs) (λ c. search needs) (λ c. search needs)  -- slice-aggregate-answer-all, answer-all-requires, end-requires
     (λ c. let after-end : tie.After-end = search in omega (arith, after-end .end .kept, before-end after-end .answer-all .kept))  -- same-length
     (λ c. let after-end : tie.After-end = search in omega (arith, after-end .end .kept, before-end after-end .answer-all .kept))  -- same-length-2
     (λ c. let after-end : tie.After-end = search in omega (arith, after-end .end .kept, before-end after-end .answer-all .kept))  -- same-length-3

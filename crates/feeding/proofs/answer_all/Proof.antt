@@ -1,15 +1,16 @@
--- `follow::answer_all` keeps the stream ready from read to read. The measure is the number of turns that are left. Assumes nothing.
+-- `feeding::answer_all` keeps the stream ready from read to read. The measure is the number of turns that are left. Assumes nothing.
 use mathlib.Core.Path.{_≡_}
 use native.Mathlib.Omega.{arith}
 use lib.ListN.{length}
 use Rattle.map.specs.Room.{tables, lent}
 use Rattle.stream.specs.Feeding.{IsReady}
 use borrow.Author.Needs.{needs}
-use Rattle.follow.proofs.answer_all.Statement.{statement}
-use Rattle.follow.proofs.answer_all.Tie as tie
+use Rattle.feeding.proofs.answer_all.Statement.{statement}
+use Rattle.feeding.proofs.answer_all.Tie as tie
 
 abbrev Inv-loop : tie.InvT-loop
-Inv-loop links₀ pairs₀ hops₀ bounds₀ skips₀ even₀ odd₀ line₀ out₀ input₀ now₀ turns₀ links pairs hops bounds skips even odd line out input now turns =
+Inv-loop links₀ pairs₀ hops₀ bounds₀ skips₀ even₀ odd₀ line₀ out₀ input₀ descriptor name reporting now₀ turns₀
+    links pairs hops bounds skips even odd line out input now turns =
     IsReady now links (lent pairs (tables hops even odd) bounds skips) line
     × ((length links ≡ length links₀)
     × (length pairs ≡ length pairs₀)
@@ -23,7 +24,8 @@ Inv-loop links₀ pairs₀ hops₀ bounds₀ skips₀ even₀ odd₀ line₀ out
     × (length input ≡ length input₀))
 
 abbrev μ-loop : tie.MeasureT-loop
-μ-loop links₀ pairs₀ hops₀ bounds₀ skips₀ even₀ odd₀ line₀ out₀ input₀ now₀ turns₀ links pairs hops bounds skips even odd line out input now turns =
+μ-loop links₀ pairs₀ hops₀ bounds₀ skips₀ even₀ odd₀ line₀ out₀ input₀ descriptor name reporting now₀ turns₀
+    links pairs hops bounds skips even odd line out input now turns =
     turns
 
 -- the way back, from each call to the one before it

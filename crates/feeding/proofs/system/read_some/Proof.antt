@@ -1,15 +1,15 @@
--- `follow::system::read_some` answers a count within the buffer. The measure is the tries left. Assumes nothing.
+-- `feeding::system::read_some` answers a count within the buffer. The measure is the tries left. Assumes nothing.
 use mathlib.Core.Path.{_≡_}
 use lib.ListN.{length}
 use borrow.Author.Needs.{needs}
-use Rattle.follow.proofs.system.read_some.Statement.{statement}
-use Rattle.follow.proofs.system.read_some.Tie as tie
+use Rattle.feeding.proofs.system.read_some.Statement.{statement}
+use Rattle.feeding.proofs.system.read_some.Tie as tie
 
 abbrev Inv-loop : tie.InvT-loop
-Inv-loop input₀ tries₀ input tries = length input ≡ length input₀
+Inv-loop input₀ descriptor tries₀ input tries = length input ≡ length input₀
 
 abbrev μ-loop : tie.MeasureT-loop
-μ-loop input₀ tries₀ input tries = tries
+μ-loop input₀ descriptor tries₀ input tries = tries
 
 pub read-some-spec : {M : Type 1} → statement M
 read-some-spec =

@@ -1,7 +1,7 @@
--- `follow::system::write_some` answers a count within the bytes. The measure is the tries left. Assumes nothing.
+-- `feeding::system::write_some` answers a count within the bytes. The measure is the tries left. Assumes nothing.
 use borrow.Author.Needs.{needs}
-use Rattle.follow.proofs.system.write_some.Statement.{statement}
-use Rattle.follow.proofs.system.write_some.Tie as tie
+use Rattle.feeding.proofs.system.write_some.Statement.{statement}
+use Rattle.feeding.proofs.system.write_some.Tie as tie
 
 abbrev Inv-loop : tie.InvT-loop
 Inv-loop out tries₀ tries = Unit {0}

@@ -1,4 +1,4 @@
--- `follow::answer` leaves the stream ready for the next piece. The measure is what is left of the piece. Assumes nothing.
+-- `feeding::answer` leaves the stream ready for the next piece. The measure is what is left of the piece. Assumes nothing.
 use mathlib.Core.Path.{_≡_}
 use Prim.Native.Nat.{_-_, _≤_}
 use native.Mathlib.Omega.{arith}
@@ -7,11 +7,11 @@ use lib.Seq.{length-take-le}
 use Rattle.map.specs.Room.{tables, lent}
 use Rattle.stream.specs.Feeding.{IsReady}
 use borrow.Author.Needs.{needs}
-use Rattle.follow.proofs.answer.Statement.{statement}
-use Rattle.follow.proofs.answer.Tie as tie
+use Rattle.feeding.proofs.answer.Statement.{statement}
+use Rattle.feeding.proofs.answer.Tie as tie
 
 abbrev Inv-loop : tie.InvT-loop
-Inv-loop links₀ pairs₀ hops₀ bounds₀ skips₀ even₀ odd₀ line₀ out₀ piece now₀ at₀ links pairs hops bounds skips even odd line out now at =
+Inv-loop links₀ pairs₀ hops₀ bounds₀ skips₀ even₀ odd₀ line₀ out₀ piece name reporting now₀ at₀ links pairs hops bounds skips even odd line out now at =
     IsReady now links (lent pairs (tables hops even odd) bounds skips) line
     × ((length links ≡ length links₀)
     × (length pairs ≡ length pairs₀)
@@ -25,7 +25,7 @@ Inv-loop links₀ pairs₀ hops₀ bounds₀ skips₀ even₀ odd₀ line₀ out
     × (at ≤ length piece)
 
 abbrev μ-loop : tie.MeasureT-loop
-μ-loop links₀ pairs₀ hops₀ bounds₀ skips₀ even₀ odd₀ line₀ out₀ piece now₀ at₀ links pairs hops bounds skips even odd line out now at =
+μ-loop links₀ pairs₀ hops₀ bounds₀ skips₀ even₀ odd₀ line₀ out₀ piece name reporting now₀ at₀ links pairs hops bounds skips even odd line out now at =
     length piece - at
 
 -- the way back, from each call to the one before it

@@ -10,13 +10,13 @@ pub struct Got {
     pub failed: bool,
 }
 
-// Reads what standard input has, as far as the buffer holds it.
-pub fn read_some(input: &mut [u8]) -> Got
+// Reads what a descriptor has, as far as the buffer holds it.
+pub fn read_some(input: &mut [u8], descriptor: i32) -> Got
     ensures { λ r. ⌜ Counts (r .count) (now (input .exit)) ⌝ }
 {
     let mut tries = u64::MAX;
     while tries > 0 {
-        let got = libc::read(0, input);
+        let got = libc::read(descriptor, input);
         if got >= 0 {
             let n = io::count(got, &*input);
             return Got {
@@ -38,16 +38,6 @@ pub fn read_some(input: &mut [u8]) -> Got
     }
 }
 
-// Says that a read failed, if it did, by what the system's last error was: so nothing that fails may come between. Where the reports before it
-// could not be written, that has been said instead.
-pub fn say_read(told: bool, failed: bool) {
-    if told {
-        if failed {
-            os::fail(b"follow: standard input");
-        }
-    }
-}
-
 // Writes what standard output takes of the bytes, which are some, at once; how many it took, 0 where the write failed.
 fn write_some(out: &[u8]) -> usize
     ensures { λ r. ⌜ r ≤ length (now (out .entry)) ⌝ }
@@ -66,13 +56,13 @@ fn write_some(out: &[u8]) -> usize
     0
 }
 
-// Writes all of the bytes to standard output. Where that fails it is said, and the answer is false.
-pub fn write_out(out: &[u8]) -> bool {
+// Writes all of the bytes to standard output. Where that fails it is said of the name, and the answer is false.
+pub fn write_out(out: &[u8], name: &[u8]) -> bool {
     let mut at: usize = 0;
     while at < out.len() {
         let n = write_some(&out[at..]);
         if n == 0 {
-            os::fail(b"follow: standard output");
+            os::fail(name);
             return false;
         }
         at += n;
