@@ -1,16 +1,17 @@
 //! The program `follow` as a process: its whole output, byte for byte, beside the plain implementation.
 mod inputs;
 mod plain;
+mod process;
 
 use inputs::lines::{link_line, longest_line, notice_line, some_input};
 use inputs::{Dice, Growth, Shape, SHAPES};
 use plain::stream::output;
-use std::env;
+use process::{assert_same, program, repository, written_and_said};
 use std::fs::{self, File};
 use std::io::{BufRead, BufReader, Read, Seek, Write};
 use std::os::fd::OwnedFd;
 use std::os::unix::net::UnixStream;
-use std::path::{Path, PathBuf};
+use std::path::Path;
 use std::process::{Child, ChildStdin, Command, Stdio};
 use std::sync::mpsc::{channel, Receiver, RecvTimeoutError};
 use std::thread;
@@ -19,23 +20,8 @@ use std::time::Duration;
 /// Longer than the program ever takes.
 const LONG: Duration = Duration::from_secs(60);
 
-fn repository() -> PathBuf {
-    Path::new(env!("CARGO_MANIFEST_DIR")).join("..")
-}
-
-/// The program: ZORPEDI_FOLLOW names it, else it stands where `rt check follow` puts it.
-fn program() -> PathBuf {
-    let path = env::var_os("ZORPEDI_FOLLOW").map_or_else(|| repository().join("target/bin/follow"), PathBuf::from);
-    assert!(
-        path.is_file(),
-        "{} is not there. Run `rt check follow` in the repository, or set ZORPEDI_FOLLOW to the program.",
-        path.display()
-    );
-    path
-}
-
 fn start(stdin: Stdio) -> Child {
-    Command::new(program()).stdin(stdin).stdout(Stdio::piped()).stderr(Stdio::piped()).spawn().expect("the program starts")
+    Command::new(program("follow")).stdin(stdin).stdout(Stdio::piped()).stderr(Stdio::piped()).spawn().expect("the program starts")
 }
 
 /// Waits for the program's end: it has gone well, and said nothing else.
@@ -43,18 +29,6 @@ fn assert_ended(mut child: Child) {
     let mut said = String::new();
     child.stderr.take().expect("a pipe").read_to_string(&mut said).expect("what it says is text");
     assert_eq!((child.wait().expect("it ends").code(), said.as_str()), (Some(0), ""));
-}
-
-/// The first line that differs; a whole print could be megabytes.
-fn assert_same(got: &[u8], expected: &str) {
-    if got == expected.as_bytes() {
-        return;
-    }
-    let got = String::from_utf8_lossy(got);
-    for (number, (one, other)) in (1..).zip(got.lines().zip(expected.lines())) {
-        assert_eq!(one, other, "line {number} of the output");
-    }
-    panic!("{} bytes and {} lines of output, expected {} and {}", got.len(), got.lines().count(), expected.len(), expected.lines().count());
 }
 
 /// The whole output of an input that comes over a pipe.
@@ -392,21 +366,10 @@ fn a_million_lines_on_a_pipe_that_stays_open() {
 
 // ---- what goes wrong is said
 
-/// What a process that has ended wrote, and what it said; it has no other status.
-fn written_and_said(mut child: Child) -> (String, String) {
-    let (mut written, mut said) = (String::new(), String::new());
-    if let Some(mut stdout) = child.stdout.take() {
-        stdout.read_to_string(&mut written).expect("reports are text");
-    }
-    child.stderr.take().expect("a pipe").read_to_string(&mut said).expect("what it says is text");
-    assert_eq!(child.wait().expect("it ends").code(), Some(0));
-    (written, said)
-}
-
 /// The day's lines as standard input, and another standard output.
 fn day_to(stdout: Stdio) -> (String, String) {
     let day = File::open(repository().join("examples/day.txt")).expect("the file opens");
-    written_and_said(Command::new(program()).stdin(day).stdout(stdout).stderr(Stdio::piped()).spawn().expect("the program starts"))
+    written_and_said(Command::new(program("follow")).stdin(day).stdout(stdout).stderr(Stdio::piped()).spawn().expect("the program starts"))
 }
 
 #[test]
@@ -425,7 +388,7 @@ fn an_output_that_cannot_be_written() {
 fn a_closed_output() {
     let child = Command::new("sh")
         .args(["-c", "exec \"$0\" >&-"])
-        .arg(program())
+        .arg(program("follow"))
         .stdin(File::open(repository().join("examples/day.txt")).expect("the file opens"))
         .stderr(Stdio::piped())
         .spawn()
@@ -454,7 +417,7 @@ fn a_read_that_would_block() {
 #[test]
 fn usage() {
     for argument in ["--help", "-h", "", "notices.txt"] {
-        let mut child = Command::new(program())
+        let mut child = Command::new(program("follow"))
             .arg(argument)
             .stdin(Stdio::piped())
             .stdout(Stdio::piped())
