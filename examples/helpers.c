@@ -41,7 +41,7 @@ static void try_versions(void)
 static void try_words(void)
 {
     static const char *const words[] = {"", "short", "spoilt", "apart", "absent", "taken", "lonely", "unsorted", "unknown", "garbled",
-                                        "nobody", "overfull", "bare", "itself", "linked"};
+                                        "nobody", "overfull", "bare", "itself", "linked", "too few"};
     for (unsigned number = 0; number < 600; number++) {
         const char *expected = number < sizeof words / sizeof words[0] ? words[number] : "";
         expect("each refusal has its word, other numbers none", strcmp(zorpedi_refusal_word(number), expected) == 0);
@@ -84,6 +84,29 @@ static void try_near(void)
     expect("a refused call leaves both numbers", found == 77 && distance == 77);
     expect("the nearest", zorpedi_map_nearest(&map, &found, &distance, 3, listed, sizeof listed) == ZORPEDI_DONE);
     expect("the lower of two as near", found == 1 && distance == 2);
+}
+
+/* The path of seven once more: 56 over 21 pairs, which is 2 and 14 over. A single depot has no pair. */
+static void try_summary(void)
+{
+    uint16_t counts[ZORPEDI_CODES_SIZE];
+    uint64_t sum = 77, pairs = 77, quotient = 77, remainder = 77;
+    memset(counts, 99, sizeof counts);
+    zorpedi_map_empty(&map);
+    zorpedi_map_opened(&map, 0, NULL, 0);
+    expect("too few", zorpedi_map_summary(&map, counts, &sum, &pairs, &quotient, &remainder) == ZORPEDI_TOO_FEW);
+    expect("a refused call leaves the four numbers", sum == 77 && pairs == 77 && quotient == 77 && remainder == 77);
+    expect("and the counts", counts[0] == 99 * 257 && counts[255] == 99 * 257);
+    for (uint8_t code = 1; code < 7; code++) {
+        uint8_t before = (uint8_t)(code - 1);
+        zorpedi_map_opened(&map, code, &before, 1);
+    }
+    expect("a summary", zorpedi_map_summary(&map, counts, &sum, &pairs, &quotient, &remainder) == ZORPEDI_DONE);
+    expect("sum and pairs", sum == 56 && pairs == 21);
+    expect("the mean", quotient == 2 && remainder == 14);
+    expect("eccentricities", counts[3] == 1 && counts[4] == 2 && counts[5] == 2 && counts[6] == 2);
+    expect("no others", counts[0] == 0 && counts[2] == 0 && counts[7] == 0 && counts[255] == 0);
+    expect("hops are those from the highest code", map.hops[6] == 0 && map.hops[0] == 6 && map.hops[7] == ZORPEDI_FAR);
 }
 
 /* Batches of two lines, of none, whose pointer may be null, and on a map without a depot. */
@@ -171,6 +194,7 @@ int main(void)
     try_versions();
     try_words();
     try_near();
+    try_summary();
     try_batches();
     try_links();
     try_openings();

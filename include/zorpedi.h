@@ -24,7 +24,7 @@
  * what it is asked.
  *
  * REFUSALS
- * A refused call answers a number from 1 to 14: the first of its own that applies, in rising order, but that a batch looks for 11 and 12 before 9. It
+ * A refused call answers a number from 1 to 15: the first of its own that applies, in rising order, but that a batch looks for 11 and 12 before 9. It
  * changes nothing that was lent, scratch memory and single numbers included.
  *
  * VERSIONS
@@ -52,7 +52,7 @@ extern "C" {
 /* ---- the version of the interface */
 
 #define ZORPEDI_VERSION_MAJOR 3
-#define ZORPEDI_VERSION_MINOR 0
+#define ZORPEDI_VERSION_MINOR 1
 #define ZORPEDI_VERSION (ZORPEDI_VERSION_MAJOR * 1000 + ZORPEDI_VERSION_MINOR)
 
 /* The version of the archive. Where both are of one delivery it is ZORPEDI_VERSION. */
@@ -68,7 +68,8 @@ static inline int zorpedi_version_serves(uint32_t version)
 
 #define ZORPEDI_RECORD_SIZE 7    /* uint64_t: the record */
 #define ZORPEDI_TABLE_SIZE 1024  /* uint64_t: the link table; the pair table */
-#define ZORPEDI_CODES_SIZE 256   /* uint16_t: the hop table; the bound table; the skip table. uint8_t: the places for listed codes */
+#define ZORPEDI_CODES_SIZE 256   /* uint16_t: the hop table; the bound table; the skip table; the counts of a summary. uint8_t: the places for
+                                    listed codes */
 #define ZORPEDI_ROW_SIZE 4       /* uint64_t: a layer row, even or odd */
 #define ZORPEDI_FRAME_SIZE 258   /* uint8_t: the frame of a notice */
 #define ZORPEDI_LINE_SIZE 517    /* uint8_t: a notice line; the line buffer of a stream */
@@ -109,14 +110,15 @@ enum zorpedi_answer {
     ZORPEDI_BARE = 12,    /* bare: a batch, and no depot is open */
     ZORPEDI_ITSELF = 13,  /* itself: a depot is to be linked with itself */
     ZORPEDI_LINKED = 14,  /* linked: the depots to be linked are linked already */
+    ZORPEDI_TOO_FEW = 15, /* too few: a summary, and fewer than two depots are open */
     ZORPEDI_GREW = 71,    /* 'G', grew, zorpedi_open only: accepted, and the longest chain is greater than before */
     ZORPEDI_KEPT = 75,    /* 'K', kept, zorpedi_open and zorpedi_link only: accepted, and it is the same */
     ZORPEDI_SHRANK = 83   /* 'S', shrank, zorpedi_open and zorpedi_link only: accepted, and it is neither; where the figures were true it is
                              smaller */
 };
 
-/* The trade's word for a refusal, as above: "short" for 1 to "linked" for 14, and "" for every number that is no refusal of this header. The text
- * stays for as long as the program runs. */
+/* The trade's word for a refusal, as above: "short" for 1 to "too few" for 15, and "" for every number that is no refusal of this header. The
+ * text stays for as long as the program runs. */
 static inline const char *zorpedi_refusal_word(unsigned number)
 {
     switch (number) {
@@ -148,6 +150,8 @@ static inline const char *zorpedi_refusal_word(unsigned number)
         return "itself";
     case ZORPEDI_LINKED:
         return "linked";
+    case ZORPEDI_TOO_FEW:
+        return "too few";
     default:
         return "";
     }
@@ -162,8 +166,8 @@ static inline const char *zorpedi_refusal_word(unsigned number)
  * Links are sound (rule 1.8) if the open set has as many codes as the record says, every code in a row is open and not the row's own, the rows
  * of closed codes are empty, and v is in row u exactly if u is in row v. Figures are sound if every code v in row u of the pair table has u <
  * v and both open, the pair table has as many bits as the record counts pairs, and the chain is 255 or less. A record word beyond these is
- * spoilt (2) in every call that looks at it: search, the calls on near depots, reckoning, opening, link, batch and stream look at the open set
- * and the number; opening, link, batch and stream at chain and pair count too.
+ * spoilt (2) in every call that looks at it: search, the calls on near depots, summary, reckoning, opening, link, batch and stream look at the
+ * open set and the number; opening, link, batch and stream at chain and pair count too.
  *
  * The map of a program is the record, the link table and the pair table. All zero is the empty map. A map that only zorpedi_open, zorpedi_link,
  * zorpedi_open_batch and the stream have written since it was emptied is never spoilt or apart, and its figures are true: those of its links. A
@@ -203,6 +207,17 @@ uint8_t zorpedi_within(const uint64_t *record, size_t record_size, const uint64_
 uint8_t zorpedi_nearest(const uint64_t *record, size_t record_size, const uint64_t *links, size_t links_size, uint16_t *hops,
                         size_t hops_size, uint64_t *even, size_t even_size, uint64_t *odd, size_t odd_size, uint8_t *found,
                         uint16_t *distance, uint8_t code, const uint8_t *listed, size_t listed_size);
+
+/* Sums a network up: how far apart its depots are, two by two, and how many of them have each eccentricity.
+ * 0: *sum is the sum of the distances of all pairs of open depots, each pair once; *pair_number is the number of these pairs, with n depots open
+ * n (n - 1) / 2. The mean distance is *quotient and *remainder / *pair_number: *sum is *quotient times *pair_number and *remainder added, and
+ * *remainder is below *pair_number. counts[e] is the number of open depots whose eccentricity is e, for e from 0 to 255, so that all 256 places
+ * are written, and these add up to n. Every open depot is searched from, by rising code; hops, even and odd are as zorpedi_search leaves them from
+ * the last, the highest open code.
+ * Refused: 1 (record below 7, links below 1,024, hops below 256, even or odd below 4, counts below 256), 2 (links only), 3, 15. */
+uint8_t zorpedi_summary(const uint64_t *record, size_t record_size, const uint64_t *links, size_t links_size, uint16_t *hops,
+                        size_t hops_size, uint64_t *even, size_t even_size, uint64_t *odd, size_t odd_size, uint16_t *counts,
+                        size_t counts_size, uint64_t *sum, uint64_t *pair_number, uint64_t *quotient, uint64_t *remainder);
 
 /* Reckons longest chain and farthest pairs afresh from the links; chain, pair count and pair table may hold anything before.
  * 0: record words 5 and 6 and the pair table are those of the links; *searches is the number of depots searched, the references. Of the
@@ -403,6 +418,15 @@ static inline uint8_t zorpedi_map_nearest(zorpedi_map *map, uint8_t *found, uint
 {
     return zorpedi_nearest(map->record, ZORPEDI_RECORD_SIZE, map->links, ZORPEDI_TABLE_SIZE, map->hops, ZORPEDI_CODES_SIZE, map->even,
                            ZORPEDI_ROW_SIZE, map->odd, ZORPEDI_ROW_SIZE, found, distance, code, size == 0 ? &code : listed, size);
+}
+
+/* `counts` is lent whole: ZORPEDI_CODES_SIZE numbers. */
+static inline uint8_t zorpedi_map_summary(zorpedi_map *map, uint16_t counts[ZORPEDI_CODES_SIZE], uint64_t *sum, uint64_t *pair_number,
+                                          uint64_t *quotient, uint64_t *remainder)
+{
+    return zorpedi_summary(map->record, ZORPEDI_RECORD_SIZE, map->links, ZORPEDI_TABLE_SIZE, map->hops, ZORPEDI_CODES_SIZE, map->even,
+                           ZORPEDI_ROW_SIZE, map->odd, ZORPEDI_ROW_SIZE, counts, ZORPEDI_CODES_SIZE, sum, pair_number, quotient,
+                           remainder);
 }
 
 static inline uint8_t zorpedi_map_reckon(zorpedi_map *map, uint16_t *searches)

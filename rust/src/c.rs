@@ -15,6 +15,11 @@ extern "C" {
         record: *const u64, _: usize, links: *const u64, _: usize, hops: *mut u16, _: usize, even: *mut u64, _: usize,
         odd: *mut u64, _: usize, found: *mut u8, distance: *mut u16, code: u8, listed: *const u8, _: usize,
     ) -> u8;
+    pub fn zorpedi_summary(
+        record: *const u64, _: usize, links: *const u64, _: usize, hops: *mut u16, _: usize, even: *mut u64, _: usize,
+        odd: *mut u64, _: usize, counts: *mut u16, _: usize, sum: *mut u64, pair_number: *mut u64, quotient: *mut u64,
+        remainder: *mut u64,
+    ) -> u8;
     pub fn zorpedi_reckon(
         record: *mut u64, _: usize, links: *const u64, _: usize, pairs: *mut u64, _: usize, hops: *mut u16, _: usize,
         bounds: *mut u16, _: usize, skips: *mut u16, _: usize, even: *mut u64, _: usize, odd: *mut u64, _: usize,

@@ -1,7 +1,7 @@
 //! The calls of the archive, and the one place with `unsafe`: each below lends whole references, so that its pointers are
 //! valid for their lengths and what is written overlaps nothing. That is all that the archive assumes of its caller.
 use crate::c;
-use crate::map::{Memory, Search};
+use crate::map::{Memory, Search, Summary};
 
 /// A stream's own numbers and line buffer, beside its map.
 pub struct Progress {
@@ -42,7 +42,7 @@ pub fn search(m: &Memory, found: &mut Search, code: u8) -> u8 {
     }
 }
 
-/// The scratch of a search, which both calls on near depots leave behind.
+/// The scratch of a search, which the calls on near depots and the summary leave behind.
 fn scratch() -> Search {
     Search { eccentricity: 0, hops: [0; 256], even: [0; 4], odd: [0; 4] }
 }
@@ -93,6 +93,32 @@ pub fn nearest(m: &Memory, found: &mut u8, distance: &mut u16, code: u8, listed:
             code,
             listed.as_ptr(),
             listed.len(),
+        )
+    }
+}
+
+pub fn summary(m: &Memory, summed: &mut Summary) -> u8 {
+    let mut left = scratch();
+    let (r, l, h, e, o) = (&m.record, &m.links, &mut left.hops, &mut left.even, &mut left.odd);
+    // SAFETY: whole arrays of three structs, those that are written each borrowed once, and four numbers of the last.
+    unsafe {
+        c::zorpedi_summary(
+            r.as_ptr(),
+            r.len(),
+            l.as_ptr(),
+            l.len(),
+            h.as_mut_ptr(),
+            h.len(),
+            e.as_mut_ptr(),
+            e.len(),
+            o.as_mut_ptr(),
+            o.len(),
+            summed.counts.as_mut_ptr(),
+            summed.counts.len(),
+            &mut summed.sum,
+            &mut summed.pairs,
+            &mut summed.quotient,
+            &mut summed.remainder,
         )
     }
 }

@@ -40,7 +40,7 @@ mod row;
 mod stream;
 mod version;
 
-pub use map::{Change, Map, Mark, Nearest, Opened, Record, Search};
+pub use map::{Change, Map, Mark, Nearest, Opened, Record, Search, Summary};
 pub use refusal::Refusal;
 pub use row::Codes;
 pub use stream::{Fed, Stream};

@@ -97,6 +97,45 @@ pub struct Nearest {
     pub distance: u16,
 }
 
+/// How far apart the depots of a map are, two by two, and how many have each eccentricity: see [`Map::summary`].
+///
+/// The mean distance is exact: `quotient` and `remainder / pairs`, or as one fraction [`Summary::mean`].
+#[derive(Clone, Copy, Debug, PartialEq, Eq, Hash)]
+#[non_exhaustive]
+pub struct Summary {
+    /// The sum of the distances of all pairs of depots, each pair once.
+    pub sum: u64,
+    /// The number of pairs, of `n` depots `n (n - 1) / 2`.
+    pub pairs: u64,
+    /// The mean distance without its fraction: the sum divided by the pairs.
+    pub quotient: u64,
+    /// What is left of the sum, below the number of pairs.
+    pub remainder: u64,
+    /// How many depots have each eccentricity, from 0 to 255.
+    pub counts: [u16; 256],
+}
+
+impl Summary {
+    /// The mean distance as a fraction in lowest terms, numerator and denominator. No map that is summed up has 0 pairs.
+    ///
+    /// ```
+    /// // The path 10-20-30 has the distances 1, 1 and 2.
+    /// let mut map = zorpedi::Map::new();
+    /// map.open(10, &[])?;
+    /// map.open(20, &[10])?;
+    /// map.open(30, &[20])?;
+    /// assert_eq!(map.summary()?.mean(), (4, 3));
+    /// # Ok::<(), zorpedi::Refusal>(())
+    /// ```
+    pub fn mean(&self) -> (u64, u64) {
+        let (mut divisor, mut rest) = (self.pairs, self.remainder);
+        while rest != 0 {
+            (divisor, rest) = (rest, divisor % rest);
+        }
+        (self.sum / divisor, self.pairs / divisor)
+    }
+}
+
 /// The record of a map: what it knows beside its two tables. One is made by [`Map::record`] or as that of the empty map, and its fields are
 /// then set.
 ///
@@ -445,6 +484,36 @@ impl Map {
         let mut nearest = Nearest { code: 0, distance: 0 };
         Refusal::check(ffi::nearest(&self.memory, &mut nearest.code, &mut nearest.distance, code, listed))?;
         Ok(nearest)
+    }
+
+    /// Sums the network up: the distances of all pairs of depots added, how many pairs there are, their mean, and how many depots have each
+    /// eccentricity. The map is only read.
+    ///
+    /// Refused with `Spoilt` (the links), `Apart` or, if fewer than two depots are open, `TooFew`; the first two only on a map made by
+    /// `from_parts`.
+    ///
+    /// ```
+    /// use zorpedi::{Map, Refusal};
+    ///
+    /// let mut map = Map::new();
+    /// map.open(0, &[])?;
+    /// assert_eq!(map.summary(), Err(Refusal::TooFew));
+    ///
+    /// // The path 0-1-2-3-4-5-6: 6 pairs are 1 apart, 5 are 2 apart, 4 are 3, 3 are 4, 2 are 5 and 1 is 6.
+    /// for code in 1..7 {
+    ///     map.open(code, &[code - 1])?;
+    /// }
+    /// let summary = map.summary()?;
+    /// assert_eq!((summary.sum, summary.pairs), (56, 21));
+    /// assert_eq!((summary.quotient, summary.remainder), (2, 14));
+    /// assert_eq!(summary.mean(), (8, 3));
+    /// assert_eq!(summary.counts[..8], [0, 0, 0, 1, 2, 2, 2, 0]);
+    /// # Ok::<(), Refusal>(())
+    /// ```
+    pub fn summary(&self) -> Result<Summary, Refusal> {
+        let mut summed = Summary { sum: 0, pairs: 0, quotient: 0, remainder: 0, counts: [0; 256] };
+        Refusal::check(ffi::summary(&self.memory, &mut summed))?;
+        Ok(summed)
     }
 
     /// Reckons chain and pairs afresh from the links, whatever they were, and answers how many depots were searched.

@@ -55,13 +55,15 @@ pub enum Refusal {
     Itself,
     /// 14: the depots to be linked are linked already.
     Linked,
+    /// 15: a summary, and fewer than two depots are open.
+    TooFew,
     /// Any other number, from an archive that is newer than this crate. Only the crate makes one, and [`Refusal::number`] gives the number.
     #[non_exhaustive]
     Other(u8),
 }
 
 /// The refusals that have a name, by their numbers, which begin at 1.
-const NAMED: [Refusal; 14] = [
+const NAMED: [Refusal; 15] = [
     Refusal::Short,
     Refusal::Spoilt,
     Refusal::Apart,
@@ -76,6 +78,7 @@ const NAMED: [Refusal; 14] = [
     Refusal::Bare,
     Refusal::Itself,
     Refusal::Linked,
+    Refusal::TooFew,
 ];
 
 impl Refusal {
@@ -91,7 +94,7 @@ impl Refusal {
         NAMED.into_iter()
     }
 
-    /// The refusal's number: 1 to 14 for those that have a name.
+    /// The refusal's number: 1 to 15 for those that have a name.
     ///
     /// ```
     /// assert_eq!(zorpedi::Refusal::Garbled.number(), 9);
@@ -112,6 +115,7 @@ impl Refusal {
             Refusal::Bare => 12,
             Refusal::Itself => 13,
             Refusal::Linked => 14,
+            Refusal::TooFew => 15,
             Refusal::Other(number) => number,
         }
     }
@@ -149,6 +153,7 @@ impl Refusal {
             Refusal::Bare => "bare",
             Refusal::Itself => "itself",
             Refusal::Linked => "linked",
+            Refusal::TooFew => "too few",
             Refusal::Other(_) => "",
         }
     }
@@ -169,6 +174,7 @@ impl Refusal {
             Refusal::Bare => "a batch, and no depot is open",
             Refusal::Itself => "a depot is to be linked with itself",
             Refusal::Linked => "the depots to be linked are linked already",
+            Refusal::TooFew => "a summary, and fewer than two depots are open",
             Refusal::Other(_) => "the archive is newer than the crate, which has no word for it",
         }
     }

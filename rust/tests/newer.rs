@@ -19,11 +19,11 @@ mod version;
 
 /// The calls, each of which gives the answer that was set; but for the reader, which has a frame, they touch nothing.
 mod ffi {
-    use crate::map::{Memory, Search};
+    use crate::map::{Memory, Search, Summary};
     use std::cell::Cell;
 
     thread_local! {
-        pub static VERSION: Cell<u32> = const { Cell::new(3000) };
+        pub static VERSION: Cell<u32> = const { Cell::new(3001) };
         pub static ANSWER: Cell<u8> = const { Cell::new(0) };
         /// What a line reads as, where the answer is 0.
         pub static FRAME: Cell<&'static [u8]> = const { Cell::new(&[1, 0, 0]) };
@@ -61,6 +61,10 @@ mod ffi {
     }
 
     pub fn nearest(_: &Memory, _: &mut u8, _: &mut u16, _: u8, _: &[u8]) -> u8 {
+        ANSWER.get()
+    }
+
+    pub fn summary(_: &Memory, _: &mut Summary) -> u8 {
         ANSWER.get()
     }
 
@@ -124,6 +128,7 @@ fn answers(number: u8) -> Vec<Option<Refusal>> {
         map.search(1).err(),
         map.within(1, 1).err(),
         map.nearest(1, &[1]).err(),
+        map.summary().err(),
         map.reckon().err(),
         notice::read(b"").err(),
         notice::write(&[]).err(),
@@ -140,13 +145,13 @@ fn numbers_without_a_name() {
         let said = answers(number);
         let is_letter = b"GKS".contains(&number);
         assert_eq!(said[..2], vec![(!is_letter).then_some(expected); 2]);
-        assert_eq!(said[2..], vec![Some(expected); 9]);
+        assert_eq!(said[2..], vec![Some(expected); 10]);
         assert_eq!(expected.number(), number);
-        assert_eq!(expected.word().is_empty(), number > 14);
+        assert_eq!(expected.word().is_empty(), number > 15);
         assert!(expected.to_string().contains(&format!("({number})")));
     }
-    assert_eq!(answers(0)[2..], vec![None; 9]);
-    assert_eq!(Refusal::of(15).to_string(), "refused (15): the archive is newer than the crate, which has no word for it");
+    assert_eq!(answers(0)[2..], vec![None; 10]);
+    assert_eq!(Refusal::of(16).to_string(), "refused (16): the archive is newer than the crate, which has no word for it");
 }
 
 #[test]
@@ -186,8 +191,9 @@ fn archives_of_other_versions() {
     let ways: [fn(); 4] =
         [|| drop(Map::new()), || drop(Stream::new()), || drop(notice::read(b"010000\n")), || drop(notice::write(&[1, 0, 0]))];
     for (version, serves) in [
-        (3000, true),
+        (3000, false),
         (3001, true),
+        (3002, true),
         (3999, true),
         (0, false),
         (1000, false),
@@ -209,5 +215,5 @@ fn archives_of_other_versions() {
     ffi::VERSION.set(4003);
     let said = catch_unwind(Map::new).expect_err("it does not serve");
     let text = said.downcast_ref::<String>().expect("a text");
-    assert_eq!(text, "libzorpedi.a has version 4.3, this crate was written for 3.0");
+    assert_eq!(text, "libzorpedi.a has version 4.3, this crate was written for 3.1");
 }

@@ -175,7 +175,7 @@ fn each_refusal() -> Result<(), Refusal> {
 fn the_refusals_that_have_a_name() {
     let words = [
         "short", "spoilt", "apart", "absent", "taken", "lonely", "unsorted", "unknown", "garbled", "nobody", "overfull", "bare", "itself",
-        "linked",
+        "linked", "too few",
     ];
     let named: Vec<(u8, &str)> = Refusal::all().map(|refusal| (refusal.number(), refusal.word())).collect();
     assert_eq!(named, (1..).zip(words).collect::<Vec<_>>());

@@ -2,3 +2,5 @@
 pub mod Answers
 -- What the calls on depots near one leave.
 pub mod Nears
+-- What the call of the network report leaves.
+pub mod Summaries

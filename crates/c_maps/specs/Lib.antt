@@ -4,5 +4,7 @@
 pub mod Outs
 -- 2. the calls on depots near one
 pub mod Nears
--- 3. the version of the interface
+-- 3. the network report
+pub mod Summaries
+-- 4. the version of the interface
 pub mod Version

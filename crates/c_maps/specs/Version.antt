@@ -7,7 +7,7 @@ majorVersion = 3
 
 -- rises where something was added and all that was there stayed; 0 again with a new major number
 abbrev pub minorVersion : ℕ
-minorVersion = 0
+minorVersion = 1
 
 -- both as one number
 abbrev pub interfaceVersion : ℕ

@@ -3,4 +3,5 @@
 // the lent numbers included. The record of a map is lent as seven words: the open set (four), the number open, the longest chain, the pair count.
 mod maps;
 mod near;
+mod summing;
 mod version;

@@ -14,7 +14,7 @@ fn beside(what: &str, m: &mut Lent, plainly: impl Fn(&mut Lent) -> u8, call: imp
         panic!("{what}, answer {answer}: {difference}");
     }
     // The plain way is held to the rule too.
-    if (1..=14).contains(&answer) {
+    if (1..=15).contains(&answer) {
         assert!(*m == start, "{what}: refused with {answer}, and something changed");
     }
     answer
@@ -35,6 +35,10 @@ pub fn within(m: &mut Lent, code: u8, k: u32) -> u8 {
 pub fn nearest(m: &mut Lent, code: u8, listed: &[u8]) -> u8 {
     m.input = Buffer::new(listed.to_vec());
     beside("nearest", m, |m| expected::nearest(m, code), |m| raw::nearest(m, code))
+}
+
+pub fn summary(m: &mut Lent) -> u8 {
+    beside("summary", m, expected::summary, raw::summary)
 }
 
 pub fn reckon(m: &mut Lent) -> u8 {

@@ -1,5 +1,5 @@
 //! The calls on a map, by chance: lists of openings, true and false figures, damaged maps, any memory. Links are tried more closely in links.rs.
-use crate::both::{empty, link, open, open_batch, reckon, search};
+use crate::both::{empty, link, open, open_batch, reckon, search, summary};
 use crate::expected::{network, store_map};
 use crate::inputs::growths::some_size;
 use crate::inputs::{Dice, Growth, SHAPES};
@@ -253,6 +253,7 @@ fn several_short_buffers() {
         link(&mut m.clone(), code, dice.byte());
         open_batch(&mut m.clone(), b"");
         search(&mut m.clone(), code);
+        summary(&mut m.clone());
         reckon(&mut m.clone());
         empty(&mut m);
     }

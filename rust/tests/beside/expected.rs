@@ -4,6 +4,7 @@ use crate::lent::{Buffer, Lent};
 use crate::plain::lines::{frame_of, is_frame, line_of, report_of, Fields};
 use crate::plain::network::{are_sound_figures, eccentricity, layer, Distances};
 use crate::plain::opening::{reckoning, Status, Work};
+use crate::plain::summary::Mean;
 use crate::plain::words::{bits_of_table, row_of_codes, table_of_bits};
 use crate::plain::{stream, Figures, Map, Network};
 
@@ -126,9 +127,13 @@ pub fn empty(m: &mut Lent) -> u8 {
     0
 }
 
+fn is_search_short(m: &Lent) -> bool {
+    is_short(&m.record, 7) || is_short(&m.links, 1024) || is_short(&m.hops, 256) || is_short(&m.even, 4) || is_short(&m.odd, 4)
+}
+
 /// 1 to 4 of a call that searches from a depot.
 fn search_refusal(m: &Lent, code: u8) -> u8 {
-    if is_short(&m.record, 7) || is_short(&m.links, 1024) || is_short(&m.hops, 256) || is_short(&m.even, 4) || is_short(&m.odd, 4) {
+    if is_search_short(m) {
         return 1;
     }
     match links_refusal(m) {
@@ -177,6 +182,28 @@ pub fn nearest(m: &mut Lent, code: u8) -> u8 {
             (m.found, m.distance) = (found, distance);
             0
         }
+    }
+}
+
+/// The searches go by rising code, so that hop table and layer rows are those from the highest.
+pub fn summary(m: &mut Lent) -> u8 {
+    if is_search_short(m) || is_short(&m.counts, 256) {
+        return 1;
+    }
+    let refusal = links_refusal(m);
+    if refusal != 0 {
+        return refusal;
+    }
+    let network = network(m);
+    match (network.summary(), network.open.last()) {
+        (Some(summary), Some(&highest)) => {
+            store_search(m, &network.distances(highest));
+            m.counts.data[..256].copy_from_slice(&summary.counts);
+            let Mean { sum, pairs, quotient, remainder } = summary.mean;
+            (m.sum, m.pair_number, m.quotient, m.remainder) = (sum, pairs, quotient, remainder);
+            0
+        }
+        _ => 15,
     }
 }
 

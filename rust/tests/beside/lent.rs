@@ -34,6 +34,7 @@ pub struct Lent {
     pub out: Buffer<u8>,
     pub codes: Buffer<u8>,
     pub left: Buffer<u8>,
+    pub counts: Buffer<u16>,
     /// What a call is lent to read: neighbours, a list of codes, an input, a frame, a piece, the lines of a batch.
     pub input: Buffer<u8>,
     pub eccentricity: u16,
@@ -42,6 +43,10 @@ pub struct Lent {
     pub found: u8,
     pub distance: u16,
     pub left_count: u8,
+    pub sum: u64,
+    pub pair_number: u64,
+    pub quotient: u64,
+    pub remainder: u64,
     pub length: usize,
     pub used: usize,
     pub written: usize,
@@ -50,7 +55,7 @@ pub struct Lent {
 }
 
 /// The named size of each buffer, in the order of `set_lent`.
-pub const SIZES: [usize; 13] = [7, 1024, 1024, 256, 256, 256, 4, 4, 258, 517, 48, 256, 64];
+pub const SIZES: [usize; 14] = [7, 1024, 1024, 256, 256, 256, 4, 4, 258, 517, 48, 256, 64, 256];
 
 impl Lent {
     /// Lends `size` elements of buffer `which`; there have to be that many.
@@ -68,7 +73,8 @@ impl Lent {
             9 => &mut self.line.lent,
             10 => &mut self.out.lent,
             11 => &mut self.codes.lent,
-            _ => &mut self.left.lent,
+            12 => &mut self.left.lent,
+            _ => &mut self.counts.lent,
         };
         *place = size;
     }
@@ -99,6 +105,7 @@ impl Lent {
             .or_else(|| first("out", &self.out, &other.out))
             .or_else(|| first("codes", &self.codes, &other.codes))
             .or_else(|| first("left", &self.left, &other.left))
+            .or_else(|| first("counts", &self.counts, &other.counts))
             .or_else(|| first("input", &self.input, &other.input))
             .or_else(|| number("eccentricity", self.eccentricity.into(), other.eccentricity.into()))
             .or_else(|| number("searches", self.searches.into(), other.searches.into()))
@@ -106,6 +113,10 @@ impl Lent {
             .or_else(|| number("found", self.found.into(), other.found.into()))
             .or_else(|| number("distance", self.distance.into(), other.distance.into()))
             .or_else(|| number("left_count", self.left_count.into(), other.left_count.into()))
+            .or_else(|| number("sum", self.sum, other.sum))
+            .or_else(|| number("pair_number", self.pair_number, other.pair_number))
+            .or_else(|| number("quotient", self.quotient, other.quotient))
+            .or_else(|| number("remainder", self.remainder, other.remainder))
             .or_else(|| number("length", self.length as u64, other.length as u64))
             .or_else(|| number("used", self.used as u64, other.used as u64))
             .or_else(|| number("written", self.written as u64, other.written as u64))

@@ -25,4 +25,5 @@ mod networks;
 mod refusals;
 mod sizes;
 mod streams;
+mod summaries;
 mod worked;

@@ -167,7 +167,7 @@ fn the_places_for_the_codes() {
     let mut m = any_memory(&mut Dice::new(23_000_000));
     assert_eq!(empty(&mut m), 0);
     open(&mut m, 7, &[]);
-    for which in [2, 4, 5, 8, 9, 10, 12] {
+    for which in [2, 4, 5, 8, 9, 10, 12, 13] {
         m.set_lent(which, 0);
     }
     for lent in [0, 1, 2, 255, 256, 257, 260] {

@@ -50,6 +50,17 @@ pub fn nearest(m: &mut Lent, code: u8) -> u8 {
 }
 
 #[rustfmt::skip]
+pub fn summary(m: &mut Lent) -> u8 {
+    unsafe {
+        c::zorpedi_summary(
+            m.record.pointer(), m.record.lent, m.links.pointer(), m.links.lent, m.hops.pointer(), m.hops.lent,
+            m.even.pointer(), m.even.lent, m.odd.pointer(), m.odd.lent, m.counts.pointer(), m.counts.lent,
+            &mut m.sum, &mut m.pair_number, &mut m.quotient, &mut m.remainder,
+        )
+    }
+}
+
+#[rustfmt::skip]
 pub fn reckon(m: &mut Lent) -> u8 {
     unsafe {
         c::zorpedi_reckon(

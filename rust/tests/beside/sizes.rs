@@ -1,5 +1,5 @@
 //! Buffers one element below their named size, at it and one above it, in every combination, for every call.
-use crate::both::{empty, feed, finish, link, nearest, open, open_batch, read, reckon, report, search, within, write};
+use crate::both::{empty, feed, finish, link, nearest, open, open_batch, read, reckon, report, search, summary, within, write};
 use crate::inputs::lines::notice_line;
 use crate::inputs::Dice;
 use crate::lent::{Lent, SIZES};
@@ -52,7 +52,7 @@ fn of_a_search() {
     every_combination(&m, &[0, 1, 3, 6, 7], 3, |m| search(m, code));
     // nothing else is asked for
     let mut m = m;
-    for which in [2, 4, 5, 8, 9, 10, 11, 12] {
+    for which in [2, 4, 5, 8, 9, 10, 11, 12, 13] {
         m.set_lent(which, 0);
     }
     assert_eq!(search(&mut m, code), 0);
@@ -63,6 +63,11 @@ fn of_the_calls_on_near_depots() {
     let (m, code) = small_map(500);
     every_combination(&m, &[0, 1, 3, 6, 7, 11], 3, |m| within(m, code, 2));
     every_combination(&m, &[0, 1, 3, 6, 7], 3, |m| nearest(m, code, &[code]));
+}
+
+#[test]
+fn of_a_summary() {
+    every_combination(&small_map(800).0, &[0, 1, 3, 6, 7, 13], 3, summary);
 }
 
 #[test]
@@ -91,7 +96,7 @@ fn of_a_link() {
     }
     // nothing else is asked for
     let mut m = m;
-    for which in [8, 9, 10, 11, 12] {
+    for which in [8, 9, 10, 11, 12, 13] {
         m.set_lent(which, 0);
     }
     assert_eq!(link(&mut m, code, code), 13);
@@ -108,7 +113,7 @@ fn of_a_batch() {
     every_combination(&m, &[12], 3, |m| open_batch(m, b""));
     // nothing else is asked for
     let mut m = m;
-    for which in [8, 9, 10, 11] {
+    for which in [8, 9, 10, 11, 13] {
         m.set_lent(which, 0);
     }
     assert_eq!(open_batch(&mut m, &line), 0);

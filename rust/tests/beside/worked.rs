@@ -1,5 +1,5 @@
 //! The worked cases of docs/RULES.md, by their numbers; the plain implementation is held to them as well.
-use crate::both::{empty, feed, finish, link, nearest, open, read, reckon, report, search, within, write};
+use crate::both::{empty, feed, finish, link, nearest, open, read, reckon, report, search, summary, within, write};
 use crate::inputs::Dice;
 use crate::lent::{Buffer, Lent};
 use crate::maps::any_memory;
@@ -135,6 +135,18 @@ fn near_depots_on_the_path_of_seven() {
         assert_eq!((nearest(&mut m, code, list), m.found, m.distance), (0, found, distance), "of {list:?} from {code}");
     }
     assert_eq!((nearest(&mut m, 3, &[9, 200]), nearest(&mut m, 3, &[]), nearest(&mut m, 9, &[])), (10, 10, 4));
+}
+
+/// 6 pairs are 1 apart, 5 are 2 apart, 4 are 3, 3 are 4, 2 are 5 and 1 is 6: 56 over 21 pairs. The search is from 6 last.
+#[test]
+fn the_summary_of_the_path_of_seven() {
+    let mut m = path_of_seven();
+    assert_eq!(summary(&mut m), 0);
+    assert_eq!((m.sum, m.pair_number, m.quotient, m.remainder), (56, 21, 2, 14));
+    assert_eq!(m.counts.data[..8], [0, 0, 0, 1, 2, 2, 2, 0]);
+    assert!(m.counts.data[8..256].iter().all(|&n| n == 0));
+    assert_eq!(m.hops.data[..8], [6, 5, 4, 3, 2, 1, 0, 65_535]);
+    assert_eq!((m.even.data[0], m.odd.data[0]), (1, 2));
 }
 
 /// A reckoning does not look at the figures before it: true, false, out of range, on the path and on the empty and the single map.
