@@ -2,7 +2,7 @@
 use crate::{Input, Outcome, Places, Three};
 use std::fs::File;
 use std::io::ErrorKind;
-use std::path::Path;
+use std::path::{Path, PathBuf};
 use std::process::{Command, Stdio};
 
 /// Whether valgrind is installed.
@@ -15,9 +15,9 @@ pub fn are_counted() -> Outcome<bool> {
 }
 
 /// The instructions of a whole process.
-fn count(program: &Path, input: &Path) -> Outcome<f64> {
+pub fn count(program: &Path, arguments: &[PathBuf], input: &Path) -> Outcome<f64> {
     let mut valgrind = Command::new("valgrind");
-    valgrind.args(["--tool=callgrind", "--callgrind-out-file=/dev/null"]).arg(program);
+    valgrind.args(["--tool=callgrind", "--callgrind-out-file=/dev/null"]).arg(program).args(arguments);
     let output = valgrind.stdin(File::open(input)?).stdout(Stdio::null()).output()?;
     let text = String::from_utf8_lossy(&output.stderr).into_owned();
     let number = text.lines().find_map(|line| line.split_once("Collected :")).map(|(_, number)| number.trim().parse());
@@ -28,7 +28,8 @@ fn count(program: &Path, input: &Path) -> Outcome<f64> {
 }
 
 fn count_three(places: &Places, input: &Path) -> Outcome<Three<f64>> {
-    Ok(Three { zorpedi: count(&places.follow, input)?, fast: count(&places.fast, input)?, naive: count(&places.naive, input)? })
+    let count = |program: &Path| count(program, &[], input);
+    Ok(Three { zorpedi: count(&places.follow)?, fast: count(&places.fast)?, naive: count(&places.naive)? })
 }
 
 /// The instructions that each program takes for each input: those of the process, less those that it takes for an empty input to be loaded and to

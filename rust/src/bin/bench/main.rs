@@ -1,7 +1,9 @@
-//! The benchmark: Zorpedi beside a search from every depot (bench/naive.rs) and the best unverified program of the same rules (bench/fast.rs),
-//! all in one run and in turns. `bench/run` builds what it needs and starts it. It prints tables in Markdown.
+//! The benchmark: Zorpedi beside a search from every depot (bench/naive.rs) and the best unverified program of the same rules (bench/fast.rs), and the
+//! network reports beside those of bench/survey.rs, all in one run and in turns. `bench/run` builds what it needs and starts it. It prints tables in
+//! Markdown.
 mod inputs;
 mod instructions;
+mod surveys;
 mod times;
 
 use std::error::Error;
@@ -75,7 +77,8 @@ fn main() -> Outcome<()> {
     if let Some(counts) = counts {
         print_goals(&counts, &memory, &process);
     }
-    print_search(&inputs[0])
+    print_search(&inputs[0])?;
+    surveys::print(&root, &places.work)
 }
 
 fn compile(root: &Path, work: &Path, name: &str) -> Outcome<PathBuf> {

@@ -2,7 +2,7 @@
 //! machine was from that.
 use crate::{Input, Outcome, Places, Three};
 use std::fs::File;
-use std::path::Path;
+use std::path::{Path, PathBuf};
 use std::process::Command;
 use std::time::Instant;
 use zorpedi::Stream;
@@ -19,6 +19,11 @@ impl Time {
     pub fn of(mut runs: Vec<f64>) -> Time {
         runs.sort_by(f64::total_cmp);
         Time { least: runs[0], median: runs[runs.len() / 2] }
+    }
+
+    /// The least, and the median in brackets.
+    pub fn text(self) -> String {
+        format!("{} ({})", text_of(self.least), text_of(self.median))
     }
 
     /// The least of several turns, and the median of their medians.
@@ -68,10 +73,11 @@ pub fn in_memory(places: &Places, input: &Input) -> Outcome<Three<Time>> {
     Ok(Three { zorpedi: Time::of_turns(&zorpedi), fast: Time::of_turns(&fast), naive: Time::of_turns(&naive) })
 }
 
-fn run_process(program: &Path, input: &Input, output: &Path) -> Outcome<f64> {
-    let (stdin, stdout) = (File::open(&input.file)?, File::create(output)?);
+/// Nanoseconds from start to end of a process.
+pub fn run_process(program: &Path, arguments: &[PathBuf], input: &Path, output: &Path) -> Outcome<f64> {
+    let (stdin, stdout) = (File::open(input)?, File::create(output)?);
     let start = Instant::now();
-    let status = Command::new(program).stdin(stdin).stdout(stdout).status()?;
+    let status = Command::new(program).args(arguments).stdin(stdin).stdout(stdout).status()?;
     let time = start.elapsed().as_nanos() as f64;
     if !status.success() {
         return Err(format!("{} failed", program.display()).into());
@@ -83,9 +89,9 @@ pub fn as_process(places: &Places, input: &Input) -> Outcome<Three<Time>> {
     let output = places.work.join("output.txt");
     let (mut zorpedi, mut fast, mut naive) = (Vec::new(), Vec::new(), Vec::new());
     for _ in 0..input.process_runs {
-        zorpedi.push(run_process(&places.follow, input, &output)?);
-        fast.push(run_process(&places.fast, input, &output)?);
-        naive.push(run_process(&places.naive, input, &output)?);
+        zorpedi.push(run_process(&places.follow, &[], &input.file, &output)?);
+        fast.push(run_process(&places.fast, &[], &input.file, &output)?);
+        naive.push(run_process(&places.naive, &[], &input.file, &output)?);
     }
     Ok(Three { zorpedi: Time::of(zorpedi), fast: Time::of(fast), naive: Time::of(naive) })
 }
@@ -102,7 +108,6 @@ pub fn text_of(ns: f64) -> String {
 
 /// Least and median of each program, and the ratios of the least.
 pub fn print_table(title: &str, inputs: &[Input], times: &[Three<Time>]) {
-    let both = |time: Time| format!("{} ({})", text_of(time.least), text_of(time.median));
     println!("\n| {title}: least (median) | Zorpedi | fast | naive | Zorpedi / fast | naive / Zorpedi |");
     println!("|---|---|---|---|---|---|");
     for (input, three) in inputs.iter().zip(times) {
@@ -110,9 +115,9 @@ pub fn print_table(title: &str, inputs: &[Input], times: &[Three<Time>]) {
         println!(
             "| {} | {} | {} | {} | {:.2} | {:.2} |",
             input.name,
-            both(three.zorpedi),
-            both(three.fast),
-            both(three.naive),
+            three.zorpedi.text(),
+            three.fast.text(),
+            three.naive.text(),
             least.zorpedi / least.fast,
             least.naive / least.zorpedi
         );
