@@ -18,12 +18,13 @@ import sys
 
 # what is counted: the crates of public calls, and theorems, by what they make good
 GROUPS = [
-    ('the calls on a map, and demands 1 to 3', 'map search nearby reckon opening lent_opening linking batch_opening', [
-        'empty-refusals', 'search-refusals', 'within-refusals', 'nearest-refusals', 'reckon-refusals', 'update-refusals', 'batch-refusals',  # demand 1
-        'search-demand2', 'within-demand2', 'nearest-demand2', 'reckon-demand2', 'update-demand2', 'update-tables', 'emptied-is-empty', 'batch-demand2', 'batch-most',  # demand 2
+    ('the calls on a map, and demands 1 to 3', 'map search nearby summary reckon opening lent_opening linking batch_opening', [
+        'empty-refusals', 'search-refusals', 'within-refusals', 'nearest-refusals', 'summary-refusals', 'reckon-refusals', 'update-refusals', 'batch-refusals',  # demand 1
+        'search-demand2', 'within-demand2', 'nearest-demand2', 'summary-demand2', 'reckon-demand2', 'update-demand2', 'update-tables', 'emptied-is-empty', 'batch-demand2', 'batch-most',  # demand 2
         'demand3']),
     ('lines', 'notice report', ['one-line', 'round-trip', 'line-injective']),
     ('the stream', 'stream', ['pieces-alike', 'rest-unread', 'turn-uses', 'turn-all']),
+    ('reports on files', '', ['run-written', 'run-first']),
     ('the calls for C', 'c_maps c_updates c_streams', ['updated-words', 'batched-words']),
     ('the table of cases', '', ['cases-hold']),
 ]
