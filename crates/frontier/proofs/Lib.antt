@@ -6,3 +6,5 @@ pub mod Visits
 pub mod Passes
 -- One step.
 pub mod Stepping
+-- One step over rows of four words.
+pub mod Straight

@@ -4,6 +4,7 @@ use mathlib.Core.Logic.{_⊎_, inl, inr}
 use mathlib.Core.Bool.{Bool, true, false, cond, _&&_, _||_}
 use mathlib.Core.List.{List, List·Memᴰ}
 use Prim.Native.Nat.{ℕ, _+_, _*_, _^_, _≤_, _<_}
+use native.Mathlib.Nat.{mul-add}
 use native.Mathlib.Omega.{arith}
 use lib.Bits.{bitOr}
 use lib.Dec.{eqb, ltb}
@@ -17,6 +18,7 @@ use Rattle.lists.proofs.Buffers.{fill-whole, fill-put}
 use Rattle.words.specs.Bits.{bit, wordOf}
 use Rattle.words.proofs.Bits.{bit-wordOf, wordOf-ext, wordOf-lt, word-is, word-or}
 use Rattle.rows.specs.Rows.{tableBit}
+use Rattle.rows.proofs.Places.{row-fits}
 use Rattle.rows.proofs.Written.{table-word}
 use Rattle.frontier.specs.declared.Four.{Four}
 use Rattle.frontier.specs.Steps.{hopSet, linkWord, Reached, reached, reachSet, AreWords, putWord}
@@ -50,11 +52,30 @@ module _ (W : ℕ) (links : List ℕ) (x v j : ℕ) (fits : x < 2 ^ 64) where
   pub with-none : W ≤ j → x ≡ wordOf 64 (λ b. bit x b || tableBit W links v (64 * j + b))
   with-none h = word-is 64 x (λ b. bit x b || tableBit W links v (64 * j + b)) fits (λ b l. sym (ap (λ (t : Bool). bit x b || t) (past h b) ∙ or-false (bit x b)))
 
-  pub with-more : v < 64 * W → j < W → getD links (W * v + j) 0 < 2 ^ 64
+  with-more : v < 64 * W → j < W → getD links (W * v + j) 0 < 2 ^ 64
       → bitOr x (getD links (W * v + j) 0) ≡ wordOf 64 (λ b. bit x b || tableBit W links v (64 * j + b))
   with-more l h m =
       word-or 64 x (getD links (W * v + j) 0) fits m
       ∙ wordOf-ext 64 (λ b. bit x b || bit (getD links (W * v + j) 0) b) (λ b. bit x b || tableBit W links v (64 * j + b)) (λ b n. ap (λ (t : Bool). bit x b || t) (sym (table-word W links v j b l h n)))
+
+-- the row of bit b of word w, where the code adds the word's place and the bit's
+module _ (W w b : ℕ) (h : w < W) (l : b < 64) where
+  place-sum : (j : ℕ) → W * (64 * w) + (W * b + j) ≡ W * (64 * w + b) + j
+  place-sum j =
+      let e = mul-add W (64 * w) b in
+      omega arith
+
+  pub place-fits : (n : ℕ) → W * (64 * W) ≤ n → W * (64 * w) + (W * b + W) ≤ n
+  place-fits n m =
+      let e = place-sum W in
+      let f = row-fits W (64 * w + b) n (omega arith) m in
+      omega arith
+
+  pub with-bit : (links : List ℕ) (x j : ℕ) → x < 2 ^ 64 → j < W → getD links (W * (64 * w) + (W * b + j)) 0 < 2 ^ 64
+      → bitOr x (getD links (W * (64 * w) + (W * b + j)) 0) ≡ wordOf 64 (λ i. bit x i || tableBit W links (64 * w + b) (64 * j + i))
+  with-bit links x j fits i =
+      subst (λ (p : ℕ). getD links p 0 < 2 ^ 64 → bitOr x (getD links p 0) ≡ wordOf 64 (λ i. bit x i || tableBit W links (64 * w + b) (64 * j + i))) (sym (place-sum j))
+      (with-more W links x (64 * w + b) j fits (omega arith) i)
 
 -- ---- one word of a row, as the code stores it
 

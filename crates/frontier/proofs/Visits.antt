@@ -27,6 +27,21 @@ module _ (W : ℕ) (links : List ℕ) (k : ℕ) where
     abbrev visit : (ℕ → Bool) → Reached → Reached
     visit S B = reachSet W links k j S B
 
+    -- ---- one member
+
+    module _ (w b : ℕ) (within : w < W) (below : b < 64) where
+      -- a word with the links of the member besides, as the code has it
+      abbrev Joins : ℕ → ℕ → ℕ → Type 0
+      Joins i p q = q ≡ wordOf 64 (λ c. bit p c || tableBit W links (64 * w + b) (64 * i + c))
+
+      pub one-visit : (f : Four) (hops : List ℕ) (p′ q′ r′ s′ : ℕ) → 64 * W ≤ length hops → Joins j (f .a) p′ → Joins (j + 1) (f .b) q′ → Joins (j + 2) (f .c) r′
+          → Joins (j + 3) (f .d) s′ → side p′ q′ r′ s′ (set hops (64 * w + b) k) ≡ visit (λ u. eqb u (64 * w + b)) (reached f hops)
+      unfolding reachSet
+      one-visit f hops p′ q′ r′ s′ m e g h i =
+          let n : 64 * w + b < 64 * W = omega arith in
+          side-ext (word-one W links k j (f .a) p′ (64 * w + b) n e) (word-one W links k (j + 1) (f .b) q′ (64 * w + b) n g) (word-one W links k (j + 2) (f .c) r′ (64 * w + b) n h)
+          (word-one W links k (j + 3) (f .d) s′ (64 * w + b) n i) (hop-one W links k (64 * w + b) hops n m)
+
     -- ---- the set bits of a word
 
     module _ (w word : ℕ) where
@@ -86,27 +101,15 @@ module _ (W : ℕ) (links : List ℕ) (k : ℕ) where
                 (tests (bit word (u % 64)) (bit x (u % 64)) (eqb (u % 64) b) (inside (u % 64) small) (λ q. rw (eqb-true (u % 64) b q) (l .here)))
             go (inr e) = rw (e, other-word u e)
 
-        -- a word with the links of the member besides, as the code has it
-        abbrev Joins : ℕ → ℕ → ℕ → Type 0
-        Joins i p q = q ≡ wordOf 64 (λ c. bit p c || tableBit W links (64 * w + b) (64 * i + c))
-
-        bits-visit : (p q r s p′ q′ r′ s′ : ℕ) (hops : List ℕ) → 64 * W ≤ length hops → Joins j p p′ → Joins (j + 1) q q′ → Joins (j + 2) r r′ → Joins (j + 3) s s′
-            → side p′ q′ r′ s′ (set hops (64 * w + b) k) ≡ visit (λ u. eqb u (64 * w + b)) (side p q r s hops)
-        unfolding reachSet
-        bits-visit p q r s p′ q′ r′ s′ hops m e f g h =
-            let n : 64 * w + b < 64 * W = omega (arith, l .below) in
-            side-ext (word-one W links k j p p′ (64 * w + b) n e) (word-one W links k (j + 1) q q′ (64 * w + b) n f) (word-one W links k (j + 2) r r′ (64 * w + b) n g) (word-one W links k (j + 3) s s′ (64 * w + b) n h)
-            (hop-one W links k (64 * w + b) hops n m)
-
-        pub bits-next : {from : Four} {hops₀ : List ℕ} (p q r s p′ q′ r′ s′ : ℕ) (hops : List ℕ) → BitsVisited from hops₀ (side p q r s hops) x → 64 * W ≤ length hops
-            → Joins j p p′ → Joins (j + 1) q q′ → Joins (j + 2) r r′ → Joins (j + 3) s s′ → BitsVisited from hops₀ (side p′ q′ r′ s′ (set hops (64 * w + b) k)) y
-        bits-next {from} {hops₀} p q r s p′ q′ r′ s′ hops I m e f g h = record {
+        pub bits-next : {from : Four} {hops₀ : List ℕ} {now : Reached} (now′ : Reached) → BitsVisited from hops₀ now x → now′ ≡ visit (λ u. eqb u (64 * w + b)) now
+            → length (now′ .hops) ≡ length (now .hops) → BitsVisited from hops₀ now′ y
+        bits-next {from} {hops₀} now′ I e m = record {
           inside = λ c n t. I .inside c n (and-true (bit x c) (not (eqb c b)) (sym (left c n) ∙ t) .0);
           now-is =
-              bits-visit p q r s p′ q′ r′ s′ hops m e f g h ∙ ap (visit (λ u. eqb u (64 * w + b))) (I .now-is)
+              e ∙ ap (visit (λ u. eqb u (64 * w + b))) (I .now-is)
               ∙ visit-both W links k j (λ u. inWord w word u && not (inWord w x u)) (λ u. eqb u (64 * w + b)) (reached from hops₀)
               ∙ visit-ext W links k j (λ u. (inWord w word u && not (inWord w x u)) || eqb u (64 * w + b)) (λ u. inWord w word u && not (inWord w y u)) (reached from hops₀) (λ u n. bits-one (I .inside) u);
-          hops-length = length-set hops (64 * w + b) k ∙ I .hops-length;
+          hops-length = m ∙ I .hops-length;
         }
 
       -- no bit is left

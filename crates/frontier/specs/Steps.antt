@@ -1,8 +1,9 @@
 -- ONE STEP OF A SEARCH, over lists of words. Nobody has to believe these: `searchLeaves` (crate `layers`) is proved of the whole.
 -- Assumes nothing.
 use mathlib.Core.Bool.{Bool, cond, not, _&&_, _||_}
-use mathlib.Core.List.{List}
+use mathlib.Core.List.{List, [], _∷_}
 use Prim.Native.Nat.{ℕ, _+_, _*_, _^_, _≤_, _<_}
+use lib.Bits.{bitOr}
 use lib.Dec.{ltb}
 use lib.ListN.{length, getD, set}
 use Rattle.lists.specs.Lists.{range, mapl, anyb, overwrite}
@@ -63,6 +64,13 @@ pub record AreWords (f : Four) : Type 0 where
 
 abbrev pub noWords : Four
 noWords = record { a = 0; b = 0; c = 0; d = 0 }
+
+-- four words as a row, and their union
+abbrev pub fourList : Four → List ℕ
+fourList f = f .a ∷ f .b ∷ f .c ∷ f .d ∷ []
+
+abbrev pub unionOf : Four → ℕ
+unionOf f = bitOr (bitOr (bitOr (f .a) (f .b)) (f .c)) (f .d)
 
 -- the row with word j made x, if it has one
 unfoldable pub putWord : ℕ → ℕ → ℕ → List ℕ → List ℕ
