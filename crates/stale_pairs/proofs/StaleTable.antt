@@ -99,33 +99,33 @@ module _ (W : ℕ) (far : ℕ → ℕ → ℕ) (D : ℕ) (t₀ : List ℕ) where
     bit-yet : (p v : ℕ) → u ≤ p → p < 64 * W → v < 64 * W → tableBit W t p v ≡ P₀ p v
     bit-yet p v a l h = ap (λ (s : List ℕ). tableBit W s p v) done-table ∙ table-at W (leftAbove u) t₀ p v l h ∙ left-yet u p v a
 
-    -- b rows more that have no pair
-    pub rows-bare : {b : ℕ} → n ≤ 64 * W → Bare W n t u b → RowsDropping n t g k w (u + b)
+    -- the rows up to q besides, which have no pair
+    pub rows-bare : {q : ℕ} → n ≤ 64 * W → Bare W n t u q → RowsDropping n t g k w q
     unfolding dropRowsOf rowGone rowStays rowWay stalePairs stayingPairs
-    rows-bare {b} m r = record {
+    rows-bare {q} m r = record {
       within = r .within;
       size = i .size;
       is =
           same-rows
-          (done-table ∙ ap (λ (e : List ℕ). overwrite e t₀) (encode-table-ext W (leftAbove u) (leftAbove (u + b)) (λ p v l h. same p v h (lt-or-ge p u) (lt-or-ge p (u + b)))))
-          (done-gone ∙ sym (sum-skip (rowGone W far D P₀) u (u + b) (omega arith) (λ p c d. none-of (λ v a. a && ltb (far p v) D) (λ v. refl) p c d)))
-          (done-count ∙ sym (sum-skip (rowStays W far D P₀) u (u + b) (omega arith) (λ p c d. none-of (λ v a. a && not (ltb (far p v) D)) (λ v. refl) p c d)))
-          (done-way ∙ sym (max-skip (rowWay W far D P₀) u (u + b) (omega arith)
+          (done-table ∙ ap (λ (e : List ℕ). overwrite e t₀) (encode-table-ext W (leftAbove u) (leftAbove q) (λ p v l h. same p v h (lt-or-ge p u) (lt-or-ge p q))))
+          (done-gone ∙ sym (sum-skip (rowGone W far D P₀) u q (r .after) (λ p c d. none-of (λ v a. a && ltb (far p v) D) (λ v. refl) p c d)))
+          (done-count ∙ sym (sum-skip (rowStays W far D P₀) u q (r .after) (λ p c d. none-of (λ v a. a && not (ltb (far p v) D)) (λ v. refl) p c d)))
+          (done-way ∙ sym (max-skip (rowWay W far D P₀) u q (r .after)
           (λ p c d. max-none (λ v. cond (P₀ p v) (min D (far p v)) 0) (64 * W) (λ v h. ap (λ (y : Bool). cond y (min D (far p v)) 0) (bare p v c d h)))));
     }
       where
-        bare : (p v : ℕ) → u ≤ p → p < u + b → v < 64 * W → P₀ p v ≡ false
+        bare : (p v : ℕ) → u ≤ p → p < q → v < 64 * W → P₀ p v ≡ false
         bare p v c d h = sym (bit-yet p v c (omega (arith, r .within)) h) ∙ r .none p v c d h
 
         -- a test that passes pairs alone passes none of such a row
-        none-of : (f : ℕ → Bool → Bool) → ((v : ℕ) → f v false ≡ false) → (p : ℕ) → u ≤ p → p < u + b → countb (λ v. f v (P₀ p v)) (range (64 * W)) ≡ 0
+        none-of : (f : ℕ → Bool → Bool) → ((v : ℕ) → f v false ≡ false) → (p : ℕ) → u ≤ p → p < q → countb (λ v. f v (P₀ p v)) (range (64 * W)) ≡ 0
         none-of f z p c d = count-none (λ v. f v (P₀ p v)) (range (64 * W)) (λ v l. ap (f v) (bare p v c d (range-out (64 * W) l)) ∙ z v)
 
-        same : (p v : ℕ) → v < 64 * W → (p < u) ⊎ (u ≤ p) → (p < u + b) ⊎ (u + b ≤ p) → leftAbove u p v ≡ leftAbove (u + b) p v
-        same p v h (inl c) d = left-done u p v c ∙ sym (left-done (u + b) p v (omega arith))
+        same : (p v : ℕ) → v < 64 * W → (p < u) ⊎ (u ≤ p) → (p < q) ⊎ (q ≤ p) → leftAbove u p v ≡ leftAbove q p v
+        same p v h (inl c) d = left-done u p v c ∙ sym (left-done q p v (omega (arith, r .after)))
         same p v h (inr c) (inl d) =
-            left-yet u p v c ∙ bare p v c d h ∙ sym (left-done (u + b) p v d ∙ ap (λ (y : Bool). y && not (ltb (far p v) D)) (bare p v c d h))
-        same p v h (inr c) (inr d) = left-yet u p v c ∙ sym (left-yet (u + b) p v d)
+            left-yet u p v c ∙ bare p v c d h ∙ sym (left-done q p v d ∙ ap (λ (y : Bool). y && not (ltb (far p v) D)) (bare p v c d h))
+        same p v h (inr c) (inr d) = left-yet u p v c ∙ sym (left-yet q p v d)
 
     -- one row more, of which `drop_row` says what it says
     module _ (m : n ≤ 64 * W) (below : u < n) {t′ : List ℕ} {g′ k′ d : ℕ} (r : rowsDropped t′ g′ k′ d ≡ dropRowOf W far D u t) where

@@ -111,10 +111,11 @@ unfoldable pub siftOf : (ℕ → ℕ → ℕ) → ℕ → ℕ → ℕ → ℕ �
 siftOf way D u first x =
     sifted (wordOf 64 (stayingBit way D u first x)) (countb (staleBit way D u first x) (range 64)) (countb (stayingBit way D u first x) (range 64)) (greatestBit way D u first x)
 
--- k rows from u on have no pair, and stand among the first n
-pub record Bare (W n : ℕ) (pairs : List ℕ) (u k : ℕ) : Type 0 where
-  pub within : u + k ≤ n
-  pub none : (p v : ℕ) → u ≤ p → p < u + k → v < 64 * W → tableBit W pairs p v ≡ false
+-- the rows from u to p have no pair, and stand among the first n
+pub record Bare (W n : ℕ) (pairs : List ℕ) (u p : ℕ) : Type 0 where
+  pub after : u ≤ p
+  pub within : p ≤ n
+  pub none : (q v : ℕ) → u ≤ q → q < p → v < 64 * W → tableBit W pairs q v ≡ false
 
 -- ---- what the functions ask
 

@@ -221,37 +221,38 @@ fn drop_row_by(
     drop_row(pairs, near, words, u, chain)
 }
 
-// How many rows from u on have no pair, as far as whole groups of 8 among the first rows tell. The first group begins at u.
+// Where the rows from u on that have no pair end, as far as whole groups of 8 tell: two groups a turn, while there are two.
 fn bare_groups(pairs: &[u64], words: usize, rows: usize, u: usize) -> usize
-    requires { ⌜ (words < 513) × (words * (64 * words) ≤ length (now pairs)) × (rows ≤ 64 * words) × (u < rows) ⌝ }
+    requires { ⌜ (words < 513) × (words * (64 * words) ≤ length (now pairs)) × (rows ≤ 64 * words) × (u ≤ rows) ⌝ }
     ensures { λ r. ⌜ Bare words rows (now (pairs .entry)) u r ⌝ }
 {
     let mut p = u;
-    while p + 8 <= rows {
+    while p + 16 <= rows {
         if !rows::all_zero(pairs, words * p, 8 * words) {
-            return p - u;
+            return p;
+        }
+        p += 8;
+        if !rows::all_zero(pairs, words * p, 8 * words) {
+            return p;
         }
         p += 8;
     }
-    p - u
+    p
 }
 
-// How many rows from u on have no pair, as far as one look tells: groups of 8 where u begins one, row u alone, or none.
-// Most rows have none, and so most are passed 8 at a time.
-fn bare_rows(pairs: &[u64], words: usize, rows: usize, u: usize) -> usize
-    requires { ⌜ (words < 513) × (words * (64 * words) ≤ length (now pairs)) × (rows ≤ 64 * words) × (u < rows) ⌝ }
+// The next row from u on that has a pair, all rows where none has: most have none, and so most are passed 8 at a time.
+fn next_row(pairs: &[u64], words: usize, rows: usize, u: usize) -> usize
+    requires { ⌜ (words < 513) × (words * (64 * words) ≤ length (now pairs)) × (rows ≤ 64 * words) × (u ≤ rows) ⌝ }
     ensures { λ r. ⌜ Bare words rows (now (pairs .entry)) u r ⌝ }
 {
-    if u % 8 == 0 {
-        let bare = bare_groups(pairs, words, rows, u);
-        if bare != 0 {
-            return bare;
+    let mut p = bare_groups(pairs, words, rows, u);
+    while p < rows {
+        if !rows::all_zero(pairs, words * p, words) {
+            return p;
         }
+        p += 1;
     }
-    if rows::all_zero(pairs, words * u, words) {
-        return 1;
-    }
-    0
+    p
 }
 
 // Drops the stale pairs of the first rows in place, a row after the other: those rows have their pairs that stay, the others are as they were, and
@@ -273,18 +274,13 @@ pub fn drop_rows(
     let mut gone: u32 = 0;
     let mut count: u32 = 0;
     let mut way: u16 = 0;
-    let mut u = 0;
+    let mut u = next_row(&*pairs, words, rows, 0);
     while u < rows {
-        let bare = bare_rows(&*pairs, words, rows, u);
-        if bare != 0 {
-            u += bare;
-        } else {
-            let row = drop_row_by(pairs, near, far, words, u, chain, either);
-            gone += row.gone;
-            count += row.count;
-            way = longer(way, row.way);
-            u += 1;
-        }
+        let row = drop_row_by(pairs, near, far, words, u, chain, either);
+        gone += row.gone;
+        count += row.count;
+        way = longer(way, row.way);
+        u = next_row(&*pairs, words, rows, u + 1);
     }
     RowsDropping {
         gone: gone,

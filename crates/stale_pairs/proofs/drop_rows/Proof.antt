@@ -19,7 +19,7 @@ loop-holds : tie.Need-loop-holds Inv-loop μ-loop
 loop-holds c =
     let after-slice-known : tie.After-slice-known Inv-loop μ-loop = search in
     let start : tie.Start Inv-loop μ-loop = search in
-    rows-start _ _ _ _ (start .pre .0 .table) (λ i l. after-slice-known .slice-known .given i .fits)
+    rows-bare _ _ _ _ (rows-start _ _ _ _ (start .pre .0 .table) (λ i l. after-slice-known .slice-known .given i .fits)) (start .pre .2) (c .next-row .ensures)
 
 -- the sums fit: at most 32,768 rows are done, and each had at most 32,768 pairs
 few : (c : tie.After-drop-row-by Inv-loop μ-loop) →
@@ -43,19 +43,33 @@ add-count c =
     let after-drop-row-by : tie.After-drop-row-by Inv-loop μ-loop = search in
     omega (arith, few after-drop-row-by)
 
+loop-again : tie.Need-loop-again Inv-loop μ-loop
+loop-again c =
+    let after-longer : tie.After-longer Inv-loop μ-loop = search in
+    let after-drop-row-by : tie.After-drop-row-by Inv-loop μ-loop = search in
+    let in-loop : tie.In-loop Inv-loop μ-loop = search in
+    let at-loop : tie.At-loop Inv-loop μ-loop = search in
+    let start : tie.Start Inv-loop μ-loop = search in
+    rows-bare _ _ _ _
+    (rows-more _ _ _ _ (at-loop .loop .inv) (start .pre .2) (in-loop .loop-test .taken) (after-drop-row-by .drop-row-by .ensures) (after-longer .longer .ensures)
+    (after-drop-row-by .drop-row-by .kept .0))
+    (start .pre .2) (c .next-row2 .ensures)
+
 pub drop-rows-spec : {M : Type 1} → statement M
 drop-rows-spec =
     tie.close
     (tie.spec
     Inv-loop
     μ-loop
+    (λ c. search needs)  -- next-row-requires
     loop-holds
-    (λ c. search needs) (λ c. search needs) (λ c. search needs)  -- bare-rows-requires, add-u, loop-less
-    (λ c. search rows-bare)  -- loop-again
     (λ c. search needs)  -- drop-row-by-requires
     add-gone
     add-count
-    (λ c. search needs) (λ c. search needs) (λ c. search needs)  -- longer-requires, add-u-2, loop-less-2
-    (λ c. search rows-more)  -- loop-again-2
+    (λ c. search needs)  -- longer-requires
+    (λ c. search needs)  -- add-next-row
+    (λ c. search needs)  -- next-row-requires-2
+    (λ c. search needs)  -- loop-less
+    loop-again
     (λ c. search needs)  -- same-length
     (λ c. search rows-end))  -- returns
