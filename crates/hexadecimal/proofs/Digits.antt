@@ -1,7 +1,7 @@
 -- The sixteen digits: each number below 16 has one digit, and each digit one number. Assumes nothing.
-use mathlib.Core.Path.{_≡_, ap, _∙_}
+use mathlib.Core.Path.{_≡_, refl, sym, ap, _∙_}
 use mathlib.Core.Logic.{_⊎_, inl, inr}
-use mathlib.Core.Bool.{true, false, _&&_}
+use mathlib.Core.Bool.{Bool, true, false, _&&_}
 use mathlib.Core.List.{List, [], _∷_}
 use Prim.Native.Nat.{ℕ, zero, suc, _+_, _-_, _≤_, _<_}
 use native.Mathlib.Numerals.{add-one}
@@ -34,13 +34,17 @@ pub digit-low : {c : ℕ} → 48 ≤ c → c ≤ 57 → true ≡ isDigit c
 unfolding isDigit
 digit-low {c} h k = rw (le-leb 48 c h, le-leb c 57 k)
 
-pub digit-between : {c : ℕ} → 57 < c → c < 65 → false ≡ isDigit c
+pub digit-too-high : {c : ℕ} → 70 < c → false ≡ isDigit c
 unfolding isDigit
-digit-between {c} h k = rw (le-leb 48 c (omega arith), lt-leb c 57 h, lt-leb 65 c k)
+digit-too-high {c} h = rw (le-leb 48 c (omega arith), lt-leb c 57 (omega arith), le-leb 65 c (omega arith), lt-leb c 70 h)
 
-pub digit-high : {c : ℕ} → 65 ≤ c → leb c 70 ≡ isDigit c
+pub digit-high : {c : ℕ} → 57 < c → c ≤ 70 → leb 65 c ≡ isDigit c
 unfolding isDigit
-digit-high {c} h = rw (le-leb 48 c (omega arith), lt-leb c 57 (omega arith), le-leb 65 c h)
+digit-high {c} h k = rw (le-leb 48 c (omega arith), lt-leb c 57 h, le-leb c 70 k) (sym (and-one (leb 65 c)))
+  where
+    and-one : (b : Bool) → (b && true) ≡ b
+    and-one true = refl
+    and-one false = refl
 
 -- a digit is at least 48
 pub digit-least : (c : ℕ) → isDigit c ≡ true → 48 ≤ c

@@ -60,20 +60,20 @@ pub fn byte_at(digits: &[u8], i: usize) -> u8
     16 * high + low
 }
 
-// Whether c is a digit: lower case is not.
+// Whether c is a digit: lower case is not. Both ends first, so that what is left is told by one more test.
 fn is_digit(c: u8) -> bool
     ensures { λ r. ⌜ r ≡ isDigit c ⌝ }
 {
     if c < 48 {
         return false;
     }
+    if 70 < c {
+        return false;
+    }
     if c <= 57 {
         return true;
     }
-    if c < 65 {
-        return false;
-    }
-    c <= 70
+    65 <= c
 }
 
 // The number that a digit stands for.

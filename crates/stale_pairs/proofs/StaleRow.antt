@@ -8,14 +8,15 @@ use Prim.Native.Nat.{ℕ, _+_, _*_, _/_, _^_, _≤_, _<_, min, max}
 use native.Mathlib.Omega.{arith}
 use lib.Dec.{eqb, ltb}
 use lib.ListN.{length, getD, set, length-set}
+use lib.Seq.{set-getD}
 use borrow.Author.Tests.{eq-eqb, ne-eqb, lt-ltb, le-ltb}
 use Rattle.lists.specs.Lists.{range, countb, maxOf, overwrite}
 use Rattle.lists.proofs.Tests.{eq-or-ne, lt-or-ge}
 use Rattle.lists.proofs.Members.{length-range}
-use Rattle.lists.proofs.Counts.{count-le-length, count-ext, count-or}
+use Rattle.lists.proofs.Counts.{count-le-length, count-ext, count-or, count-none}
 use Rattle.lists.proofs.RangeCounts.{count-same, count-split}
-use Rattle.words.specs.Bits.{bit}
-use Rattle.words.proofs.Bits.{wordOf-ext}
+use Rattle.words.specs.Bits.{bit, wordOf}
+use Rattle.words.proofs.Bits.{bit-of-zero, wordOf-ext, wordOf-none}
 use Rattle.graph.specs.Chart.{Pairs}
 use Rattle.rows.specs.Rows.{tableBit, encodeTable}
 use Rattle.rows.proofs.Written.{table-at, table-word}
@@ -23,7 +24,7 @@ use Rattle.rows.proofs.Wholes.{table-whole, encode-table-ext}
 use Rattle.rows.proofs.WordPuts.{put-word}
 use Rattle.pairs.specs.Pairs.{tally}
 use Rattle.stale_pairs.specs.Stale.{dropped, rowsDropped, stalePairs, pairsAfter, rowGone, rowStays, rowWay, stayingBit, staleBit, greatestBit, WordSifted, sifted, siftOf, dropRowOf}
-use Rattle.lists.proofs.Ranges.{count-nothing, max-nothing, max-same, max-split}
+use Rattle.lists.proofs.Ranges.{count-nothing, max-nothing, max-none, max-same, max-split}
 use Rattle.graph.specs.Opening.{stayingPairs}
 
 -- a pair goes or stays
@@ -178,6 +179,38 @@ module _ (W : ℕ) (far : ℕ → ℕ → ℕ) (D u : ℕ) (t₀ : List ℕ) whe
 
       pub count-fits : W < 513 → n + c < 2 ^ 32
       count-fits z = omega (arith, few)
+
+    -- a word without a pair: nothing goes, nothing stays
+    nothing-sifted : x ≡ 0 → sifted 0 0 0 0 ≡ siftOf far D u (64 * j) x
+    unfolding siftOf stayingBit staleBit greatestBit
+    nothing-sifted e = rw (word, gone, kept, way)
+      where
+        no-bit : (b : ℕ) → bit x b ≡ false
+        no-bit b = ap (λ (y : ℕ). bit y b) e ∙ bit-of-zero b
+
+        word : wordOf 64 (stayingBit far D u (64 * j) x) ≡ 0
+        word = wordOf-ext 64 (stayingBit far D u (64 * j) x) (λ b. false) (λ b l. ap (λ (y : Bool). y && not (ltb (far u (64 * j + b)) D)) (no-bit b)) ∙ wordOf-none 64
+
+        gone : countb (staleBit far D u (64 * j) x) (range 64) ≡ 0
+        gone = count-none (staleBit far D u (64 * j) x) (range 64) (λ b l. ap (λ (y : Bool). y && ltb (far u (64 * j + b)) D) (no-bit b))
+
+        kept : countb (stayingBit far D u (64 * j) x) (range 64) ≡ 0
+        kept = count-none (stayingBit far D u (64 * j) x) (range 64) (λ b l. ap (λ (y : Bool). y && not (ltb (far u (64 * j + b)) D)) (no-bit b))
+
+        way : greatestBit far D u (64 * j) x ≡ 0
+        way = max-none (λ b. cond (bit x b) (min D (far u (64 * j + b))) 0) 64 (λ b l. ap (λ (y : Bool). cond y (min D (far u (64 * j + b))) 0) (no-bit b))
+
+    pub row-skip : x ≡ 0 → RowDropping t g n w (64 * (j + 1))
+    row-skip e =
+        let r = row-word (nothing-sifted e) {w′ = w} (omega arith) in
+        record {
+          within = r .within;
+          table = sym (ap (λ (y : ℕ). set t (W * u + j) y) (sym e) ∙ set-getD t (W * u + j) 0) ∙ r .table;
+          size = i .size;
+          gone = omega (arith, r .gone);
+          count = omega (arith, r .count);
+          way = r .way;
+        }
 
   -- no word is left
   pub row-end : {t : List ℕ} {g n w at : ℕ} → RowDropping t g n w at → 64 * W ≤ at → rowsDropped t g n w ≡ dropRowOf W far D u t₀

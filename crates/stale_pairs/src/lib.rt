@@ -135,7 +135,7 @@ fn sift_either(near: &[u16], far: &[u16], x: u64, u: usize, first: usize, chain:
 
 // ---- rows
 
-// Drops the stale pairs of row u, a word at a time.
+// Drops the stale pairs of row u, a word at a time. Words without a pair are passed: most of a row has none.
 fn drop_row(pairs: &mut [u64], hops: &[u16], words: usize, u: usize, chain: u16) -> RowsDropping
     requires { ⌜ HasHops words (now pairs) (now hops) × (u < 64 * words) ⌝ }
     ensures { λ r.
@@ -150,12 +150,16 @@ fn drop_row(pairs: &mut [u64], hops: &[u16], words: usize, u: usize, chain: u16)
     while j < words {
         let i = base + j;
         let old = pairs[i];
-        let left = sift(hops, old, u, 64 * j, chain);
-        pairs[i] = left.word;
-        gone += left.gone;
-        count += left.kept;
-        way = longer(way, left.way);
-        j += 1;
+        if old != 0 {
+            let left = sift(hops, old, u, 64 * j, chain);
+            pairs[i] = left.word;
+            gone += left.gone;
+            count += left.kept;
+            way = longer(way, left.way);
+            j += 1;
+        } else {
+            j += 1;
+        }
     }
     RowsDropping {
         gone: gone,
@@ -186,12 +190,16 @@ fn drop_row_either(
     while j < words {
         let i = base + j;
         let old = pairs[i];
-        let kept = sift_either(near, far, old, u, 64 * j, chain);
-        pairs[i] = kept.word;
-        gone += kept.gone;
-        count += kept.kept;
-        way = longer(way, kept.way);
-        j += 1;
+        if old != 0 {
+            let kept = sift_either(near, far, old, u, 64 * j, chain);
+            pairs[i] = kept.word;
+            gone += kept.gone;
+            count += kept.kept;
+            way = longer(way, kept.way);
+            j += 1;
+        } else {
+            j += 1;
+        }
     }
     RowsDropping {
         gone: gone,

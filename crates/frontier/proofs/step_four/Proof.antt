@@ -49,7 +49,8 @@ returns-2 c =
     let after-keep-four : tie.After-keep-four = search back in
     let after-reach-layer : tie.After-reach-layer = search back in
     four-more _ _ _ _ _ _ _ _ _ (after-reach-layer .reach-layer .ensures) (after-reach-layer .reach-layer .kept .1 .0)
-    (after-keep-four .keep-four .ensures) _ _ _ (after-put-four .put-four .ensures) (after-with-four .with-four .ensures) (after-put-four2 .put-four2 .ensures) (else1 .if1 .left)
+    (after-keep-four .keep-four .ensures) _ _ _ (after-put-four .put-four .ensures) (after-with-four .with-four .ensures)
+    (after-put-four2 .put-four2 .ensures) (else1 .if1 .left)
 
 pub step-four-spec : {M : Type 1} → statement M
 step-four-spec =

@@ -1,6 +1,6 @@
--- `notice::is_digit` meets its contract: each way out has its own stretch of the characters.
+-- `hexadecimal::is_digit` meets its contract: each way out has its own stretch of the characters.
 -- Assumes nothing.
-use Rattle.hexadecimal.proofs.Digits.{digit-too-low, digit-low, digit-between, digit-high}
+use Rattle.hexadecimal.proofs.Digits.{digit-too-low, digit-too-high, digit-low, digit-high}
 use Rattle.hexadecimal.proofs.is_digit.Statement.{statement}
 use Rattle.hexadecimal.proofs.is_digit.Tie as tie
 
@@ -9,6 +9,6 @@ is-digit-spec =
     tie.close
     (tie.spec
     (λ c. search digit-too-low)  -- returns
-    (λ c. search digit-low)  -- returns-2
-    (λ c. search digit-between)  -- returns-3
+    (λ c. search digit-too-high)  -- returns-2
+    (λ c. search digit-low)  -- returns-3
     (λ c. search digit-high))  -- returns-4

@@ -3,7 +3,7 @@
 use Prim.Native.Nat.{_-_, _*_}
 use native.Mathlib.Omega.{arith}
 use Rattle.rows.proofs.Places.{row-fits}
-use Rattle.stale_pairs.proofs.StaleRow.{RowDropping, row-start, row-word, row-end, gone-fits, count-fits}
+use Rattle.stale_pairs.proofs.StaleRow.{RowDropping, row-start, row-word, row-skip, row-end, gone-fits, count-fits}
 use borrow.Author.Needs.{needs}
 use Rattle.stale_pairs.proofs.drop_row.Statement.{statement}
 use Rattle.stale_pairs.proofs.drop_row.Tie as tie
@@ -85,5 +85,7 @@ drop-row-spec =
     (λ c. search gone-fits) (λ c. search count-fits)  -- add-gone, add-count
     (λ c. search needs) (λ c. search needs) (λ c. search needs)  -- longer-requires, add-j, loop-less
     (λ c. search row-word)  -- loop-again
+    (λ c. search needs) (λ c. search needs)  -- add-j-2, loop-less-2
+    (λ c. search row-skip)  -- loop-again-2
     (λ c. search needs)  -- same-length
     returns)

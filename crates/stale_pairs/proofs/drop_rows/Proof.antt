@@ -51,8 +51,8 @@ loop-again c =
     let at-loop : tie.At-loop Inv-loop μ-loop = search in
     let start : tie.Start Inv-loop μ-loop = search in
     rows-bare _ _ _ _
-    (rows-more _ _ _ _ (at-loop .loop .inv) (start .pre .2) (in-loop .loop-test .taken) (after-drop-row-by .drop-row-by .ensures) (after-longer .longer .ensures)
-    (after-drop-row-by .drop-row-by .kept .0))
+    (rows-more _ _ _ _ (at-loop .loop .inv) (start .pre .2) (in-loop .loop-test .taken) (after-drop-row-by .drop-row-by .ensures)
+    (after-longer .longer .ensures) (after-drop-row-by .drop-row-by .kept .0))
     (start .pre .2) (c .next-row2 .ensures)
 
 pub drop-rows-spec : {M : Type 1} → statement M
