@@ -1,6 +1,6 @@
 //! The benchmark: Zorpedi beside a search from every depot (bench/naive.rs) and the best unverified program of the same rules (bench/fast.rs), and the
-//! network reports beside those of bench/survey.rs, all in one run and in turns. `bench/run` builds what it needs and starts it. It prints tables in
-//! Markdown.
+//! network reports beside those of bench/survey.rs and bench/survey_tables.rs, all in one run and in turns. `bench/run` builds what it needs and starts
+//! it. It prints tables in Markdown.
 mod inputs;
 mod instructions;
 mod surveys;
