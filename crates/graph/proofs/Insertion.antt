@@ -78,9 +78,9 @@ module _ (G G' : Network) (a b : ℕ) (at-a : IsGrownAt G G' a) (at-b : IsGrownA
       subst (λ (k : ℕ). IsDist G' u v k) m one
 
 -- opening a depot
-pub opened-grown : (key : ℕ → ℕ) (G : Network) (a : ℕ) (beside : ℕ → Bool) → IsGrownAt G (addDepot key G a beside) a
+pub opened-grown : (key : ℕ → ℕ) (G : Network) (y : Bool) (a : ℕ) (beside : ℕ → Bool) → IsGrownAt G (addDepot key G y a beside) a
 unfolding addDepot
-opened-grown key G a beside = record {
+opened-grown key G y a beside = record {
   more = λ u v l. true→t (or-right ((eqb u a && beside v) || (eqb v a && beside u)) (t→true (G .linked u v) l));
   only = λ u v p q l. rw (ne-eqb u a p, ne-eqb v a q) at l;
 }

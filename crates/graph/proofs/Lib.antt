@@ -22,6 +22,7 @@ pub mod SoundFigures
 pub mod Updates
 pub mod LinkTheorems
 pub mod Lawful
+pub mod Yards
 pub mod Batches
 pub mod Rules
 pub mod Apart

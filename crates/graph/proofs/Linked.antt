@@ -43,7 +43,7 @@ linkable-of G a b ok =
 
 module _ (G : Network) (a b : ℕ) where
   -- a link there is the new one, the new one turned, or an old one
-  either-link : (u v : ℕ) → T (addLink G a b .linked u v) → ((u ≡ a) × (v ≡ b)) ⊎ (((u ≡ b) × (v ≡ a)) ⊎ T (G .linked u v))
+  pub either-link : (u v : ℕ) → T (addLink G a b .linked u v) → ((u ≡ a) × (v ≡ b)) ⊎ (((u ≡ b) × (v ≡ a)) ⊎ T (G .linked u v))
   unfolding addLink
   either-link u v l =
       go (or-true ((eqb u a && eqb v b) || (eqb v a && eqb u b)) (G .linked u v)
@@ -105,6 +105,10 @@ module _ (G : Network) (net : IsNet G) (a b : ℕ) (good : IsLinkable G a b) whe
   unfolding addLink
   open-back v o = o
 
+  same-yards : (v : ℕ) → T (H .isYard v) → T (H .isOpen v)
+  unfolding addLink
+  same-yards = net .sound .yards
+
   link-there : (u v : ℕ) → u ≡ a → v ≡ b → T (H .linked u v)
   unfolding addLink
   link-there u v p q = true→t (or-left (G .linked u v) (or-left (eqb v a && eqb u b) (and-intro (eq-eqb u a p) (eq-eqb v b q))))
@@ -117,6 +121,7 @@ module _ (G : Network) (net : IsNet G) (a b : ℕ) (good : IsLinkable G a b) whe
   linked-sound = record {
     listed = same-listed;
     once = same-once;
+    yards = same-yards;
     ends = λ u v l. open-old v (end u v (either-link G a b u v l));
     loopless = λ u v l. loop u v (either-link G a b u v l);
     symmetric = λ u v l. turn u v (either-link G a b u v l);

@@ -22,8 +22,8 @@ use Rattle.graph.proofs.Walks.{snoc, append, reverse, dist-sym}
 use Rattle.graph.proofs.Distances.{vertices-in}
 use Rattle.graph.proofs.Insertion.{walk-old, insertion, opened-grown}
 use Rattle.graph.proofs.OpeningCases.{IsInserted}
-use Rattle.graph.proofs.Charts.{chart-dist, chart-only}
-use Rattle.graph.proofs.Delivers.{delivers-open}
+use Rattle.graph.proofs.Charts.{depot-in, chart-dist, chart-only}
+use Rattle.graph.proofs.Delivers.{delivers-open, delivers-not, delivers-of}
 
 -- an opening that no refusal hits, with room for one more: the code is closed, the neighbours are open, and there is one unless the map is empty
 pub record IsAdmitted (G : Network) (a : ℕ) (beside : ℕ → Bool) : Type 0 where
@@ -52,9 +52,9 @@ admitted-of G net o room ok =
     some [] (y ∷ ys) m e = absurd (clash (lt-ltb 0 (suc (length ys)) (omega arith)) e)
     some (x ∷ xs) vs m e = (x, in-memb x (x ∷ xs) (List·Memᴰ·head refl))
 
-module _ (key : ℕ → ℕ) (G : Network) (net : IsNet G) (a : ℕ) (beside : ℕ → Bool) (good : IsAdmitted G a beside) where
+module _ (key : ℕ → ℕ) (G : Network) (net : IsNet G) (y : Bool) (a : ℕ) (beside : ℕ → Bool) (good : IsAdmitted G a beside) where
   abbrev H : Network
-  H = addDepot key G a beside
+  H = addDepot key G y a beside
 
   new-listed : (v : ℕ) → H .isOpen v ≡ memb v (vertices H)
   unfolding addDepot
@@ -82,6 +82,19 @@ module _ (key : ℕ → ℕ) (G : Network) (net : IsNet G) (a : ℕ) (beside : �
       go : (eqb v a ≡ true) ⊎ (G .isOpen v ≡ true) → (v ≡ a) ⊎ T (G .isOpen v)
       go (inl h) = inl (eqb-true v a h)
       go (inr h) = inr (true→t h)
+
+  -- a yard is the new depot, or an old one
+  yard-cases : (v : ℕ) → T (H .isYard v) → ((y ≡ true) × (v ≡ a)) ⊎ T (G .isYard v)
+  unfolding addDepot
+  yard-cases v t = go (or-true (y && eqb v a) (G .isYard v) (t→true ((y && eqb v a) || G .isYard v) t))
+    where
+      go : ((y && eqb v a) ≡ true) ⊎ (G .isYard v ≡ true) → ((y ≡ true) × (v ≡ a)) ⊎ T (G .isYard v)
+      go (inl h) = let k = and-true y (eqb v a) h in inl (k .0, eqb-true v a (k .1))
+      go (inr h) = inr (true→t h)
+
+  yard-old : (v : ℕ) → T (G .isYard v) → T (H .isYard v)
+  unfolding addDepot
+  yard-old v t = true→t (or-right (y && eqb v a) (t→true (G .isYard v) t))
 
   link-cases : (u v : ℕ) → T (H .linked u v) → ((u ≡ a) × (beside v ≡ true)) ⊎ (((v ≡ a) × (beside u ≡ true)) ⊎ T (G .linked u v))
   unfolding addDepot
@@ -111,11 +124,16 @@ module _ (key : ℕ → ℕ) (G : Network) (net : IsNet G) (a : ℕ) (beside : �
   opened-sound = record {
     listed = new-listed;
     once = new-once;
+    yards = λ v t. yard v (yard-cases v t);
     ends = λ u v l. end u v (link-cases u v l);
     loopless = λ u v l. loop u v (link-cases u v l);
     symmetric = λ u v l. turn u v (link-cases u v l);
   }
     where
+      yard : (v : ℕ) → ((y ≡ true) × (v ≡ a)) ⊎ T (G .isYard v) → T (H .isOpen v)
+      yard v (inl x) = subst (λ (w : ℕ). T (H .isOpen w)) (sym (x .1)) open-new
+      yard v (inr t) = open-old v (net .sound .yards v t)
+
       end : (u v : ℕ) → ((u ≡ a) × (beside v ≡ true)) ⊎ (((v ≡ a) × (beside u ≡ true)) ⊎ T (G .linked u v)) → T (H .isOpen v)
       end u v (inl x) = open-old v (good .known v (x .1))
       end u v (inr (inl x)) = subst (λ (w : ℕ). T (H .isOpen w)) (sym (x .0)) open-new
@@ -137,7 +155,7 @@ module _ (key : ℕ → ℕ) (G : Network) (net : IsNet G) (a : ℕ) (beside : �
   to-a v (inr o) =
       let w = good .joined v o in
       let p = net .connected v (w .0) o (good .known (w .0) (w .1)) in
-      (suc (p .0), snoc (walk-old G H a (opened-grown key G a beside) (p .1)) (link-to (w .0) a refl (w .1)))
+      (suc (p .0), snoc (walk-old G H a (opened-grown key G y a beside) (p .1)) (link-to (w .0) a refl (w .1)))
 
   opened-few : length (vertices H) < unreached
   unfolding addDepot
@@ -149,24 +167,37 @@ module _ (key : ℕ → ℕ) (G : Network) (net : IsNet G) (a : ℕ) (beside : �
       join : (u v : ℕ) → (k : ℕ) × Walk H k u a → (k : ℕ) × Walk H k v a → (k : ℕ) × Walk H k u v
       join u v p q = (p .0 + q .0, append (p .1) (reverse opened-sound (q .1)))
 
-  -- an old destination stays one; the new depot is one (decision 21), and nothing else is
+  -- an old destination stays one; the new depot is one unless it is a yard, and nothing else is
   pub delivers-old : (v : ℕ) → T (delivers G v) → T (delivers H v)
-  unfolding delivers
-  delivers-old v t = open-old v t
+  delivers-old v t = delivers-of H v (open-old v old) (not→false (H .isYard v) (λ k. go (yard-cases v k)))
+    where
+      old : T (G .isOpen v)
+      old = delivers-open G v t
+
+      go : ((y ≡ true) × (v ≡ a)) ⊎ T (G .isYard v) → ⊥
+      go (inl x) = not-a v old (x .1)
+      go (inr k) = false→not (delivers-not G v t) k
 
   delivers-back : (v : ℕ) → T (delivers H v) → (v ≡ a) ⊎ T (delivers G v)
-  unfolding delivers
-  delivers-back v t = open-cases v t
+  delivers-back v t = go (open-cases v (delivers-open H v t))
+    where
+      go : (v ≡ a) ⊎ T (G .isOpen v) → (v ≡ a) ⊎ T (delivers G v)
+      go (inl q) = inl q
+      go (inr o) = inr (delivers-of G v o (not→false (G .isYard v) (λ k. false→not (delivers-not H v t) (yard-old v k))))
 
-  pub delivers-new : T (delivers H a)
-  unfolding delivers
-  delivers-new = open-new
+  pub delivers-new : delivers H a ≡ not y
+  unfolding delivers addDepot
+  delivers-new = rw (eq-eqb a a refl, not→false (G .isYard a) (λ k. not-a a (net .sound .yards a k) refl)) (go y)
+    where
+      go : (b : Bool) → not ((b && true) || false) ≡ not b
+      go true = refl
+      go false = refl
 
   -- the chart after is the chart before with a inserted
   pub inserted : IsInserted (chart G) (chart H) a
   unfolding chart
   inserted = record {
-    new = t→true (delivers H a) delivers-new;
+    inside = depot-in H opened-net a open-new;
     fresh = not→false (delivers G a) (λ t. not-a a (delivers-open G a t) refl);
     old = λ v t. t→true (delivers H v) (delivers-old v (true→t t));
     back = λ v t. back v (delivers-back v (true→t t));
@@ -180,4 +211,4 @@ module _ (key : ℕ → ℕ) (G : Network) (net : IsNet G) (a : ℕ) (beside : �
       thru : (u v : ℕ) → T (G .isOpen u) → T (G .isOpen v) → chart H .distance u v ≡ min (chart G .distance u v) (chart H .distance a u + chart H .distance a v)
       thru u v ou ov =
           chart-only H opened-net u v (min (chart G .distance u v) (chart H .distance a u + chart H .distance a v)) (open-old u ou) (open-old v ov)
-          (insertion G H a (opened-grown key G a beside) (not-a u ou) (chart-dist G net u v ou ov) (dist-sym opened-sound (chart-dist H opened-net a u open-new (open-old u ou))) (chart-dist H opened-net a v open-new (open-old v ov)))
+          (insertion G H a (opened-grown key G y a beside) (not-a u ou) (chart-dist G net u v ou ov) (dist-sym opened-sound (chart-dist H opened-net a u open-new (open-old u ou))) (chart-dist H opened-net a v open-new (open-old v ov)))

@@ -6,7 +6,7 @@ use mathlib.Core.List.{List, List·Memᴰ}
 use Prim.Native.Nat.{ℕ, _<_, min}
 use native.Mathlib.Nat.{lt-irrefl}
 use native.Mathlib.Omega.{arith}
-use lib.Dec.{T, eqb, ltb}
+use lib.Dec.{T, ltb}
 use borrow.Author.Tests.{ltb-true, lt-ltb, not-false}
 use Rattle.lists.specs.Lists.{range, anyb, countb, maxOf}
 use Rattle.lists.proofs.Counts.{max-ext}
@@ -15,8 +15,8 @@ use Rattle.lists.proofs.Members.{any-intro}
 use Rattle.lists.proofs.Distinct.{memb-range, distinct-range, count-either}
 use Rattle.graph.specs.Network.{Network, IsSound}
 use Rattle.graph.specs.Distance.{vertices}
-use Rattle.graph.specs.Chart.{Chart, chart, ecc, Pairs}
-use Rattle.graph.specs.Opening.{via, stayingPairs, anyPair, shrunkCandidate, openCase, opening}
+use Rattle.graph.specs.Chart.{Chart, chart, Pairs}
+use Rattle.graph.specs.Opening.{via, stayingPairs, anyPair, shrunkCandidate, growsBy, keptBy, openCase, opening}
 use Rattle.outcome.specs.declared.Change.the-variants.{Shrank}
 
 -- rule 1.7: the degree is that of the whole row, with all neighbours, those that were searched or skipped included
@@ -38,7 +38,7 @@ any-out p xs e x m = go (look (p x))
 module _ (C : Chart) (a D : ℕ) (P : Pairs) where
   none-stays : opening C a D P .change ≡ Shrank → anyPair (C .depots) (stayingPairs (via C a) D P) ≡ false
   unfolding opening openCase
-  none-stays = go (ltb D (ecc C a)) (eqb (ecc C a) D) (anyPair (C .depots) (stayingPairs (via C a) D P))
+  none-stays = go (growsBy C a D) (keptBy C a D) (anyPair (C .depots) (stayingPairs (via C a) D P))
     where
       never : {A : Type 0} → _≡_ {A = ℕ} 0 1 → A
       never z = absurd (lt-irrefl 0 (omega arith))

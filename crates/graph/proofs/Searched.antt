@@ -6,7 +6,7 @@ use mathlib.Core.List.{List, [], _∷_, List·Memᴰ, Memᴰ·cast}
 use Prim.Native.Nat.{ℕ, _+_, _≤_, _<_, zero-le}
 use native.Mathlib.Nat.{le-refl, le-trans, le-of-lt, lt-irrefl}
 use native.Mathlib.Omega.{arith}
-use lib.Dec.{eqb, ltb}
+use lib.Dec.{eqb}
 use lib.ListN.{length}
 use borrow.Author.Tests.{eqb-true, ne-eqb}
 use Rattle.lists.specs.Lists.{anyb, memb}
@@ -16,7 +16,7 @@ use Rattle.lists.proofs.Distinct.{IsCounted, counted-nil, counted-snoc}
 use Rattle.graph.specs.Distance.{unreached}
 use Rattle.graph.specs.Chart.{Chart, ecc, Pairs, ownPairs}
 use Rattle.graph.specs.Rounds.{Status, waiting, skipped, searched, isWaiting, State, round, rounds, start, reckon}
-use Rattle.graph.specs.Opening.{via, stayingPairs, anyPair, shrunkCandidate, searchedOnce, openCase, opening}
+use Rattle.graph.specs.Opening.{via, stayingPairs, anyPair, shrunkCandidate, searchedOnce, growsBy, keptBy, openCase, opening}
 use Rattle.graph.specs.Linking.{viaEither, pairsLeft, searchedTwice, firstTwo, linkCase, linking}
 use Rattle.outcome.specs.declared.Change.the-variants.{Shrank}
 use Rattle.graph.proofs.Metric.{IsMetric, ecc-small}
@@ -90,10 +90,7 @@ module _ (C : Chart) (metric : IsMetric C) where
 
   -- ---- an opening
 
-  module _ (a : ℕ) (new : C .isDestination a ≡ true) (D : ℕ) (small : D ≤ unreached) (P : Pairs) where
-    in-a : List·Memᴰ a (C .depots)
-    in-a = metric .inside a new
-
+  module _ (a : ℕ) (in-a : List·Memᴰ a (C .depots)) (D : ℕ) (small : D ≤ unreached) (P : Pairs) where
     candidate-small : shrunkCandidate (C .depots) (via C a) D P ≤ unreached
     candidate-small = le-trans (candidate-le-chain (C .depots) (via C a) D P) small
 
@@ -122,7 +119,7 @@ module _ (C : Chart) (metric : IsMetric C) where
 
     pub opening-references : ReferencesIn C (opening C a D P .final)
     unfolding opening openCase shrunk
-    opening-references = go (ltb D (ecc C a)) (eqb (ecc C a) D) (anyPair (C .depots) (stayingPairs (via C a) D P))
+    opening-references = go (growsBy C a D) (keptBy C a D) (anyPair (C .depots) (stayingPairs (via C a) D P))
       where
         go : (b s k : Bool) → ReferencesIn C (openCase b s k C a D P .final)
         go true s k = once-references (ecc C a) (ownPairs C a (ecc C a))
@@ -133,7 +130,7 @@ module _ (C : Chart) (metric : IsMetric C) where
     -- after a shrink the rounds have ended
     pub opening-settled : opening C a D P .change ≡ Shrank → Invariant C metric unreached (opening C a D P .final) × (waitingCount C metric (opening C a D P .final) ≡ 0)
     unfolding opening openCase shrunk
-    opening-settled = go (ltb D (ecc C a)) (eqb (ecc C a) D) (anyPair (C .depots) (stayingPairs (via C a) D P))
+    opening-settled = go (growsBy C a D) (keptBy C a D) (anyPair (C .depots) (stayingPairs (via C a) D P))
       where
         never : {A : Type 0} → _≡_ {A = ℕ} 0 1 → A
         never z = absurd (lt-irrefl 0 (omega arith))

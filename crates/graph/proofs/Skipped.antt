@@ -5,7 +5,7 @@ use mathlib.Core.Bool.{Bool, true, false, cond, not, _||_}
 use mathlib.Core.List.{List, [], _∷_, _++_}
 use mathlib.Core.Option.{Option, none, some}
 use Prim.Native.Nat.{ℕ, zero, suc, _≤_, _<_}
-use lib.Dec.{T, eqb, ltb}
+use lib.Dec.{T, eqb}
 use lib.ListN.{length}
 use borrow.Author.Tests.{not-true}
 use Rattle.lists.specs.Lists.{anyb, memb, firstOf}
@@ -16,7 +16,7 @@ use Rattle.graph.specs.Network.{Network}
 use Rattle.graph.specs.Distance.{vertices, unreached}
 use Rattle.graph.specs.Chart.{Chart, chart, ecc, Pairs, ownPairs}
 use Rattle.graph.specs.Rounds.{Status, waiting, skipped, searched, isWaiting, State, round, pick, remaining, orStop, rounds, start, reckon}
-use Rattle.graph.specs.Opening.{Notice, byCode, withDepot, openFaults, stayingPairs, anyPair, shrunkCandidate, searchedOnce, openCase, opening, via}
+use Rattle.graph.specs.Opening.{Notice, byCode, withDepot, openFaults, stayingPairs, anyPair, shrunkCandidate, searchedOnce, growsBy, keptBy, openCase, opening, via}
 use Rattle.graph.specs.Linking.{viaEither, pairsLeft, searchedTwice, unskippedRound, firstTwo, linkCase, linking}
 use Rattle.outcome.specs.declared.Change.the-variants.{Shrank}
 use Rattle.graph.specs.Correct.{IsNet, IsSkipped, AllSkipped, AreAlone, IsSettled}
@@ -78,7 +78,7 @@ module _ (C : Chart) where
   module _ (a D : ℕ) (P : Pairs) where
     opening-first : (rs : List ℕ) × (opening C a D P .final .references ≡ a ∷ rs)
     unfolding opening openCase searchedOnce round start
-    opening-first = go (ltb D (ecc C a)) (eqb (ecc C a) D) (anyPair (C .depots) (stayingPairs (via C a) D P))
+    opening-first = go (growsBy C a D) (keptBy C a D) (anyPair (C .depots) (stayingPairs (via C a) D P))
       where
         go : (b s k : Bool) → (rs : List ℕ) × (openCase b s k C a D P .final .references ≡ a ∷ rs)
         go true s k = ([], refl)
@@ -95,7 +95,7 @@ module _ (C : Chart) where
 
     opening-once : (opening C a D P .change ≡ Shrank → ⊥) → AreAlone (a ∷ []) (opening C a D P .final)
     unfolding opening openCase
-    opening-once = go (ltb D (ecc C a)) (eqb (ecc C a) D) (anyPair (C .depots) (stayingPairs (via C a) D P))
+    opening-once = go (growsBy C a D) (keptBy C a D) (anyPair (C .depots) (stayingPairs (via C a) D P))
       where
         go : (b s k : Bool) → (openCase b s k C a D P .change ≡ Shrank → ⊥) → AreAlone (a ∷ []) (openCase b s k C a D P .final)
         go true s k n = once (ecc C a) (ownPairs C a (ecc C a))
@@ -141,12 +141,12 @@ module _ (G : Network) (net : IsNet G) (o : Notice) (room : suc (length (vertice
   unfolding withDepot
   opening-says =
       let good = admitted-of G net o room ok in
-      let after = opened-net byCode G net (o .code) beside good in
+      let after = opened-net byCode G net (o .yard) (o .code) beside good in
       record {
         later = opening-first (chart H) (o .code) D P .0;
         first = opening-first (chart H) (o .code) D P .1;
         alone = opening-once (chart H) (o .code) D P;
         skipped = λ q.
-            let s = opening-settled (chart H) (chart-metric H after) (o .code) (inserted byCode G net (o .code) beside good .new) D small P q in
+            let s = opening-settled (chart H) (chart-metric H after) (o .code) (inserted byCode G net (o .yard) (o .code) beside good .inside) D small P q in
             settled-skipped H after (opening (chart H) (o .code) D P .final) (s .0) (s .1);
       }

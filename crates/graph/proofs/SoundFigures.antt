@@ -14,7 +14,7 @@ use Rattle.graph.specs.Network.{Network, IsDist, delivers}
 use Rattle.graph.specs.Distance.{vertices}
 use Rattle.graph.specs.Chart.{Chart, chart, ecc, Pairs, ownPairs}
 use Rattle.graph.specs.Rounds.{State, raise, joinPairs, round, pick, remaining, orStop, rounds, start}
-use Rattle.graph.specs.Opening.{via, stayingPairs, anyPair, shrunkCandidate, searchedOnce, openCase, opening}
+use Rattle.graph.specs.Opening.{via, stayingPairs, anyPair, shrunkCandidate, searchedOnce, growsBy, keptBy, openCase, opening}
 use Rattle.graph.specs.Linking.{viaEither, pairsLeft, searchedTwice, unskippedRound, firstTwo, linkCase, linking}
 use Rattle.graph.specs.Correct.{IsNet}
 use Rattle.graph.proofs.Delivers.{delivers-open}
@@ -98,19 +98,24 @@ module _ (C : Chart) (metric : IsMetric C) where
 
     -- ---- AN OPENING
 
-    module _ (a : ℕ) (new : C .isDestination a ≡ true) (D : ℕ) (P : Pairs) (were : SoundIn C limit D P) where
+    -- only a destination makes the chain grow
+    grown-new : (a D : ℕ) → growsBy C a D ≡ true → C .isDestination a ≡ true
+    unfolding growsBy
+    grown-new a D p = and-true (C .isDestination a) (ltb D (ecc C a)) p .0
+
+    module _ (a D : ℕ) (P : Pairs) (were : SoundIn C limit D P) where
       pub opening-sound : SoundIn C limit (opening C a D P .final .candidate) (opening C a D P .final .pairs)
       unfolding opening openCase searchedOnce
-      opening-sound = go (ltb D (ecc C a)) (eqb (ecc C a) D) (anyPair (C .depots) (stayingPairs (via C a) D P))
+      opening-sound = go (growsBy C a D) (keptBy C a D) (anyPair (C .depots) (stayingPairs (via C a) D P)) (grown-new a D)
         where
-          go : (b s k : Bool) → SoundIn C limit (openCase b s k C a D P .final .candidate) (openCase b s k C a D P .final .pairs)
-          go true s k = record { below = most a new; pairs = own-rising a (ecc C a) }
-          go false true k = record {
+          go : (b s k : Bool) → (b ≡ true → C .isDestination a ≡ true) → SoundIn C limit (openCase b s k C a D P .final .candidate) (openCase b s k C a D P .final .pairs)
+          go true s k new = record { below = most a (new refl); pairs = own-rising a (ecc C a) }
+          go false true k new = record {
             below = were .below;
             pairs = or-rising (stayingPairs (via C a) D P) (ownPairs C a D) (staying-rising (via C a) D P (were .pairs)) (own-rising a D);
           }
-          go false false true = record { below = were .below; pairs = staying-rising (via C a) D P (were .pairs) }
-          go false false false =
+          go false false true new = record { below = were .below; pairs = staying-rising (via C a) D P (were .pairs) }
+          go false false false new =
               let S = start (shrunkCandidate (C .depots) (via C a) D P) in
               rounds-sound (length (C .depots)) (round C a S) (round-sound a S (shrunk-sound (via C a) D P were))
 

@@ -1,7 +1,7 @@
 -- THE THEOREMS of this crate, by the published words. specs/Correct.antt has what they say. Assumes nothing.
 use mathlib.Core.Path.{_≡_, sym, ap, _∙_, subst, fun-ext}
 use mathlib.Core.Logic.{_↔_}
-use mathlib.Core.Bool.{Bool, true, not}
+use mathlib.Core.Bool.{Bool, not}
 use Prim.Native.Nat.{ℕ, suc, _+_, _≤_, _<_}
 use native.Mathlib.Omega.{arith}
 use lib.Dec.{T}
@@ -16,6 +16,7 @@ use Rattle.graph.specs.Chart.{chart, ecc, diameter, Pairs, farthest}
 use Rattle.graph.specs.Rounds.{Status, waiting, skipped, searched, State, reckon}
 use Rattle.graph.specs.Opening.{Notice, byCode, withDepot, openFaults, opening}
 use Rattle.graph.specs.Correct.{IsNet, Stands, AreReferences, AllCovered, IsReckoned, IsSearched, IsOpened}
+use Rattle.graph.proofs.Delivers.{delivers-open}
 use Rattle.graph.proofs.Distances.{dist-below}
 use Rattle.graph.proofs.Connected.{hop-open}
 use Rattle.graph.proofs.Metric.{ecc-bound}
@@ -98,7 +99,8 @@ module _ (G : Network) (net : IsNet G) where
       go v ov (searched e) f = (true→t (f .0), subst (λ (n : ℕ). IsEcc G (delivers G) v n) (sym (f .1)) (chart-ecc G net v ov))
 
   pub cover-of : (S : State) → ReferencesIn (chart G) S → CoveredIn (chart G) S → AllCovered G S
-  cover-of S R cover v ov n =
+  cover-of S R cover v tv n =
+      let ov = delivers-open G v tv in
       let x = cover v (depot-in G net v ov) (not-true (memb v (S .references)) (t→true (not (memb v (S .references))) n)) in
       let og = depot-out G net (R .inside (x .0) (x .1)) in
       record {
@@ -145,23 +147,20 @@ module _ (G : Network) (net : IsNet G) (o : Notice) (room : suc (length (vertice
 
   pub net-after : IsNet (withDepot G o)
   unfolding withDepot
-  net-after = opened-net byCode G net (o .code) beside good
+  net-after = opened-net byCode G net (o .yard) (o .code) beside good
 
   inserted-a : IsInserted (chart G) (chart H) (o .code)
   unfolding withDepot
-  inserted-a = inserted byCode G net (o .code) beside good
-
-  new : chart H .isDestination (o .code) ≡ true
-  new = inserted-a .new
+  inserted-a = inserted byCode G net (o .yard) (o .code) beside good
 
   -- whatever figures were stored: references, and the cover after a shrink
   pub opening-covered : D ≤ unreached → IsSearched H (opening (chart H) a D P)
   opening-covered small =
       let m = chart-metric H net-after in
-      let R = opening-references (chart H) m a new D small P in
+      let R = opening-references (chart H) m a (inserted-a .inside) D small P in
       record {
         references = references-of H net-after (opening (chart H) a D P .final) R;
-        cover = λ q. cover-of H net-after (opening (chart H) a D P .final) R (opening-cover (chart H) m a new D small P q);
+        cover = λ q. cover-of H net-after (opening (chart H) a D P .final) R (opening-cover (chart H) m a (inserted-a .inside) D small P q);
       }
 
   module _ (were : AreTrue G (delivers G) D P) where

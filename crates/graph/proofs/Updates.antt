@@ -58,7 +58,7 @@ module _ (G : Network) (net : IsNet G) (o : Notice) (room : suc (length (vertice
     settled = λ D P small. opening-says G net o room ok D small P;
     sound = λ limit D P few s.
         sound-out H limit (opening (chart H) (o .code) D P .final .candidate) (opening (chart H) (o .code) D P .final .pairs)
-        (opening-sound (chart H) (chart-metric H after) limit (below-limit H after limit few) (o .code) (was .new) D P
+        (opening-sound (chart H) (chart-metric H after) limit (below-limit H after limit few) (o .code) D P
         (sound-more G H (was .old) limit D P (sound-in G limit D P s)));
   }
     where
@@ -69,4 +69,4 @@ module _ (G : Network) (net : IsNet G) (o : Notice) (room : suc (length (vertice
       after = net-after G net o room ok 0 (ownPairs (chart G) 0 0)
 
       was : IsInserted (chart G) (chart H) (o .code)
-      was = inserted byCode G net (o .code) (λ v. memb v (o .neighbours)) (admitted-of G net o room ok)
+      was = inserted byCode G net (o .yard) (o .code) (λ v. memb v (o .neighbours)) (admitted-of G net o room ok)

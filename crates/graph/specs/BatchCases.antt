@@ -22,7 +22,7 @@ caseOf es =
 
 -- two notices for 9, the first of which waits for 5. After 5 has opened, the scan starts again: 9 is linked to 5, and not to 0
 abbrev pub twice : List Entry
-twice = entryOf 0 (noticeOf 9 (5 ∷ [])) ∷ entryOf 1 (noticeOf 5 (0 ∷ [])) ∷ entryOf 2 (noticeOf 9 (0 ∷ [])) ∷ []
+twice = entryOf 0 (noticeOf false 9 (5 ∷ [])) ∷ entryOf 1 (noticeOf false 5 (0 ∷ [])) ∷ entryOf 2 (noticeOf false 9 (0 ∷ [])) ∷ []
 
 pub twice-first : caseOf twice ≡ record { accepted = 1 ∷ 0 ∷ []; left = 2 ∷ []; codes = 0 ∷ 5 ∷ 9 ∷ []; once = 0 ∷ 5 ∷ 9 ∷ [] }
 unfolding caseOf
@@ -33,19 +33,19 @@ unfolding batchOf path
 twice-links = refl
 
 -- a chain in reversed order, each beside the one behind it: all are taken, from the last to the first; offered once, only the last would be
-pub reversed : caseOf (entryOf 0 (noticeOf 3 (2 ∷ [])) ∷ entryOf 1 (noticeOf 2 (1 ∷ [])) ∷ entryOf 2 (noticeOf 1 (0 ∷ [])) ∷ [])
+pub reversed : caseOf (entryOf 0 (noticeOf false 3 (2 ∷ [])) ∷ entryOf 1 (noticeOf false 2 (1 ∷ [])) ∷ entryOf 2 (noticeOf false 1 (0 ∷ [])) ∷ [])
     ≡ record { accepted = 2 ∷ 1 ∷ 0 ∷ []; left = []; codes = 0 ∷ 1 ∷ 2 ∷ 3 ∷ []; once = 0 ∷ 1 ∷ [] }
 unfolding caseOf
 reversed = refl
 
 -- lonely, unsorted, unknown and taken are left over, in the given order, however often the scan starts again; so is one of two that wait for each other
 pub never-fits : caseOf (
-    entryOf 0 (noticeOf 8 [])
-    ∷ entryOf 1 (noticeOf 7 (1 ∷ 0 ∷ []))
-    ∷ entryOf 2 (noticeOf 1 (0 ∷ []))
-    ∷ entryOf 3 (noticeOf 6 (5 ∷ []))
-    ∷ entryOf 4 (noticeOf 0 (1 ∷ []))
-    ∷ entryOf 5 (noticeOf 5 (6 ∷ []))
+    entryOf 0 (noticeOf false 8 [])
+    ∷ entryOf 1 (noticeOf false 7 (1 ∷ 0 ∷ []))
+    ∷ entryOf 2 (noticeOf false 1 (0 ∷ []))
+    ∷ entryOf 3 (noticeOf false 6 (5 ∷ []))
+    ∷ entryOf 4 (noticeOf false 0 (1 ∷ []))
+    ∷ entryOf 5 (noticeOf false 5 (6 ∷ []))
     ∷ [])
     ≡ record { accepted = 2 ∷ []; left = 0 ∷ 1 ∷ 3 ∷ 4 ∷ 5 ∷ []; codes = 0 ∷ 1 ∷ []; once = 0 ∷ 1 ∷ [] }
 unfolding caseOf

@@ -14,7 +14,7 @@ use Rattle.graph.specs.Distance.{vertices}
 use Rattle.graph.specs.Chart.{chart, Pairs, countPairs}
 use Rattle.graph.specs.Summary.{distanceSum, pairNumber, eccCount}
 use Rattle.graph.specs.Rounds.{markOf, boundOf, reckon}
-use Rattle.graph.specs.Opening.{emptyNetwork, addDepot}
+use Rattle.graph.specs.Opening.{noticeOf, emptyNetwork, addDepot}
 use Rattle.graph.specs.Updates.{Update, opens, updateFaults, applied, steps}
 
 -- the depot u with each of the depots that P pairs it with
@@ -38,7 +38,7 @@ pairList vs P = pairsFrom P vs vs
 -- the path 0-1-..-(k - 1)
 unfoldable pub path : ℕ → Network
 unfolding range
-path k = record { depots = range k; isOpen = λ c. ltb c k; linked = λ u v. ltb u k && ltb v k && (eqb (suc u) v || eqb u (suc v)) }
+path k = record { depots = range k; isOpen = λ c. ltb c k; isYard = λ c. false; linked = λ u v. ltb u k && ltb v k && (eqb (suc u) v || eqb u (suc v)) }
 
 -- references in order; marks and bounds of the open depots; chain; pairs
 pub record ReckoningCase : Type 0 where
@@ -95,8 +95,8 @@ unfoldable pub listedByKey : Network
 unfolding emptyNetwork addDepot
 listedByKey =
     let key : ℕ → ℕ = λ v. getD (30 ∷ 10 ∷ 20 ∷ []) v 0 in
-    let one = addDepot key emptyNetwork 0 (λ v. false) in
-    addDepot key (addDepot key one 1 (λ v. eqb v 0)) 2 (λ v. eqb v 0)
+    let one = addDepot key emptyNetwork false 0 (λ v. false) in
+    addDepot key (addDepot key one false 1 (λ v. eqb v 0)) false 2 (λ v. eqb v 0)
 
 pub listing : listedByKey .depots ≡ 1 ∷ 2 ∷ 0 ∷ []
 unfolding listedByKey
@@ -147,13 +147,13 @@ noDepot = record { net = emptyNetwork; chain = 0; pairs = λ u v. false }
 
 abbrev pub sevenLines : List Update
 sevenLines =
-    opens (record { code = 0; neighbours = [] })
-    ∷ opens (record { code = 1; neighbours = 0 ∷ [] })
-    ∷ opens (record { code = 2; neighbours = 1 ∷ [] })
-    ∷ opens (record { code = 3; neighbours = 2 ∷ [] })
-    ∷ opens (record { code = 4; neighbours = 3 ∷ [] })
-    ∷ opens (record { code = 5; neighbours = 0 ∷ 2 ∷ 4 ∷ [] })
-    ∷ opens (record { code = 5; neighbours = 0 ∷ 2 ∷ 4 ∷ [] })
+    opens (noticeOf false 0 [])
+    ∷ opens (noticeOf false 1 (0 ∷ []))
+    ∷ opens (noticeOf false 2 (1 ∷ []))
+    ∷ opens (noticeOf false 3 (2 ∷ []))
+    ∷ opens (noticeOf false 4 (3 ∷ []))
+    ∷ opens (noticeOf false 5 (0 ∷ 2 ∷ 4 ∷ []))
+    ∷ opens (noticeOf false 5 (0 ∷ 2 ∷ 4 ∷ []))
     ∷ []
 
 -- THE TABLE

@@ -46,9 +46,9 @@ pub record AreReferences (G : Network) (S : State) : Type 0 where
   pub distinct : length (S .references) ≡ countb (λ v. memb v (S .references)) (vertices G)
   pub stands : (v : ℕ) → T (G .isOpen v) → Stands G (S .references) v (S .status v)
 
--- every depot that was not searched is covered
+-- every depot that delivers and was not searched is covered; of yards no cover is claimed
 abbrev pub AllCovered : Network → State → Type 0
-AllCovered G S = (v : ℕ) → T (G .isOpen v) → T (not (memb v (S .references))) → IsCovered G (S .references) (S .candidate) v
+AllCovered G S = (v : ℕ) → T (delivers G v) → T (not (memb v (S .references))) → IsCovered G (S .references) (S .candidate) v
 
 -- The depot v was skipped by right: its bound is the reference's eccentricity and the distance to v, added, and that is below the chain.
 pub record IsSkipped (G : Network) (references : List ℕ) (chain v reference bound : ℕ) : Type 0 where

@@ -15,19 +15,23 @@ pub mod Linking
 pub mod Correct
 -- 8. what a call asks of the network, and what each kind of update owes
 pub mod Updates
--- 9. openings handed over together
+-- 9. what yards change in the steps, and what stands where there are none; `openingByEcc` is the opening as it stood before there were yards
+pub mod Yards
+-- 10. openings handed over together
 pub mod Batch
--- 10. the refusals that speak of the network alone, by the words of 1
+-- 11. the refusals that speak of the network alone, by the words of 1
 pub mod Refusals
--- 11. depots near one: within so many links, and the nearest of a list
+-- 12. depots near one: within so many links, and the nearest of a list
 pub mod Nearby
--- 12. the sum of distances over the pairs, their number, and the depots of each eccentricity
+-- 13. the sum of distances over the pairs, their number, and the depots of each eccentricity
 pub mod Summary
--- 13. the worked cases of the rules, computed; crate `cases` cites their inputs (`path`, `sevenLines`) and `AnswerLine`
+-- 14. the worked cases of the rules, computed; crate `cases` cites their inputs (`path`, `sevenLines`) and `AnswerLine`
 pub mod Cases
--- 14. further cases, one for each rule that those leave open. Nobody has to believe this file
+-- 15. further cases, one for each rule that those leave open. Nobody has to believe this file
 pub mod RuleCases
--- 15. links worked by hand. Nobody has to believe this file
+-- 16. links worked by hand. Nobody has to believe this file
 pub mod LinkCases
--- 16. batches worked by hand. Nobody has to believe this file
+-- 17. batches worked by hand. Nobody has to believe this file
 pub mod BatchCases
+-- 18. yards worked by hand. Nobody has to believe this file
+pub mod YardCases

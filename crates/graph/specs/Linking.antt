@@ -20,6 +20,7 @@ unfoldable pub addLink : Network → ℕ → ℕ → Network
 addLink G a b = record {
   depots = G .depots;
   isOpen = G .isOpen;
+  isYard = G .isYard;
   linked = λ u v. (eqb u a && eqb v b) || (eqb v a && eqb u b) || G .linked u v;
 }
 

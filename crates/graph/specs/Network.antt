@@ -1,26 +1,32 @@
 -- THE PUBLISHED DEFINITIONS (rules 2.1 to 2.3): a network of depots, walks, distance, eccentricity, diameter (the trade's longest chain) and
--- farthest pairs.
+-- farthest pairs; and transit yards, where chains run through and none begins or ends.
 -- Assumes nothing.
 use mathlib.Core.Path.{_≡_}
 use mathlib.Core.Logic.{_⊎_, _↔_}
-use mathlib.Core.Bool.{Bool, true}
+use mathlib.Core.Bool.{Bool, true, false, not, _&&_}
 use mathlib.Core.List.{List}
 use Prim.Native.Nat.{ℕ, zero, suc, _≤_, _<_}
 use lib.Dec.{T}
 use Rattle.lists.specs.Lists.{memb, distinct}
 
 -- An undirected, unweighted network: its open depots, listed in the order in which ties are settled (the earlier one wins); which depots are open,
--- and which two are linked (adjacent).
+-- which of these are yards, and which two are linked (adjacent).
 pub record Network : Type 0 where
   pub depots : List ℕ
   pub isOpen : ℕ → Bool
+  pub isYard : ℕ → Bool
   pub linked : ℕ → ℕ → Bool
 
--- A sound network is a simple graph: the open depots are those listed, each once; links join two different open depots, both ways round.
--- Of the order nothing is asked: no figure depends on it.
+-- the same network with the yards that Y tells
+abbrev pub withYards : (ℕ → Bool) → Network → Network
+withYards Y G = record { depots = G .depots; isOpen = G .isOpen; isYard = Y; linked = G .linked }
+
+-- A sound network is a simple graph: the open depots are those listed, each once; yards are open; links join two different open depots, both ways
+-- round. Of the order nothing is asked: no figure depends on it.
 pub record IsSound (G : Network) : Type 0 where
   pub listed : (u : ℕ) → G .isOpen u ≡ memb u (G .depots)
   pub once : distinct (G .depots) ≡ true
+  pub yards : (u : ℕ) → T (G .isYard u) → T (G .isOpen u)
   pub ends : (u v : ℕ) → T (G .linked u v) → T (G .isOpen v)
   pub loopless : (u v : ℕ) → T (G .linked u v) → u ≡ v → ⊥
   pub symmetric : (u v : ℕ) → T (G .linked u v) → T (G .linked v u)
@@ -44,9 +50,13 @@ pub record IsGreatest (P : ℕ → Type 0) (m : ℕ) : Type 0 where
   pub upper : (k : ℕ) → P k → k ≤ m
   pub attained : (m ≡ 0) ⊎ P m
 
--- the destinations, between which chains are counted: by the rules every open depot is one (decision 21)
+-- the destinations, between which chains are counted: the open depots that are no yards. A chain may run through yards
 unfoldable pub delivers : Network → ℕ → Bool
-delivers G v = G .isOpen v
+delivers G v = G .isOpen v && not (G .isYard v)
+
+-- no depot is a yard: every open one delivers (`no-yard-delivers`, proofs/Yards)
+abbrev pub HasNoYard : Network → Type 0
+HasNoYard G = (v : ℕ) → G .isYard v ≡ false
 
 -- Q tells the destinations: of a network they are `delivers G`.
 -- The eccentricity of u is e: the greatest distance from u to a destination.

@@ -1,4 +1,4 @@
--- THE OPENING OF A DEPOT (rules 4.1 to 4.6), over the network itself: no word, no table.
+-- THE OPENING OF A DEPOT (rules 4.1 to 4.6), one that delivers or a yard, over the network itself: no word, no table.
 -- Assumes nothing.
 use mathlib.Core.Bool.{Bool, true, false, cond, not, _&&_, _||_}
 use mathlib.Core.List.{List, [], _∷_}
@@ -16,22 +16,25 @@ use Rattle.graph.specs.Rounds.{waiting, searched, State, round, rounds, 
 
 -- ---- notices
 
+-- being a yard is part of the notice
 pub record Notice : Type 0 where
+  pub yard : Bool
   pub code : ℕ
   pub neighbours : List ℕ
 
-abbrev pub noticeOf : ℕ → List ℕ → Notice
-noticeOf code neighbours = record { code = code; neighbours = neighbours }
+abbrev pub noticeOf : Bool → ℕ → List ℕ → Notice
+noticeOf yard code neighbours = record { yard = yard; code = code; neighbours = neighbours }
 
 unfoldable pub emptyNetwork : Network
-emptyNetwork = record { depots = []; isOpen = λ c. false; linked = λ u v. false }
+emptyNetwork = record { depots = []; isOpen = λ c. false; isYard = λ c. false; linked = λ u v. false }
 
--- the network with the depot a, linked to those that `beside` tells and listed by its key
-unfoldable pub addDepot : (ℕ → ℕ) → Network → ℕ → (ℕ → Bool) → Network
+-- the network with the depot a, a yard if y says so, linked to those that `beside` tells and listed by its key
+unfoldable pub addDepot : (ℕ → ℕ) → Network → Bool → ℕ → (ℕ → Bool) → Network
 unfolding insertBy
-addDepot key G a beside = record {
+addDepot key G y a beside = record {
   depots = insertBy key a (G .depots);
   isOpen = λ c. eqb c a || G .isOpen c;
+  isYard = λ c. (y && eqb c a) || G .isYard c;
   linked = λ u v. (eqb u a && beside v) || (eqb v a && beside u) || G .linked u v;
 }
 
@@ -42,7 +45,7 @@ byCode c = c
 -- the network with the depot of a notice
 unfoldable pub withDepot : Network → Notice → Network
 unfolding addDepot memb
-withDepot G o = addDepot byCode G (o .code) (λ v. memb v (o .neighbours))
+withDepot G o = addDepot byCode G (o .yard) (o .code) (λ v. memb v (o .neighbours))
 
 unfoldable pub strictlyRising : List ℕ → Bool
 strictlyRising [] = true
@@ -102,7 +105,17 @@ searchedOnce C a c Q = record {
   references = a ∷ [];
 }
 
--- by the three tests of rules 4.2 and 4.3: e(a) > D; e(a) = D; a stored pair stays
+-- whether the chain D grows by the opening of a (rule 4.2): e(a) > D. A yard makes no chain grow
+unfoldable pub growsBy : Chart → ℕ → ℕ → Bool
+unfolding ecc
+growsBy C a D = C .isDestination a && ltb D (ecc C a)
+
+-- whether it is kept whatever pairs stay: e(a) = D. A yard's eccentricity keeps nothing; with a yard it is a chain that was 0
+unfoldable pub keptBy : Chart → ℕ → ℕ → Bool
+unfolding ecc
+keptBy C a D = cond (C .isDestination a) (eqb (ecc C a) D) (eqb D 0)
+
+-- by three tests: the chain grows; it is kept whatever pairs stay; a stored pair stays (rule 4.3). A yard has no own pairs
 unfoldable pub openCase : Bool → Bool → Bool → Chart → ℕ → ℕ → Pairs → Opened
 unfolding ecc ownPairs via stayingPairs shrunkCandidate searchedOnce round rounds start
 openCase true same stays C a D P = record { change = Grew; final = searchedOnce C a (ecc C a) (ownPairs C a (ecc C a)) }
@@ -112,5 +125,5 @@ openCase false false false C a D P = record { change = Shrank; final = rounds C 
 
 -- Opening a: C is the chart with a in place, D and P the chain and the pairs that were stored.
 unfoldable pub opening : Chart → ℕ → ℕ → Pairs → Opened
-unfolding openCase anyPair via stayingPairs ecc
-opening C a D P = openCase (ltb D (ecc C a)) (eqb (ecc C a) D) (anyPair (C .depots) (stayingPairs (via C a) D P)) C a D P
+unfolding openCase growsBy keptBy anyPair via stayingPairs
+opening C a D P = openCase (growsBy C a D) (keptBy C a D) (anyPair (C .depots) (stayingPairs (via C a) D P)) C a D P

@@ -1,7 +1,7 @@
 -- A SECOND TABLE OF CASES, computed by the checker (`refl`): a small network for each rule that the examples of the rules leave open, with the
 -- misunderstanding that it excludes. Assumes nothing.
 use mathlib.Core.Path.{_≡_, refl}
-use mathlib.Core.Bool.{_&&_, _||_}
+use mathlib.Core.Bool.{false, _&&_, _||_}
 use mathlib.Core.List.{List, [], _∷_}
 use Prim.Native.Nat.{ℕ}
 use lib.Dec.{eqb}
@@ -12,7 +12,7 @@ use Rattle.graph.specs.Network.{Network}
 use Rattle.graph.specs.Distance.{vertices}
 use Rattle.graph.specs.Chart.{chart, Pairs}
 use Rattle.graph.specs.Rounds.{State, markOf, boundOf}
-use Rattle.graph.specs.Opening.{withDepot, opening}
+use Rattle.graph.specs.Opening.{Notice, noticeOf, withDepot, opening}
 use Rattle.graph.specs.Nearby.{withinList, nearestListed}
 use Rattle.graph.specs.Cases.{pairList, path, ReckoningCase, reckoning}
 
@@ -24,7 +24,7 @@ listed ps u v = anyb (λ p. eqb u (p .0) && eqb v (p .1)) ps
 -- the network of the depots vs with the links ls
 unfoldable pub linkedBy : List ℕ → List (ℕ × ℕ) → Network
 unfolding memb listed
-linkedBy vs ls = record { depots = vs; isOpen = λ c. memb c vs; linked = λ u v. listed ls u v || listed ls v u }
+linkedBy vs ls = record { depots = vs; isOpen = λ c. memb c vs; isYard = λ c. false; linked = λ u v. listed ls u v || listed ls v u }
 
 -- what an opening's state says of the depots of G
 unfoldable pub readState : Network → State → ReckoningCase
@@ -44,13 +44,18 @@ pub record Opening : Type 0 where
   pub letter : ℕ
   pub final : ReckoningCase
 
--- a opened beside ns in G, with the stored chain D and the stored pairs ps
-unfoldable pub opened : Network → ℕ → List ℕ → ℕ → List (ℕ × ℕ) → Opening
+-- the notice o opened in G, with the stored chain D and the stored pairs ps
+unfoldable pub openedBy : Network → Notice → ℕ → List (ℕ × ℕ) → Opening
 unfolding withDepot chart listed opening letterOf readState
-opened G a ns D ps =
-    let H = withDepot G (record { code = a; neighbours = ns }) in
-    let x = opening (chart H) a D (listed ps) in
+openedBy G o D ps =
+    let H = withDepot G o in
+    let x = opening (chart H) (o .code) D (listed ps) in
     record { letter = letterOf (Accepted (x .change)); final = readState H (x .final) }
+
+-- the same of a depot that delivers: a beside ns
+unfoldable pub opened : Network → ℕ → List ℕ → ℕ → List (ℕ × ℕ) → Opening
+unfolding openedBy
+opened G a ns D ps = openedBy G (noticeOf false a ns) D ps
 
 -- ---- THE TABLE
 

@@ -1,4 +1,5 @@
--- ONE STEP OF THE PLAIN LIST (rule 9.3): what it answers and what it then holds. It knows no words and no tables.
+-- ONE STEP OF THE PLAIN LIST (rule 9.3): what it answers and what it then holds: the open codes, those of them that are yards, and the links.
+-- It knows no words and no tables.
 -- Assumes nothing.
 use mathlib.Core.Bool.{cond}
 use Prim.Native.Nat.{ℕ, zero, suc}
