@@ -1,18 +1,19 @@
 -- Sound links and figures, from what the code finds. Assumes nothing.
 use mathlib.Core.Path.{_≡_, sym, _∙_}
-use mathlib.Core.Bool.{Bool, true, false, and-true, and-false}
-use mathlib.Core.List.{List}
+use mathlib.Core.Bool.{Bool, true, false, not, and-true, and-false}
+use mathlib.Core.List.{List, []}
 use Prim.Native.Nat.{ℕ, _*_, _≤_, _<_}
 use lib.Dec.{eqb, ltb}
 use borrow.Author.Tests.{eq-eqb, ne-eqb, lt-ltb, le-ltb}
 use Rattle.lists.specs.Lists.{range, countb}
+use Rattle.lists.proofs.Tests.{test-failed, test-passed}
 use Rattle.lists.proofs.RangeCounts.{count-same}
 use Rattle.rows.specs.Rows.{rowBit, tableBit}
 use Rattle.rows.proofs.Written.{table-zero}
 use Rattle.graph.specs.Chart.{countPairs}
-use Rattle.map.specs.Memory.{networkOf}
+use Rattle.map.specs.Memory.{networkOf, yardNetwork}
 use Rattle.checks.specs.Sound.{allSet, soundLinks, soundFigures}
-use Rattle.map.specs.Bits.{soundLink, soundPair}
+use Rattle.map.specs.Bits.{soundLink, soundYards, soundPair}
 
 -- ---- links
 
@@ -20,18 +21,26 @@ use Rattle.map.specs.Bits.{soundLink, soundPair}
 members-count : (W : ℕ) (members : List ℕ) {r : ℕ} → r ≡ countb (tableBit W members 0) (range (64 * W)) → r ≡ countb (rowBit W members) (range (64 * W))
 members-count W members e = e ∙ count-same (64 * W) (tableBit W members 0) (rowBit W members) (λ v l. table-zero W members v)
 
-module _ (W : ℕ) (members links : List ℕ) {r number : ℕ} (e : r ≡ countb (tableBit W members 0) (range (64 * W))) where
-  pub links-miscounted : (r ≡ number → ⊥) → false ≡ soundLinks (64 * W) (networkOf W members links) number
+module _ (W : ℕ) (members yards links : List ℕ) {r number : ℕ} (e : r ≡ countb (tableBit W members 0) (range (64 * W))) where
+  pub links-miscounted : (r ≡ number → ⊥) → false ≡ soundLinks (64 * W) (yardNetwork W members yards links) number
   unfolding soundLinks networkOf
   links-miscounted ne =
       let q : eqb number (countb (rowBit W members) (range (64 * W))) ≡ false = ne-eqb number _ (λ p. ne (members-count W members e ∙ sym p)) in
       rw q
 
-  pub links-scanned : r ≡ number → {f : Bool} → f ≡ allSet (64 * W) (tableBit W links) (soundLink (networkOf W members links)) → f ≡ soundLinks (64 * W) (networkOf W members links) number
-  unfolding soundLinks networkOf
-  links-scanned p h =
-      let q : eqb number (countb (rowBit W members) (range (64 * W))) ≡ true = eq-eqb number _ (sym p ∙ members-count W members e) in
-      rw q h
+  module _ {y : Bool} (are : y ≡ soundYards (64 * W) (yardNetwork W members yards [])) where
+    pub links-closed-yard : r ≡ number → not y ≡ true → false ≡ soundLinks (64 * W) (yardNetwork W members yards links) number
+    unfolding soundLinks soundYards networkOf
+    links-closed-yard p failed =
+        let q : eqb number (countb (rowBit W members) (range (64 * W))) ≡ true = eq-eqb number _ (sym p ∙ members-count W members e) in
+        rw (q, test-failed are failed)
+
+    pub links-scanned : r ≡ number → not y ≡ false → {f : Bool} → f ≡ allSet (64 * W) (tableBit W links) (soundLink (networkOf W members links))
+        → f ≡ soundLinks (64 * W) (yardNetwork W members yards links) number
+    unfolding soundLinks soundYards soundLink networkOf
+    links-scanned p ok h =
+        let q : eqb number (countb (rowBit W members) (range (64 * W))) ≡ true = eq-eqb number _ (sym p ∙ members-count W members e) in
+        rw (q, test-passed are ok) h
 
 -- ---- figures, whatever the links are
 

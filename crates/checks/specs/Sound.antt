@@ -8,16 +8,16 @@ use lib.Dec.{T, eqb, ltb}
 use Rattle.lists.specs.Lists.{range, allb, countb}
 use Rattle.graph.specs.Network.{Network, IsSound, delivers}
 use Rattle.graph.specs.Chart.{Pairs, countPairs}
-use Rattle.map.specs.Bits.{soundPair, soundLink}
+use Rattle.map.specs.Bits.{soundPair, soundLink, soundYards}
 
 -- every bit that is set passes the test: bits of n rows of n columns
 unfoldable pub allSet : ℕ → (ℕ → ℕ → Bool) → (ℕ → ℕ → Bool) → Bool
 allSet n bits test = allb (λ u. allb (λ v. not (bits u v) || test u v) (range n)) (range n)
 
 -- n is the number of codes, open and closed: so many rows and columns a table has.
--- the links are sound: as many codes are open as the record says, and every bit of the link table may stand
+-- the links are sound: as many codes are open as the record says, every yard is open, and every bit of the link table may stand
 unfoldable pub soundLinks : ℕ → Network → ℕ → Bool
-soundLinks n G number = eqb number (countb (G .isOpen) (range n)) && allSet n (G .linked) (soundLink G)
+soundLinks n G number = eqb number (countb (G .isOpen) (range n)) && soundYards n G && allSet n (G .linked) (soundLink G)
 
 -- the figures are sound: every bit of the pair table may stand, they are as many as the record says, and the chain is below the number of codes
 unfoldable pub soundFigures : ℕ → Network → Pairs → ℕ → ℕ → Bool

@@ -6,18 +6,29 @@ ghost use lib.ListN.{length};
 ghost use Rattle.lists.specs.Lists.{range};
 ghost use Rattle.rows.specs.Rows.{tableBit};
 ghost use Rattle.graph.specs.Chart.{countPairs};
-ghost use Rattle.map.specs.Memory.{networkOf};
+ghost use Rattle.map.specs.Memory.{networkOf, yardNetwork};
 ghost use Rattle.map.specs.Bits.{IsLent};
 ghost use Rattle.checks.specs.Sound.{soundLinks, soundFigures};
 
 // ---- sound links
 
-// Whether links and number open are sound. Only set bits are walked, and the walk ends at the first faulty one.
-pub fn links_are_sound(members: &[u64], links: &[u64], words: usize, number: u16) -> bool
-    requires { ⌜ IsLent words (now members) (now links) ⌝ }
-    ensures { λ r. ⌜ r ≡ soundLinks (64 * words) (networkOf words (now (members .entry)) (now (links .entry))) number ⌝ }
+// Whether number open, yards and links are sound. Only set bits are walked, and the walk ends at the first faulty one.
+pub fn links_are_sound(
+    members: &[u64],
+    yards: &[u64],
+    links: &[u64],
+    words: usize,
+    number: u16,
+) -> bool
+    requires { ⌜ IsLent words (now members) (now links) × (words ≤ length (now yards)) ⌝ }
+    ensures { λ r.
+        let G = yardNetwork words (now (members .entry)) (now (yards .entry)) (now (links .entry)) in
+        ⌜ r ≡ soundLinks (64 * words) G number ⌝ }
 {
     if rows::degree(members, words, 0) != number as usize {
+        return false;
+    }
+    if !map::yards_are_open(members, yards, words) {
         return false;
     }
     let mut fine = true;
@@ -57,16 +68,16 @@ fn count_pairs(pairs: &[u64], words: usize) -> usize
     sum
 }
 
-// Whether the figures are sound. They ask only which codes are open, so no link is lent.
+// Whether the figures are sound. They ask only which depots deliver, so that these are lent as a row, and no link.
 pub fn figures_are_sound(
-    members: &[u64],
+    delivering: &[u64],
     pairs: &[u64],
     words: usize,
     chain: u16,
     count: u32,
 ) -> bool
-    requires { ⌜ IsLent words (now members) (now pairs) ⌝ }
-    ensures { λ r. ⌜ r ≡ soundFigures (64 * words) (networkOf words (now (members .entry)) []) (tableBit words (now (pairs .entry))) chain count ⌝ }
+    requires { ⌜ IsLent words (now delivering) (now pairs) ⌝ }
+    ensures { λ r. ⌜ r ≡ soundFigures (64 * words) (networkOf words (now (delivering .entry)) []) (tableBit words (now (pairs .entry))) chain count ⌝ }
 {
     if count_pairs(pairs, words) != count as usize {
         return false;
@@ -82,7 +93,7 @@ pub fn figures_are_sound(
             let mut x = pairs[words * low + w];
             while x != 0 {
                 let high = 64 * w + words::least(x);
-                if !map::pair_is_sound(members, words, low, high) {
+                if !map::pair_is_sound(delivering, words, low, high) {
                     paired = false;
                     break 'rows;
                 }

@@ -1,28 +1,31 @@
--- THE THEOREMS of this crate: a search over a table finds the distances of the network that the table means, its last layer lies at the
--- eccentricity, and the layer rows hold exactly the depots at their distance. Assumes nothing.
+-- THE THEOREMS of this crate: a search over a table finds the distances of the network that the table means, its last layer lies at the greatest
+-- distance of an open depot (without yards the eccentricity), and the layer rows hold exactly the depots at their distance. Assumes nothing.
 use mathlib.Core.Path.{_≡_, refl, sym, ap, ap₂, _∙_, subst, fun-ext}
 use mathlib.Core.Logic.{_⊎_, inl, inr, _↔_}
 use mathlib.Core.Bool.{Bool, true, false, cond, _&&_}
 use mathlib.Core.List.{List, List·Memᴰ}
 use Prim.Native.Nat.{ℕ, zero, suc, _*_, _≤_, _<_, zero-le}
-use native.Mathlib.Nat.{le-antisymm, le-refl, lt-irrefl, lt-of-le-of-lt}
+use native.Mathlib.Nat.{le-antisymm, lt-irrefl, lt-of-le-of-lt}
 use native.Mathlib.Omega.{arith}
 use lib.Dec.{T, eqb, ltb}
 use lib.ListN.{length}
 use borrow.Author.Tests.{ltb-true, lt-ltb, eqb-true, eq-eqb}
 use Rattle.lists.specs.Lists.{range, anyb, maxOf, overwrite}
 use Rattle.lists.proofs.Tests.{look, t→true, true→t, clash, and-true, same-test}
-use Rattle.lists.proofs.Members.{any-intro, any-elim, filter-in, filter-out, range-in}
-use Rattle.lists.proofs.Counts.{max-ge, max-le-of}
+use Rattle.lists.proofs.Members.{any-intro, any-elim, range-in}
+use Rattle.lists.proofs.Counts.{max-ge, max-le-of, max-at}
 use Rattle.lists.proofs.Distinct.{distinct-length}
-use Rattle.graph.specs.Network.{Network, IsSound, IsDist}
+use Rattle.graph.specs.Network.{Network, IsSound, IsDist, IsEcc, HasNoYard}
 use Rattle.graph.specs.Distance.{vertices, unreached, nextHop, hops, dist}
-use Rattle.graph.specs.Chart.{chart, destinations, ecc}
+use Rattle.graph.specs.Chart.{chart, ecc}
 use Rattle.graph.specs.Correct.{IsNet}
 use Rattle.graph.proofs.Walks.{dist-unique, walk-open}
 use Rattle.graph.proofs.Distances.{layers, hops-dist, vertices-in, vertices-out, dist-is, dist-reached, dist-below}
 use Rattle.graph.proofs.Layers.{hops-range}
 use Rattle.graph.proofs.Connected.{hop-open, hop-closed}
+use Rattle.graph.proofs.Charts.{greatest-unique}
+use Rattle.graph.proofs.Yards.{no-yard-delivers}
+use Rattle.graph.proofs.Theorems.{eccentricity-is}
 use Rattle.rows.specs.Rows.{rowBit, tableBit, encodeRow}
 use Rattle.rows.proofs.Written.{row-at}
 use Rattle.layers.specs.Layers.{depthFrom, searchLeaves}
@@ -130,40 +133,48 @@ module _ (G : Network) (sound : IsSound G) (n : ℕ) (inside : (v : ℕ) → T (
 -- ---- by the published words, on a connected network
 
 module _ (G : Network) (net : IsNet G) (s : ℕ) (o : T (G .isOpen s)) where
-  -- the last layer lies at the eccentricity
-  pub depth-is : depthFrom G s ≡ ecc (chart G) s
-  unfolding depthFrom ecc destinations chart
-  depth-is = le-antisymm upper lower
+  hop-low : (v : ℕ) → T (G .isOpen v) → dist G s v < unreached
+  hop-low v ov = omega (arith, dist-below G (net .sound) (net .small) s o (dist G s v) v (hop-open G net s o v ov), net .small)
+
+  -- the last layer lies at the greatest distance of an open depot, yard or not
+  pub depth-is : IsEcc G (G .isOpen) s (depthFrom G s)
+  unfolding depthFrom
+  depth-is = record {
+    upper = λ k x. upper k (x .0) (x .1) (x .2);
+    attained = at (max-at f (vertices G));
+  }
     where
       f : ℕ → ℕ
       f v = cond (ltb (dist G s v) unreached) (dist G s v) 0
 
-      upper : maxOf f (vertices G) ≤ ecc (chart G) s
-      upper = max-le-of f (vertices G) (ecc (chart G) s) (λ v m. go v m (look (G .isOpen v)))
-        where
-          cut : (x : ℕ) → cond (ltb x unreached) x 0 ≤ x
-          cut x = at (ltb x unreached)
-            where
-              at : (b : Bool) → cond b x 0 ≤ x
-              at true = le-refl x
-              at false = zero-le
+      plain : (v : ℕ) → T (G .isOpen v) → f v ≡ dist G s v
+      plain v ov = ap (λ (b : Bool). cond b (dist G s v) 0) (lt-ltb (dist G s v) unreached (hop-low v ov))
 
-          go : (v : ℕ) → List·Memᴰ v (vertices G) → (G .isOpen v ≡ true) ⊎ (G .isOpen v ≡ false) → f v ≤ ecc (chart G) s
-          go v m (inl e) =
-              let a : f v ≤ dist G s v = cut (dist G s v) in
-              let b : dist G s v ≤ ecc (chart G) s = max-ge (dist G s) (destinations (chart G)) (filter-in (G .isOpen) (vertices G) (vertices-in G (net .sound) v (true→t e)) e) in
-              omega arith
-          go v m (inr e) = rw (hop-closed G net s o v (λ t. clash (t→true (G .isOpen v) t) e)) zero-le
-
-      lower : ecc (chart G) s ≤ maxOf f (vertices G)
-      lower =
-          max-le-of (dist G s) (destinations (chart G)) (maxOf f (vertices G))
-          (λ v m.
-          let ov = vertices-out G (net .sound) (filter-out (G .isOpen) (vertices G) m .0) in
-          let d : dist G s v < length (vertices G) = dist-below G (net .sound) (net .small) s o (dist G s v) v (hop-open G net s o v ov) in
-          let e : f v ≡ dist G s v = ap (λ (b : Bool). cond b (dist G s v) 0) (lt-ltb (dist G s v) unreached (omega (arith, net .small))) in
+      upper : (k v : ℕ) → T (G .isOpen v) → IsDist G s v k → k ≤ maxOf f (vertices G)
+      upper k v ov d =
+          let e : k ≡ f v = dist-unique d (hop-open G net s o v ov) ∙ sym (plain v ov) in
           let g : f v ≤ maxOf f (vertices G) = max-ge f (vertices G) (vertices-in G (net .sound) v ov) in
-          omega arith)
+          omega arith
+
+      at : (maxOf f (vertices G) ≡ 0) ⊎ ((v : ℕ) × List·Memᴰ v (vertices G) × (maxOf f (vertices G) ≡ f v))
+          → (maxOf f (vertices G) ≡ 0) ⊎ ((v : ℕ) × T (G .isOpen v) × IsDist G s v (maxOf f (vertices G)))
+      at (inl z) = inl z
+      at (inr x) =
+          let ov = vertices-out G (net .sound) (x .1) in
+          inr (x .0, ov, subst (λ (d : ℕ). IsDist G s (x .0) d) (sym (x .2 ∙ plain (x .0) ov)) (hop-open G net s o (x .0) ov))
+
+  pub depth-low : depthFrom G s < unreached
+  depth-low = go (depth-is .attained)
+    where
+      go : (depthFrom G s ≡ 0) ⊎ ((v : ℕ) × T (G .isOpen v) × IsDist G s v (depthFrom G s)) → depthFrom G s < unreached
+      go (inl z) = omega arith
+      go (inr x) = subst (λ (d : ℕ). d < unreached) (dist-unique (hop-open G net s o (x .0) (x .1)) (x .2)) (hop-low (x .0) (x .1))
+
+  -- without yards that is the eccentricity
+  pub depth-ecc : HasNoYard G → depthFrom G s ≡ ecc (chart G) s
+  depth-ecc none =
+      greatest-unique depth-is
+      (subst (λ (Q : ℕ → Bool). IsEcc G Q s (ecc (chart G) s)) (fun-ext (λ v. no-yard-delivers G none v)) (eccentricity-is G net s o))
 
   -- a row written with the depots at distance k holds exactly those
   pub layer-is : (W k : ℕ) (old : List ℕ) → k < unreached → (v : ℕ) → v < 64 * W

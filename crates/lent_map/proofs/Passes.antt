@@ -84,6 +84,6 @@ module _ (K : Shape) (long figured : Bool) (rec : Record) (links pairs : List �
   -- so it holds a sound, connected network
   pub passed-net : IsShape K → IsPassed K long figured rec links pairs rest → IsNet (mapNetwork K rec links)
   passed-net shape passed =
-      let s = sound-by (K .words) (rec .members) links (rec .number) (passed .linked) in
+      let s = sound-by (K .words) (rec .members) (rec .yards) links (rec .number) (passed .linked) in
       let m : length (vertices G) < unreached = omega (arith, network-most (K .words) (rec .members) links, shape .most) in
       record { sound = s; connected = connected-iff G s m .0 (passed .joined); small = m }

@@ -6,20 +6,29 @@ use Prim.Native.Nat.{ℕ, _*_}
 use Rattle.lists.specs.Lists.{firstOf}
 use Rattle.lists.specs.Conditions.{IsShort}
 use Rattle.lists.proofs.Conditions.{Decides, Tells}
-use Rattle.graph.specs.Network.{Network, IsSound}
+use Rattle.graph.specs.Network.{Network, IsSound, delivers}
 use Rattle.graph.specs.Distance.{connected}
-use Rattle.rows.specs.Rows.{tableBit}
-use Rattle.map.specs.Memory.{Shape, IsShape, places, networkOf, mapNetwork}
+use Rattle.graph.proofs.Yards.{yards-connected, sound-yardless}
+use Rattle.rows.specs.Rows.{rowBit, tableBit}
+use Rattle.map.specs.Memory.{Shape, IsShape, places, networkOf, yardNetwork, mapNetwork}
+use Rattle.map.specs.Bits.{soundPair}
+use Rattle.map.proofs.Theorems.{network-yardless}
 use Rattle.map.specs.declared.Record.{Record}
 use Rattle.checks.specs.Sound.{soundLinks, soundFigures}
-use Rattle.checks.proofs.Theorems.{sound-links-iff, figures-any-links}
+use Rattle.checks.proofs.Theorems.{sound-links-iff}
 use Rattle.checks.proofs.Refusals.{links-tell, map-tells}
 use Rattle.lent_map.specs.Faults.{lentFaults, lentRefusal, lentConditions}
 use Rattle.lists.proofs.Tests.{clash}
 
--- sound links, from the check's answer
-pub sound-by : (W : ℕ) (members links : List ℕ) (number : ℕ) → soundLinks (64 * W) (networkOf W members links) number ≡ true → IsSound (networkOf W members links)
-sound-by W members links number e = sound-links-iff W members links number .0 e .isSound
+-- sound links, from the check's answer: of the map, and of its depots and links alone
+pub sound-by : (W : ℕ) (members yards links : List ℕ) (number : ℕ) → soundLinks (64 * W) (yardNetwork W members yards links) number ≡ true
+    → IsSound (yardNetwork W members yards links)
+sound-by W members yards links number e = sound-links-iff W members yards links number .0 e .isSound
+
+pub sound-plain : (W : ℕ) (members yards links : List ℕ) (number : ℕ) → soundLinks (64 * W) (yardNetwork W members yards links) number ≡ true
+    → IsSound (networkOf W members links)
+sound-plain W members yards links number e =
+    sound-yardless (rowBit W yards) (networkOf W members links) (sound-by W members yards links number e) (network-yardless W members links)
 
 -- the stored figures, where the call goes by them
 pub not-figured : (figured b : Bool) → figured ≡ false → true ≡ (not figured || b)
@@ -35,7 +44,18 @@ module _ (K : Shape) (rec : Record) (links pairs : List ℕ) where
   G = mapNetwork K rec links
 
   abbrev stored : Bool
-  stored = soundFigures (places K) (networkOf (K .words) (rec .members) []) (tableBit (K .words) pairs) (rec .chain) (rec .count)
+  stored = soundFigures (places K) (mapNetwork K rec []) (tableBit (K .words) pairs) (rec .chain) (rec .count)
+
+  by-stored : soundFigures (places K) G (tableBit (K .words) pairs) (rec .chain) (rec .count) ≡ stored
+  unfolding soundFigures soundPair delivers networkOf
+  by-stored = refl
+
+  -- and connectedness by depots and links alone
+  abbrev plain : Network
+  plain = networkOf (K .words) (rec .members) links
+
+  by-plain : connected G ≡ connected plain
+  by-plain = yards-connected (rowBit (K .words) (rec .yards)) plain
 
   pub refused-short : {long : Bool} (figured : Bool) → long ≡ false → 1 ≡ lentRefusal K long figured rec links pairs
   unfolding lentRefusal lentFaults firstOf
@@ -48,20 +68,20 @@ module _ (K : Shape) (rec : Record) (links pairs : List ℕ) where
 
   pub refused-figures : {long : Bool} (figured : Bool) → long ≡ true → soundLinks (places K) G (rec .number) ≡ true → (not figured || stored) ≡ false → 2 ≡ lentRefusal K long figured rec links pairs
   unfolding lentRefusal lentFaults firstOf
-  refused-figures true a b c = rw (a, b, figures-any-links (K .words) (rec .members) links [] (tableBit (K .words) pairs) (rec .chain) (rec .count), c)
+  refused-figures true a b c = rw (a, b, by-stored, c)
   refused-figures false a b c = absurd (clash refl c)
 
-  pub refused-apart : {long : Bool} (figured : Bool) → long ≡ true → soundLinks (places K) G (rec .number) ≡ true → (not figured || stored) ≡ true → connected G ≡ false
+  pub refused-apart : {long : Bool} (figured : Bool) → long ≡ true → soundLinks (places K) G (rec .number) ≡ true → (not figured || stored) ≡ true → connected plain ≡ false
       → 3 ≡ lentRefusal K long figured rec links pairs
   unfolding lentRefusal lentFaults firstOf
-  refused-apart true a b c d = rw (a, b, figures-any-links (K .words) (rec .members) links [] (tableBit (K .words) pairs) (rec .chain) (rec .count), c, d)
-  refused-apart false a b c d = rw (a, b, d)
+  refused-apart true a b c d = rw (a, b, by-stored, c, by-plain, d)
+  refused-apart false a b c d = rw (a, b, by-plain, d)
 
-  pub refused-never : {long : Bool} (figured : Bool) → long ≡ true → soundLinks (places K) G (rec .number) ≡ true → (not figured || stored) ≡ true → connected G ≡ true
+  pub refused-never : {long : Bool} (figured : Bool) → long ≡ true → soundLinks (places K) G (rec .number) ≡ true → (not figured || stored) ≡ true → connected plain ≡ true
       → 0 ≡ lentRefusal K long figured rec links pairs
   unfolding lentRefusal lentFaults firstOf
-  refused-never true a b c d = rw (a, b, figures-any-links (K .words) (rec .members) links [] (tableBit (K .words) pairs) (rec .chain) (rec .count), c, d)
-  refused-never false a b c d = rw (a, b, d)
+  refused-never true a b c d = rw (a, b, by-stored, c, by-plain, d)
+  refused-never false a b c d = rw (a, b, by-plain, d)
 
 -- ---- by the published words, before whatever a call looks at besides
 
@@ -70,6 +90,6 @@ pub lent-tells : (K : Shape) → IsShape K → (long figured : Bool) (buffers : 
     → Tells (lentFaults K long figured rec links pairs ++ tests) (lentConditions K buffers figured rec links pairs ++ conditions)
 unfolding lentFaults
 lent-tells K shape long true buffers d rec links pairs tests conditions rest =
-    (refl, d, λ f. map-tells (K .words) (shape .most) (rec .members) links (rec .number) tests conditions rest (tableBit (K .words) pairs) (rec .chain) (rec .count))
+    (refl, d, λ f. map-tells (K .words) (shape .most) (rec .members) (rec .yards) links (rec .number) tests conditions rest (tableBit (K .words) pairs) (rec .chain) (rec .count))
 lent-tells K shape long false buffers d rec links pairs tests conditions rest =
-    (refl, d, λ f. links-tell (K .words) (shape .most) (rec .members) links (rec .number) tests conditions rest)
+    (refl, d, λ f. links-tell (K .words) (shape .most) (rec .members) (rec .yards) links (rec .number) tests conditions rest)

@@ -10,7 +10,7 @@ ghost use Rattle.lists.specs.Lists.{range, allb};
 ghost use Rattle.graph.specs.Network.{IsSound};
 ghost use Rattle.graph.specs.Distance.{unreached, connected};
 ghost use Rattle.rows.specs.Rows.{rowBit, tableBit};
-ghost use Rattle.map.specs.Memory.{base, places, tableWords, networkOf};
+ghost use Rattle.map.specs.Memory.{base, places, tableWords, networkOf, mapNetwork};
 ghost use Rattle.map.specs.Bits.{IsLent};
 ghost use Rattle.checks.specs.Sound.{soundFigures};
 ghost use Rattle.lent_map.specs.Faults.{lentRefusal};
@@ -98,17 +98,21 @@ pub fn map_is_connected(members: &[u64], links: &[u64]) -> bool
 
 // ---- the refusal
 
-// Whether the stored figures are sound, where the call goes by them.
-fn stored_are_sound(members: &[u64], pairs: &[u64], figured: bool, chain: u16, count: u32) -> bool
-    requires { ⌜ (figured ≡ true → IsLent (base .words) (now members) (now pairs)) ⌝ }
+// Whether the stored figures are sound, where the call goes by them. Only there the yards are taken out of a copy of the open set: the check asks for
+// the depots that deliver.
+fn stored_are_sound(rec: Record, pairs: &[u64], figured: bool) -> bool
+    requires { ⌜ (figured ≡ true → tableWords base ≤ length (now pairs)) ⌝ }
     ensures { λ r.
-        let G = networkOf (base .words) (now (members .entry)) [] in
-        ⌜ r ≡ (not figured || soundFigures (places base) G (tableBit (base .words) (now (pairs .entry))) chain count) ⌝ }
+        let G = mapNetwork base rec [] in
+        ⌜ r ≡ (not figured || soundFigures (places base) G (tableBit (base .words) (now (pairs .entry))) (rec .chain) (rec .count)) ⌝ }
 {
     if !figured {
         return true;
     }
-    checks::figures_are_sound(members, pairs, map::WORDS, chain, count)
+    let mut delivering = rec.members;
+    let yards = rec.yards;
+    map::keep_delivering(&mut delivering, &yards, map::WORDS);
+    checks::figures_are_sound(&delivering, pairs, map::WORDS, rec.chain, rec.count)
 }
 
 // The first refusal of lent memory that holds, whatever the call is asked; 0 for none. It only reads: `long` tells whether every buffer has its named
@@ -121,10 +125,11 @@ pub fn map_refusal(rec: Record, links: &[u64], pairs: &[u64], long: bool, figure
         return outcome::SHORT;
     }
     let members = rec.members;
-    if !checks::links_are_sound(&members, links, map::WORDS, rec.number) {
+    let yards = rec.yards;
+    if !checks::links_are_sound(&members, &yards, links, map::WORDS, rec.number) {
         return outcome::SPOILT;
     }
-    if !stored_are_sound(&members, pairs, figured, rec.chain, rec.count) {
+    if !stored_are_sound(rec, pairs, figured) {
         return outcome::SPOILT;
     }
     if !map_is_connected(&members, links) {

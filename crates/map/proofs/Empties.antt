@@ -49,7 +49,7 @@ table-zeros W old u v =
 -- ---- what the code leaves
 
 -- the record of zeros, as the code writes it
-pub none-record : record { members = 0 ∷ 0 ∷ 0 ∷ 0 ∷ []; number = 0; chain = 0; count = 0 } ≡ emptyRecord (base .words)
+pub none-record : record { members = 0 ∷ 0 ∷ 0 ∷ 0 ∷ []; number = 0; chain = 0; count = 0; yards = 0 ∷ 0 ∷ 0 ∷ 0 ∷ [] } ≡ emptyRecord (base .words)
 unfolding emptyRecord zeros mapl range from
 none-record = refl
 

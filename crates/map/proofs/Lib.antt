@@ -6,3 +6,5 @@ pub mod Theorems
 pub mod Longs
 -- The depots in rising code.
 pub mod Depots
+-- The yards.
+pub mod Yards

@@ -1,16 +1,21 @@
--- WHICH BITS OF A MAP'S TABLES MAY STAND (rule 1.8). Assumes nothing.
-use mathlib.Core.Bool.{Bool, not, _&&_}
+-- WHICH BITS OF A MAP'S TABLES AND OF ITS YARD SET MAY STAND (rule 1.8). Assumes nothing.
+use mathlib.Core.Bool.{Bool, not, _&&_, _||_}
 use mathlib.Core.List.{List}
 use Prim.Native.Nat.{ℕ, _*_, _≤_, _<_}
 use lib.Dec.{eqb, ltb}
 use lib.ListN.{length}
+use Rattle.lists.specs.Lists.{range, allb}
 use Rattle.graph.specs.Network.{Network, delivers}
 
 -- Bit v of row u of the link table may stand: u and v are open and differ, and bit u of row v is set too.
 unfoldable pub soundLink : Network → ℕ → ℕ → Bool
 soundLink G u v = G .isOpen u && G .isOpen v && not (eqb u v) && G .linked v u
 
--- Bit v of row u of the pair table may stand.
+-- Every bit of the yard set may stand: its code, one of n, is open.
+unfoldable pub soundYards : ℕ → Network → Bool
+soundYards n G = allb (λ v. not (G .isYard v) || G .isOpen v) (range n)
+
+-- Bit v of row u of the pair table may stand: u < v, and both deliver.
 unfoldable pub soundPair : Network → ℕ → ℕ → Bool
 soundPair G u v = ltb u v && delivers G u && delivers G v
 

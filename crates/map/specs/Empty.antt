@@ -10,7 +10,8 @@ use Rattle.lists.specs.Lists.{range, mapl, overwrite, firstOf}
 use Rattle.lists.specs.Conditions.{Refuses, IsShort}
 use Rattle.outcome.specs.Numbers.{shortBuffer}
 use Rattle.rows.specs.Rows.{tableBit}
-use Rattle.map.specs.Memory.{Shape, tableWords, networkOf}
+use Rattle.graph.specs.Network.{HasNoYard}
+use Rattle.map.specs.Memory.{Shape, tableWords, yardNetwork}
 use Rattle.map.specs.declared.Record.{Record}
 use Rattle.map.specs.declared.Emptied.{Emptied}
 use Rattle.map.specs.declared.Emptying.{Emptying}
@@ -20,7 +21,7 @@ unfoldable pub zeros : ℕ → List ℕ
 zeros n = mapl (λ i. 0) (range n)
 
 unfoldable pub emptyRecord : ℕ → Record
-emptyRecord W = record { members = zeros W; number = 0; chain = 0; count = 0 }
+emptyRecord W = record { members = zeros W; number = 0; chain = 0; count = 0; yards = zeros W }
 
 -- the number for each case of the answer: the refusal, 0 for none
 abbrev pub emptyingNumber : Emptying → ℕ
@@ -67,10 +68,11 @@ EmptyDemand1 K step =
 
 -- ---- what it means
 
--- The map is empty: no code is open, no link and no pair stands, and the figures are 0.
+-- The map is empty: no code is open, none is a yard, no link and no pair stands, and the figures are 0.
 pub record IsEmpty (W : ℕ) (left : EmptyLeft) : Type 0 where
-  pub closed : (u : ℕ) → networkOf W (left .after .members) (left .links) .isOpen u ≡ false
-  pub unlinked : (u v : ℕ) → networkOf W (left .after .members) (left .links) .linked u v ≡ false
+  pub closed : (u : ℕ) → yardNetwork W (left .after .members) (left .after .yards) (left .links) .isOpen u ≡ false
+  pub yardless : HasNoYard (yardNetwork W (left .after .members) (left .after .yards) (left .links))
+  pub unlinked : (u v : ℕ) → yardNetwork W (left .after .members) (left .after .yards) (left .links) .linked u v ≡ false
   pub unpaired : (u v : ℕ) → tableBit W (left .pairs) u v ≡ false
   pub number : left .after .number ≡ 0
   pub chain : left .after .chain ≡ 0

@@ -2,11 +2,12 @@
 -- number of words.
 -- Assumes nothing.
 use mathlib.Core.Path.{_≡_}
+use mathlib.Core.Bool.{false}
 use mathlib.Core.List.{List}
 use Prim.Native.Nat.{ℕ, _*_, _≤_, _<_}
 use lib.Dec.{ltb}
 use Rattle.lists.specs.Lists.{range, filterb}
-use Rattle.graph.specs.Network.{Network}
+use Rattle.graph.specs.Network.{Network, withYards}
 use Rattle.rows.specs.Rows.{rowBit, tableBit}
 use Rattle.map.specs.declared.Record.{Record}
 
@@ -36,14 +37,23 @@ pub record IsShape (K : Shape) : Type 0 where
 abbrev pub base : Shape
 base = record { words = 4; searchedMark = 256; otherMark = 257 }
 
--- the network that an open set (one row) and a link table mean, its depots in rising order
+-- the network that an open set (one row) and a link table mean, its depots in rising order; no depot is a yard
 unfoldable pub networkOf : ℕ → List ℕ → List ℕ → Network
-networkOf W members links = record { depots = filterb (rowBit W members) (range (64 * W)); isOpen = rowBit W members; linked = tableBit W links }
+networkOf W members links = record {
+  depots = filterb (rowBit W members) (range (64 * W));
+  isOpen = rowBit W members;
+  isYard = λ v. false;
+  linked = tableBit W links;
+}
+
+-- the same with a yard set (one row)
+abbrev pub yardNetwork : ℕ → List ℕ → List ℕ → List ℕ → Network
+yardNetwork W members yards links = withYards (rowBit W yards) (networkOf W members links)
 
 -- what a record and a link table mean as a network
 abbrev pub mapNetwork : Shape → Record → List ℕ → Network
-mapNetwork K rec links = networkOf (K .words) (rec .members) links
+mapNetwork K rec links = yardNetwork (K .words) (rec .members) (rec .yards) links
 
 -- the links of a table alone, every code open: what a search walks over
 unfoldable pub tableNetwork : ℕ → List ℕ → Network
-tableNetwork W links = record { depots = range (64 * W); isOpen = λ v. ltb v (64 * W); linked = tableBit W links }
+tableNetwork W links = record { depots = range (64 * W); isOpen = λ v. ltb v (64 * W); isYard = λ v. false; linked = tableBit W links }

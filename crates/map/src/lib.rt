@@ -3,10 +3,12 @@ ghost use mathlib.Core.List.{[]};
 ghost use mathlib.Core.Path.{_≡_};
 ghost use Prim.Native.Nat.{_*_, _^_, _<_, _≤_};
 ghost use lib.ListN.{length};
-ghost use Rattle.rows.specs.Rows.{rowBit};
-ghost use Rattle.map.specs.Memory.{base, networkOf};
+ghost use Rattle.lists.specs.Lists.{overwrite};
+ghost use Rattle.rows.specs.Rows.{rowBit, encodeRow};
+ghost use Rattle.graph.specs.Network.{delivers};
+ghost use Rattle.map.specs.Memory.{base, networkOf, yardNetwork};
 ghost use Rattle.map.specs.Room.{sizes, longEnough};
-ghost use Rattle.map.specs.Bits.{IsLent, soundLink, soundPair};
+ghost use Rattle.map.specs.Bits.{IsLent, soundLink, soundYards, soundPair};
 ghost use Rattle.map.specs.Depots.{NextOpen};
 ghost use Rattle.map.specs.Empty.{emptyRecord, emptyLeft, emptyCall};
 use rows::Next;
@@ -48,6 +50,37 @@ pub fn next_open(members: &[u64], words: usize, from: usize) -> Next
     rows::next_member(members, words, from)
 }
 
+// ---- the yards
+
+// Takes the yards out of a row that holds the open set: the depots that deliver are left.
+pub fn keep_delivering(members: &mut [u64], yards: &[u64], words: usize)
+    requires { ⌜ (words ≤ length (now members)) × (words ≤ length (now yards)) ⌝ }
+    ensures { λ r.
+        let G = yardNetwork words (now (members .entry)) (now (yards .entry)) [] in
+        ⌜ now (members .exit) ≡ overwrite (encodeRow words (delivers G)) (now (members .entry)) ⌝ }
+{
+    let mut j = 0;
+    while j < words {
+        members[j] = members[j] & !yards[j];
+        j += 1;
+    }
+}
+
+// Whether every yard is open.
+pub fn yards_are_open(members: &[u64], yards: &[u64], words: usize) -> bool
+    requires { ⌜ (words ≤ length (now members)) × (words ≤ length (now yards)) ⌝ }
+    ensures { λ r. ⌜ r ≡ soundYards (64 * words) (yardNetwork words (now (members .entry)) (now (yards .entry)) []) ⌝ }
+{
+    let mut j = 0;
+    while j < words {
+        if yards[j] & !members[j] != 0 {
+            return false;
+        }
+        j += 1;
+    }
+    true
+}
+
 // ---- whether a bit may stand
 
 // Whether a bit v of row u may stand: u and v are open and differ, and row v has bit u.
@@ -67,18 +100,18 @@ pub fn link_is_sound(members: &[u64], links: &[u64], words: usize, u: usize, v: 
     rows::row_test(links, words, v, u)
 }
 
-// Whether bit `high` of row `low` of the pair table may stand: low < high, and both are open.
-pub fn pair_is_sound(members: &[u64], words: usize, low: usize, high: usize) -> bool
-    requires { ⌜ (words ≤ length (now members)) × (low < 64 * words) × (high < 64 * words) ⌝ }
-    ensures { λ r. ⌜ r ≡ soundPair (networkOf words (now (members .entry)) []) low high ⌝ }
+// Whether bit `high` of row `low` of the pair table may stand: low < high, and both are of the row that is lent, the depots that deliver.
+pub fn pair_is_sound(delivering: &[u64], words: usize, low: usize, high: usize) -> bool
+    requires { ⌜ (words ≤ length (now delivering)) × (low < 64 * words) × (high < 64 * words) ⌝ }
+    ensures { λ r. ⌜ r ≡ soundPair (networkOf words (now (delivering .entry)) []) low high ⌝ }
 {
     if high <= low {
         return false;
     }
-    if !is_open(members, words, low) {
+    if !is_open(delivering, words, low) {
         return false;
     }
-    is_open(members, words, high)
+    is_open(delivering, words, high)
 }
 
 // ---- the room
@@ -118,12 +151,13 @@ pub fn are_long(
 
 // ---- emptying
 
-// The record of one map: the members of the open set (one row), number open, longest chain, pair count.
+// The record of one map: the members of the open set (one row), number open, longest chain, pair count, and the yard set (one row).
 pub struct Record {
     pub members: [u64; WORDS],
     pub number: u16,
     pub chain: u16,
     pub count: u32,
+    pub yards: [u64; WORDS],
 }
 
 // The record of an empty map.
@@ -135,6 +169,7 @@ pub fn empty_record() -> Record
         number: 0,
         chain: 0,
         count: 0,
+        yards: [0u64; WORDS],
     }
 }
 

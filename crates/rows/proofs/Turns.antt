@@ -19,7 +19,7 @@ pub turn-none : (f : ℕ → Bool) (l : List ℕ) → l ≡ overwrite (encodeRow
 unfolding encodeRow
 turn-none f l = sym (fill-none (λ w. wordOf 64 (λ b. f (64 * w + b))) l)
 
-turn-more : (f : ℕ → Bool) (l₀ l : List ℕ) (j w : ℕ) → l ≡ overwrite (encodeRow j f) l₀ → j < length l₀ → w ≡ wordOf 64 (λ b. f (64 * j + b))
+pub turn-more : (f : ℕ → Bool) (l₀ l : List ℕ) (j w : ℕ) → l ≡ overwrite (encodeRow j f) l₀ → j < length l₀ → w ≡ wordOf 64 (λ b. f (64 * j + b))
     → set l j w ≡ overwrite (encodeRow (j + 1) f) l₀
 unfolding encodeRow
 turn-more f l₀ l j w e h p = ap₂ (λ (s : List ℕ) (x : ℕ). set s j x) e p ∙ fill-more (λ w. wordOf 64 (λ b. f (64 * w + b))) l₀ j h

@@ -12,22 +12,22 @@ use Rattle.checks.proofs.figures_are_sound.Statement.{statement}
 use Rattle.checks.proofs.figures_are_sound.Tie as tie
 
 abbrev Inv-loop2 : tie.InvT-loop2
-Inv-loop2 members pairs words chain count paired₀ low w x₀ paired x = BitsDone (soundPair (networkOf words members [])) low w x₀ paired x
+Inv-loop2 delivering pairs words chain count paired₀ low w x₀ paired x = BitsDone (soundPair (networkOf words delivering [])) low w x₀ paired x
 
 abbrev μ-loop2 : tie.MeasureT-loop2
-μ-loop2 members pairs words chain count paired₀ low w x₀ paired x = x
+μ-loop2 delivering pairs words chain count paired₀ low w x₀ paired x = x
 
 abbrev Inv-loop : tie.InvT-loop
-Inv-loop members pairs words chain count paired₀ low w₀ paired w = WordsDone words pairs (soundPair (networkOf words members [])) low paired w
+Inv-loop delivering pairs words chain count paired₀ low w₀ paired w = WordsDone words pairs (soundPair (networkOf words delivering [])) low paired w
 
 abbrev μ-loop : tie.MeasureT-loop
-μ-loop members pairs words chain count paired₀ low w₀ paired w = words - w
+μ-loop delivering pairs words chain count paired₀ low w₀ paired w = words - w
 
 abbrev Inv-rows : tie.InvT-rows
-Inv-rows members pairs words chain count paired₀ low₀ paired low = RowsDone words pairs (soundPair (networkOf words members [])) paired low
+Inv-rows delivering pairs words chain count paired₀ low₀ paired low = RowsDone words pairs (soundPair (networkOf words delivering [])) paired low
 
 abbrev μ-rows : tie.MeasureT-rows
-μ-rows members pairs words chain count paired₀ low₀ paired low = 64 * words - low
+μ-rows delivering pairs words chain count paired₀ low₀ paired low = 64 * words - low
 
 pub figures-are-sound-spec : {M : Type 1} → statement M
 figures-are-sound-spec =

@@ -6,9 +6,9 @@ use mathlib.Core.Bool.{true, not, _||_}
 use native.Mathlib.Omega.{arith}
 use borrow.Author.Tests.{not-true, not-false}
 use Rattle.rows.specs.Rows.{tableBit}
-use Rattle.map.specs.Memory.{base, networkOf}
+use Rattle.map.specs.Memory.{base, mapNetwork}
 use Rattle.checks.specs.Sound.{soundLinks, soundFigures}
-use Rattle.lent_map.proofs.Refuses.{sound-by, refused-short, refused-links, refused-figures, refused-apart, refused-never}
+use Rattle.lent_map.proofs.Refuses.{sound-plain, refused-short, refused-links, refused-figures, refused-apart, refused-never}
 use borrow.Author.Needs.{needs}
 use Rattle.lent_map.proofs.map_refusal.Statement.{statement}
 use Rattle.lent_map.proofs.map_refusal.Tie as tie
@@ -16,8 +16,8 @@ use Rattle.lent_map.proofs.map_refusal.Tie as tie
 slice-aggregate-links-are-sound : tie.Need-slice-aggregate-links-are-sound
 slice-aggregate-links-are-sound c = search needs
 
-slice-aggregate-stored-are-sound : tie.Need-slice-aggregate-stored-are-sound
-slice-aggregate-stored-are-sound c = search needs
+slice-aggregate-links-are-sound-2 : tie.Need-slice-aggregate-links-are-sound-2
+slice-aggregate-links-are-sound-2 c = search needs
 
 slice-aggregate-map-is-connected : tie.Need-slice-aggregate-map-is-connected
 slice-aggregate-map-is-connected c = search needs
@@ -29,14 +29,14 @@ long c = not-false _ (c .if1 .left)
 
 sound : (c : tie.Else2) →
     let s : tie.Start = search in
-    soundLinks 256 (networkOf 4 (s .args .rec .members) (s .args .links .now)) (s .args .rec .number) ≡ true
+    soundLinks 256 (mapNetwork base (s .args .rec) (s .args .links .now)) (s .args .rec .number) ≡ true
 sound c =
     let after-links-are-sound : tie.After-links-are-sound = search in
     sym (after-links-are-sound .links-are-sound .ensures) ∙ not-false _ (c .if2 .left)
 
 figured : (c : tie.Else3) →
     let s : tie.Start = search in
-    let G = networkOf 4 (s .args .rec .members) [] in
+    let G = mapNetwork base (s .args .rec) [] in
     (not (s .args .figured) || soundFigures 256 G (tableBit 4 (s .args .pairs .now)) (s .args .rec .chain) (s .args .rec .count)) ≡ true
 figured c =
     let after-stored-are-sound : tie.After-stored-are-sound = search in
@@ -51,7 +51,11 @@ links-are-sound-requires : tie.Need-links-are-sound-requires
 links-are-sound-requires c κs =
     let else1 : tie.Else1 = search in
     let start : tie.Start = search in
-    record { positive = omega arith; most = omega arith; rows = start .pre .0 (long else1); row = omega (arith, slice-aggregate-links-are-sound c) }
+    let after-members2 : tie.After-members2 = search in
+    let row = slice-aggregate-links-are-sound after-members2 in (
+      record { positive = omega arith; most = omega arith; rows = start .pre .0 (long else1); row = omega arith },
+      omega (arith, slice-aggregate-links-are-sound-2 c),
+    )
 
 returns-2 : tie.Need-returns-2
 returns-2 c =
@@ -63,7 +67,7 @@ stored-are-sound-requires : tie.Need-stored-are-sound-requires
 stored-are-sound-requires c κs f =
     let else1 : tie.Else1 = search in
     let start : tie.Start = search in
-    record { positive = omega arith; most = omega arith; rows = start .pre .1 (long else1) f; row = omega (arith, slice-aggregate-stored-are-sound c) }
+    start .pre .1 (long else1) f
 
 returns-3 : tie.Need-returns-3
 returns-3 c =
@@ -78,7 +82,7 @@ map-is-connected-requires c κs =
     let else1 : tie.Else1 = search in
     let start : tie.Start = search in (
       record { positive = omega arith; most = omega arith; rows = start .pre .0 (long else1); row = omega (arith, slice-aggregate-map-is-connected c) },
-      sound-by _ _ _ _ (sound else2),
+      sound-plain _ _ _ _ _ (sound else2),
     )
 
 returns-4 : tie.Need-returns-4
@@ -99,9 +103,9 @@ map-refusal-spec =
     (tie.spec
     returns
     slice-aggregate-links-are-sound
+    slice-aggregate-links-are-sound-2
     links-are-sound-requires
     returns-2
-    slice-aggregate-stored-are-sound
     stored-are-sound-requires
     returns-3
     slice-aggregate-map-is-connected

@@ -1,6 +1,7 @@
 -- `checks::pair_is_sound` meets its contract: each early answer has a part of the test that fails, and the last part is the answer.
 -- Assumes nothing.
-use mathlib.Core.Path.{_∙_}
+use mathlib.Core.Path.{sym, _∙_}
+use mathlib.Core.Bool.{and-true}
 use Rattle.graph.specs.Network.{delivers}
 use borrow.Author.Needs.{needs}
 use borrow.Author.Tests.{lt-ltb, le-ltb}
@@ -28,7 +29,7 @@ returns-3 c =
     let after-is-open : tie.After-is-open = search in
     let else1 : tie.Else1 = search in
     let low = test-passed (after-is-open .is-open .ensures) (else2 .if2 .left) in
-    c .is-open2 .ensures ∙ rw (lt-ltb _ _ (else1 .if1 .left), low)
+    c .is-open2 .ensures ∙ rw (lt-ltb _ _ (else1 .if1 .left), low) (sym (and-true _))
 
 pub pair-is-sound-spec : {M : Type 1} → statement M
 pair-is-sound-spec =
