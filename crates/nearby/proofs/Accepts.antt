@@ -123,7 +123,7 @@ module _ (K : Shape) (shape : IsShape K) (rec : Record) (links : List ℕ) (B : 
     left : tables hops even odd ≡ searchLeaves (K .words) N code B
     left =
         let g = granted K rec links (length (B .hops)) (length (B .even)) (length (B .odd)) code shape z in
-        search-is K shape (rec .members) links (g .net) code (true→t (g .present)) B e (tables hops even odd) is .1
+        search-is K shape (rec .members) (rec .yards) links (g .net) code (true→t (g .present)) B e (tables hops even odd) is .1
 
     -- the hop table read: distances
     hop-is : (v : ℕ) → v < places K → getD hops v 0 ≡ dist N code v

@@ -24,7 +24,7 @@ use Rattle.map.specs.Memory.{Shape, places, tableWords, IsShape, mapNetwork}
 use Rattle.map.specs.Room.{Tables, longEnough}
 use Rattle.map.specs.declared.Record.{Record}
 use Rattle.map.proofs.Theorems.{network-rising, network-open-below, network-most}
-use Rattle.layers.specs.Layers.{searchLeaves}
+use Rattle.layers.specs.Layers.{depthFrom, searchLeaves}
 use Rattle.lent_map.proofs.Refuses.{lent-tells}
 use Rattle.search.specs.SearchCall.{searchRefusal, searchSizes}
 use Rattle.search.specs.Refusals.{searchBuffers}
@@ -111,6 +111,7 @@ module _ (K : Shape) (shape : IsShape K) (rec : Record) (links : List ℕ) (B : 
     holds-search : HoldsSearch K G code B (searchLeaves (K .words) G code B)
     holds-search = record {
       ecc = ecc (chart G) code;
+      depth = depthFrom G code;
       isSearch =
           leaves-search K G (grants .net) (network-open-below (K .words) (rec .members) links) code present
           B (grants .long .hops) (grants .long .even) (grants .long .odd);

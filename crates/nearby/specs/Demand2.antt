@@ -21,7 +21,8 @@ use Rattle.nearby.specs.declared.Closest.the-variants.{At}
 -- hop table and layer rows are as a search from s leaves them
 pub record HoldsSearch (K : Shape) (G : Network) (s : ℕ) (B left : Tables) : Type 0 where
   pub ecc : ℕ
-  pub isSearch : IsSearch K G s B (searchLeft (Reached ecc) left)
+  pub depth : ℕ
+  pub isSearch : IsSearch K G s B (searchLeft (Reached ecc depth) left)
 
 -- The depots at most k handovers from s: the first `count` places hold them, and the others keep their values.
 pub record IsWithinLeft (K : Shape) (G : Network) (s k : ℕ) (B : Tables) (codes : List ℕ) (left : WithinLeft) : Type 0 where

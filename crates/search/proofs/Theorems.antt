@@ -14,19 +14,19 @@ use Rattle.lists.specs.Lists.{range, allb, mapl, overwrite}
 use Rattle.lists.proofs.Tests.{look, true→t, false→not, lt-or-ge}
 use Rattle.lists.proofs.Conditions.{allFit, Tells, decides-test, decides-not, decides-short, refuses-by}
 use Rattle.lists.proofs.Fills.{length-fill, overwrite-length, fill-at}
-use Rattle.graph.specs.Network.{Network, IsDist, delivers}
+use Rattle.graph.specs.Network.{Network, IsDist}
 use Rattle.graph.specs.Distance.{unreached, dist}
 use Rattle.graph.specs.Chart.{chart, ecc}
 use Rattle.graph.specs.Correct.{IsNet}
 use Rattle.graph.specs.Refusals.{IsAbsent}
 use Rattle.graph.proofs.Walks.{walk-open}
 use Rattle.graph.proofs.Connected.{hop-open, hop-closed}
-use Rattle.graph.proofs.Theorems.{eccentricity-is, distance-below}
+use Rattle.graph.proofs.Theorems.{eccentricity-is}
 use Rattle.rows.specs.Rows.{rowBit, encodeRow}
-use Rattle.rows.proofs.Written.{row-past, row-at, row-of-table, table-zero, encode-row-length}
+use Rattle.rows.proofs.Written.{row-past, row-at, encode-row-length}
 use Rattle.layers.specs.Layers.{depthFrom, layerBit, searchLeaves}
 use Rattle.map.specs.Room.{Tables}
-use Rattle.layers.proofs.Theorems.{depth-is, layer-is}
+use Rattle.layers.proofs.Theorems.{depth-is, depth-low, layer-is}
 use Rattle.map.specs.Memory.{Shape, places, IsShape, mapNetwork, tableWords}
 use Rattle.map.proofs.Theorems.{network-open-below}
 use Rattle.search.specs.SearchCall.{searchRefusal, SearchLeft, searchLeft, searchGiven, searchCall, lastLayer, searchNumber}
@@ -34,6 +34,7 @@ use Rattle.search.specs.Refusals.{searchBuffers, searchConditions, Searc
 use Rattle.search.specs.Demand2.{HoldsLayer, HoldsBefore, KeepsPast, IsSearch, SearchDemand2}
 use Rattle.search.specs.declared.Found.the-variants.{Reached}
 use Rattle.outcome.specs.Numbers.{absentCode}
+use Rattle.search.proofs.Reaches.{part-is}
 use Rattle.search.proofs.Accepts.{granted}
 use Rattle.map.specs.Room.{longEnough}
 use Rattle.lent_map.proofs.Refuses.{lent-tells}
@@ -75,29 +76,20 @@ over-keeps n new old e l = record {
   past = subst (λ (k : ℕ). drop k (overwrite new old) ≡ drop k old) e (drop-append-seam new (drop (length new) old));
 }
 
--- the part of a row is the row
-part-is : (W : ℕ) (row : List ℕ) (v : ℕ) → rowBit W (take W row) v ≡ rowBit W row v
-part-is W row v = go (lt-or-ge v (64 * W))
-  where
-    go : (v < 64 * W) ⊎ (64 * W ≤ v) → rowBit W (take W row) v ≡ rowBit W row v
-    go (inl l) =
-        let z : W * 0 ≡ 0 = omega arith in
-        ap (λ (i : ℕ). rowBit W (take W (drop i row)) v) (sym z) ∙ row-of-table W row 0 v (omega arith) ∙ table-zero W row v
-    go (inr l) = row-past W (take W row) v l ∙ sym (row-past W row v l)
-
+-- the part of a row holds what the row holds
 part-holds : (W : ℕ) (G : Network) (s d : ℕ) (row : List ℕ) → HoldsLayer W G s d row → HoldsLayer W G s d (take W row)
 part-holds W G s d row h v = subst (λ (b : Bool). T b ↔ IsDist G s v d) (sym (part-is W row v)) (h v)
 
 -- by the parity, the last layer is a part of the one row or of the other
-last-by : (W e : ℕ) (even odd : List ℕ) (P : List ℕ → Type 0) → (eqb (e % 2) 0 ≡ true → P (take W even)) → (eqb (e % 2) 1 ≡ true → P (take W odd)) → P (lastLayer W e even odd)
+last-by : (W d : ℕ) (even odd : List ℕ) (P : List ℕ → Type 0) → (eqb (d % 2) 0 ≡ true → P (take W even)) → (eqb (d % 2) 1 ≡ true → P (take W odd)) → P (lastLayer W d even odd)
 unfolding lastLayer
-last-by W e even odd P p q = go (look (eqb (e % 2) 0))
+last-by W d even odd P p q = go (look (eqb (d % 2) 0))
   where
-    go : (eqb (e % 2) 0 ≡ true) ⊎ (eqb (e % 2) 0 ≡ false) → P (take W (cond (eqb (e % 2) 0) even odd))
+    go : (eqb (d % 2) 0 ≡ true) ⊎ (eqb (d % 2) 0 ≡ false) → P (take W (cond (eqb (d % 2) 0) even odd))
     go (inl t) = subst (λ (b : Bool). P (take W (cond b even odd))) (sym t) (p t)
     go (inr f) =
-        let n : e % 2 ≡ 1 = omega (arith, eqb-false (e % 2) 0 f) in
-        subst (λ (b : Bool). P (take W (cond b even odd))) (sym f) (q (eq-eqb (e % 2) 1 n))
+        let n : d % 2 ≡ 1 = omega (arith, eqb-false (d % 2) 0 f) in
+        subst (λ (b : Bool). P (take W (cond b even odd))) (sym f) (q (eq-eqb (d % 2) 1 n))
 
 module _ (W : ℕ) (G : Network) (net : IsNet G) (inside : (v : ℕ) → T (G .isOpen v) → v < 64 * W) (s : ℕ) (o : T (G .isOpen s)) where
   -- a row written with the depots at distance k holds exactly those, codes past the row included
@@ -113,13 +105,6 @@ module _ (W : ℕ) (G : Network) (net : IsNet G) (inside : (v : ℕ) → T (G .i
         λ t. absurd (false→not (row-past W row v l) t),
         λ d. let b : v < 64 * W = inside v (walk-open (net .sound) o (d .walk)) in absurd (lt-irrefl v (omega (arith, b, l))),
       )
-
-  ecc-low : ecc (chart G) s < unreached
-  ecc-low = go (eccentricity-is G net s o .attained)
-    where
-      go : (ecc (chart G) s ≡ 0) ⊎ ((v : ℕ) × T (delivers G v) × IsDist G s v (ecc (chart G) s)) → ecc (chart G) s < unreached
-      go (inl z) = omega (arith, z)
-      go (inr d) = omega (arith, distance-below G net s (d .0) (ecc (chart G) s) o (d .2), net .small)
 
   -- the row of the last layer's parity, and the other
   row-last : (e parity : ℕ) (old : List ℕ) → e < unreached → eqb (e % 2) parity ≡ true → HoldsLayer W G s e (overwrite (encodeRow W (layerBit (dist G s) e parity)) old)
@@ -148,43 +133,41 @@ module _ (W : ℕ) (G : Network) (net : IsNet G) (inside : (v : ℕ) → T (G .i
 module _ (K : Shape) (G : Network) (net : IsNet G) (inside : (v : ℕ) → T (G .isOpen v) → v < places K) (s : ℕ) (o : T (G .isOpen s)) (B : Tables)
     (hops-fit : places K ≤ length (B .hops)) (even-fit : K .words ≤ length (B .even)) (odd-fit : K .words ≤ length (B .odd)) where
   -- what a search from s leaves, in any network that a map of this shape can hold
-  pub leaves-search : IsSearch K G s B (searchLeft (Reached (ecc (chart G) s)) (searchLeaves (K .words) G s B))
+  pub leaves-search : IsSearch K G s B (searchLeft (Reached (ecc (chart G) s) (depthFrom G s)) (searchLeaves (K .words) G s B))
   unfolding searchLeaves
   leaves-search = record {
-    ecc = e;
+    ecc = ecc (chart G) s;
+    depth = d;
     answer = refl;
     isEcc = eccentricity-is G net s o;
+    isDepth = depth-is G net s o;
     isHop = λ v ov. subst (λ (d : ℕ). IsDist G s v d) (sym (hop v (inside v ov))) (hop-open G net s o v ov);
     closed = λ v l c. hop v l ∙ hop-closed G net s o v c;
-    evenLast = λ q. (last 0 (B .even) (eq-eqb (e % 2) 0 q), before 1 (B .odd) (ne-eqb (e % 2) 1 (λ p. omega (arith, p, q))));
-    oddLast = λ q. (last 1 (B .odd) (eq-eqb (e % 2) 1 q), before 0 (B .even) (ne-eqb (e % 2) 0 (λ p. omega (arith, p, q))));
+    evenLast = λ q. (last 0 (B .even) (eq-eqb (d % 2) 0 q), before 1 (B .odd) (ne-eqb (d % 2) 1 (λ p. omega (arith, p, q))));
+    oddLast = λ q. (last 1 (B .odd) (eq-eqb (d % 2) 1 q), before 0 (B .even) (ne-eqb (d % 2) 0 (λ p. omega (arith, p, q))));
     part =
-        last-by (K .words) e _ _ (HoldsLayer (K .words) G s e)
-        (λ q. part-holds (K .words) G s e _ (last 0 (B .even) q))
-        (λ q. part-holds (K .words) G s e _ (last 1 (B .odd) q));
+        last-by (K .words) d _ _ (HoldsLayer (K .words) G s d)
+        (λ q. part-holds (K .words) G s d _ (last 0 (B .even) q))
+        (λ q. part-holds (K .words) G s d _ (last 1 (B .odd) q));
     hopsKept = over-keeps (places K) (mapl (dist G s) (range (places K))) (B .hops) (length-fill (dist G s) (places K)) hops-fit;
     evenKept = over-keeps (K .words) (encodeRow (K .words) (bits 0)) (B .even) (encode-row-length (K .words) (bits 0)) even-fit;
     oddKept = over-keeps (K .words) (encodeRow (K .words) (bits 1)) (B .odd) (encode-row-length (K .words) (bits 1)) odd-fit;
   }
     where
-      e : ℕ
-      e = ecc (chart G) s
+      d : ℕ
+      d = depthFrom G s
 
       bits : ℕ → ℕ → Bool
-      bits parity = layerBit (dist G s) (depthFrom G s) parity
+      bits parity = layerBit (dist G s) d parity
 
       hop : (v : ℕ) → v < places K → getD (overwrite (mapl (dist G s) (range (places K))) (B .hops)) v 0 ≡ dist G s v
       hop v l = fill-at (dist G s) (B .hops) (places K) v 0 l
 
-      last : (parity : ℕ) (old : List ℕ) → eqb (e % 2) parity ≡ true → HoldsLayer (K .words) G s e (overwrite (encodeRow (K .words) (bits parity)) old)
-      last parity old q =
-          subst (λ (d : ℕ). HoldsLayer (K .words) G s e (overwrite (encodeRow (K .words) (layerBit (dist G s) d parity)) old)) (sym (depth-is G net s o))
-          (row-last (K .words) G net inside s o e parity old (ecc-low (K .words) G net inside s o) q)
+      last : (parity : ℕ) (old : List ℕ) → eqb (d % 2) parity ≡ true → HoldsLayer (K .words) G s d (overwrite (encodeRow (K .words) (bits parity)) old)
+      last parity old q = row-last (K .words) G net inside s o d parity old (depth-low G net s o) q
 
-      before : (parity : ℕ) (old : List ℕ) → eqb (e % 2) parity ≡ false → HoldsBefore (K .words) G s e (overwrite (encodeRow (K .words) (bits parity)) old)
-      before parity old q =
-          subst (λ (d : ℕ). HoldsBefore (K .words) G s e (overwrite (encodeRow (K .words) (layerBit (dist G s) d parity)) old)) (sym (depth-is G net s o))
-          (row-before (K .words) G net inside s o e parity old (ecc-low (K .words) G net inside s o) q)
+      before : (parity : ℕ) (old : List ℕ) → eqb (d % 2) parity ≡ false → HoldsBefore (K .words) G s d (overwrite (encodeRow (K .words) (bits parity)) old)
+      before parity old q = row-before (K .words) G net inside s o d parity old (depth-low G net s o) q
 
 pub search-demand2 : (K : Shape) → IsShape K → SearchDemand2 K
 unfolding searchCall searchGiven

@@ -21,7 +21,7 @@ use Rattle.search.specs.declared.Found.the-variants.{Reached}
 abbrev pub HoldsLayer : ℕ → Network → ℕ → ℕ → List ℕ → Type 0
 HoldsLayer W G s d row = (v : ℕ) → T (rowBit W row v) ↔ IsDist G s v d
 
--- the row holds exactly the layer before distance e, or no depot where e is 0
+-- the row holds exactly the layer before distance d, or no depot where d is 0
 abbrev pub HoldsBefore : ℕ → Network → ℕ → ℕ → List ℕ → Type 0
 HoldsBefore W G s zero row = (v : ℕ) → rowBit W row v ≡ false
 HoldsBefore W G s (suc d) row = HoldsLayer W G s d row
@@ -31,17 +31,20 @@ pub record KeepsPast (n : ℕ) (old new : List ℕ) : Type 0 where
   pub size : length new ≡ length old
   pub past : drop n new ≡ drop n old
 
--- A search from s, lent the tables B: the eccentricity; the distance at each open code's place, 65,535 at each closed code's; the last layer in
--- the row of the eccentricity's parity and the layer before it in the other; and the last layer again in the part that is handed back.
+-- A search from s, lent the tables B: the eccentricity, to depots that deliver; the depth, which is the greatest distance to any open depot; the distance
+-- at each open code's place, 65,535 at each closed code's; the last layer, of all open depots, in the row of the depth's parity and the layer before it
+-- in the other; and the last layer again in the part that is handed back.
 pub record IsSearch (K : Shape) (G : Network) (s : ℕ) (B : Tables) (left : SearchLeft) : Type 0 where
   pub ecc : ℕ
-  pub answer : left .answer ≡ Reached ecc
+  pub depth : ℕ
+  pub answer : left .answer ≡ Reached ecc depth
   pub isEcc : IsEcc G (delivers G) s ecc
+  pub isDepth : IsEcc G (G .isOpen) s depth
   pub isHop : (v : ℕ) → T (G .isOpen v) → IsDist G s v (getD (left .lent .hops) v 0)
   pub closed : (v : ℕ) → v < places K → (T (G .isOpen v) → ⊥) → getD (left .lent .hops) v 0 ≡ unreached
-  pub evenLast : ecc % 2 ≡ 0 → HoldsLayer (K .words) G s ecc (left .lent .even) × HoldsBefore (K .words) G s ecc (left .lent .odd)
-  pub oddLast : ecc % 2 ≡ 1 → HoldsLayer (K .words) G s ecc (left .lent .odd) × HoldsBefore (K .words) G s ecc (left .lent .even)
-  pub part : HoldsLayer (K .words) G s ecc (lastLayer (K .words) ecc (left .lent .even) (left .lent .odd))
+  pub evenLast : depth % 2 ≡ 0 → HoldsLayer (K .words) G s depth (left .lent .even) × HoldsBefore (K .words) G s depth (left .lent .odd)
+  pub oddLast : depth % 2 ≡ 1 → HoldsLayer (K .words) G s depth (left .lent .odd) × HoldsBefore (K .words) G s depth (left .lent .even)
+  pub part : HoldsLayer (K .words) G s depth (lastLayer (K .words) depth (left .lent .even) (left .lent .odd))
   pub hopsKept : KeepsPast (places K) (B .hops) (left .lent .hops)
   pub evenKept : KeepsPast (K .words) (B .even) (left .lent .even)
   pub oddKept : KeepsPast (K .words) (B .odd) (left .lent .odd)

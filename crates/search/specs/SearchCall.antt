@@ -9,7 +9,7 @@ use Rattle.lists.specs.Lists.{firstOf}
 use Rattle.outcome.specs.Numbers.{absentCode}
 use Rattle.graph.specs.Chart.{chart, ecc}
 use Rattle.map.specs.Room.{Tables}
-use Rattle.layers.specs.Layers.{searchLeaves}
+use Rattle.layers.specs.Layers.{depthFrom, searchLeaves}
 use Rattle.map.specs.Memory.{Shape, places, tableWords, mapNetwork}
 use Rattle.map.specs.declared.Record.{Record}
 use Rattle.search.specs.declared.Found.{Found}
@@ -29,7 +29,8 @@ searchRefusal K rec links hops even odd code =
     ++ (not (mapNetwork K rec links .isOpen code), absentCode)
     ∷ [])
 
--- what the call leaves: its answer (the eccentricity, or the refusal's number), and the hop table and the two layer rows
+-- what the call leaves: its answer (the eccentricity, and the distance of the last layer; or the refusal's number), and the hop table and the two layer
+-- rows
 pub record SearchLeft : Type 0 where
   pub answer : Found
   pub lent : Tables
@@ -40,49 +41,55 @@ searchLeft r B = record { answer = r; lent = B }
 unfoldable pub searchGiven : ℕ → Shape → Record → List ℕ → Tables → ℕ → SearchLeft
 searchGiven zero K rec links B code =
     let G = mapNetwork K rec links in
-    record { answer = Reached (ecc (chart G) code); lent = searchLeaves (K .words) G code B }
+    record { answer = Reached (ecc (chart G) code) (depthFrom G code); lent = searchLeaves (K .words) G code B }
 searchGiven (suc k) K rec links B code = record { answer = Refused (suc k); lent = B }
 
 unfoldable pub searchCall : Shape → Record → List ℕ → Tables → ℕ → SearchLeft
 searchCall K rec links B code = searchGiven (searchRefusal K rec links (length (B .hops)) (length (B .even)) (length (B .odd)) code) K rec links B code
 
--- the part handed back (rule 3.3): the first words of the row of the eccentricity's parity
+-- the part handed back (rule 3.3): the first words of the row of the last layer's parity, d being its distance
 unfoldable pub lastLayer : ℕ → ℕ → List ℕ → List ℕ → List ℕ
-lastLayer W e even odd = take W (cond (eqb (e % 2) 0) even odd)
+lastLayer W d even odd = take W (cond (eqb (d % 2) 0) even odd)
 
 -- ---- the same call with its last layer handed back beside both rows
 
 -- the number for each case of the answer: the refusal, 0 for none
 abbrev pub searchNumber : Found → ℕ
-searchNumber (Reached e) = 0
+searchNumber (Reached e d) = 0
 searchNumber (Refused k) = k
 
--- the value of each case: the eccentricity; a refusal has none, so that what stood there stays
+-- the values of each case: the eccentricity, and the distance of the last layer; a refusal has none, so that what stood there stays
 abbrev pub eccOf : Found → ℕ → ℕ
-eccOf (Reached e) old = e
+eccOf (Reached e d) old = e
 eccOf (Refused k) old = old
+
+abbrev pub depthOf : Found → ℕ → ℕ
+depthOf (Reached e d) old = d
+depthOf (Refused k) old = old
 
 -- the part handed back: nothing for a refusal
 abbrev pub lastOf : ℕ → Found → List ℕ → List ℕ → List ℕ
-lastOf W (Reached e) even odd = lastLayer W e even odd
+lastOf W (Reached e d) even odd = lastLayer W d even odd
 lastOf W (Refused k) even odd = []
 
--- what the call leaves: the part with both rows, the hop table, and the two numbers
+-- what the call leaves: the part with both rows, the hop table, and the three numbers
 pub record RowsLeft : Type 0 where
   pub rows : List (List ℕ)
   pub hops : List ℕ
   pub refusal : ℕ
   pub ecc : ℕ
+  pub depth : ℕ
 
-abbrev pub rowsLeft : List (List ℕ) → List ℕ → ℕ → ℕ → RowsLeft
-rowsLeft rows hops refusal ecc = record { rows = rows; hops = hops; refusal = refusal; ecc = ecc }
+abbrev pub rowsLeft : List (List ℕ) → List ℕ → ℕ → ℕ → ℕ → RowsLeft
+rowsLeft rows hops refusal ecc depth = record { rows = rows; hops = hops; refusal = refusal; ecc = ecc; depth = depth }
 
-unfoldable pub rowsOf : ℕ → SearchLeft → ℕ → RowsLeft
-rowsOf W left old =
+unfoldable pub rowsOf : ℕ → SearchLeft → ℕ → ℕ → RowsLeft
+rowsOf W left oldEcc oldDepth =
     let B = left .lent in
     record {
       rows = lastOf W (left .answer) (B .even) (B .odd) ∷ B .even ∷ B .odd ∷ [];
       hops = B .hops;
       refusal = searchNumber (left .answer);
-      ecc = eccOf (left .answer) old;
+      ecc = eccOf (left .answer) oldEcc;
+      depth = depthOf (left .answer) oldDepth;
     }

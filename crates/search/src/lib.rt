@@ -1,18 +1,21 @@
-// The public search (rule 3), what refuses it, and whether a map hangs together.
+// The public search (rule 3), and what refuses it.
 ghost use mathlib.Core.Path.{_≡_};
-ghost use mathlib.Core.List.{map};
+ghost use mathlib.Core.List.{[], map};
 ghost use Prim.Native.Nat.{_<_, _≤_};
 ghost use lib.ListN.{length};
+ghost use Rattle.lists.specs.Lists.{maxOf};
+ghost use Rattle.graph.specs.Distance.{vertices, unreached, dist};
 ghost use Rattle.layers.specs.Layers.{searched, searchTable};
 ghost use Rattle.map.specs.Slices.{tablesAt, tablesBefore, tablesAfter};
-ghost use Rattle.map.specs.Memory.{base, places, tableWords};
+ghost use Rattle.map.specs.Memory.{base, places, tableWords, networkOf, tableNetwork};
 ghost use Rattle.search.specs.SearchCall.{searchRefusal, searchLeft, searchCall, lastLayer, rowsLeft, rowsOf};
 use map::Record;
 use rows::Next;
 
-// The answer of a search: the eccentricity, or the refusal's number.
+// The answer of a search: the eccentricity, which is to depots that deliver, and the distance of the last layer, which is of all open depots; or the
+// refusal's number.
 pub enum Found {
-    Reached(u16),
+    Reached(u16, u16),
     Refused(u8),
 }
 
@@ -50,6 +53,47 @@ pub fn search_sound(
     )
 }
 
+// What a search to targets found: the greatest hop of a target, and the distance of the last layer.
+pub struct Reach {
+    pub ecc: u16,
+    pub depth: u16,
+}
+
+// The same search, with its eccentricity to the targets, a row of the depots that count. All of them must be reached.
+pub fn search_to(
+    targets: &[u64],
+    links: &[u64],
+    hops: &mut [u16],
+    even: &mut [u64],
+    odd: &mut [u64],
+    start: usize,
+) -> Reach
+    requires { let N = tableNetwork (base .words) (now links) in
+        let depots = vertices (networkOf (base .words) (now targets) []) in
+        ⌜ (base .words ≤ length (now targets))
+        × (tableWords base ≤ length (now links))
+        × (places base ≤ length (now hops))
+        × (base .words ≤ length (now even))
+        × (base .words ≤ length (now odd))
+        × (start < places base)
+        × (maxOf (dist N start) depots < unreached) ⌝ }
+    ensures { λ r.
+        let before = tablesBefore hops even odd in
+        let after = tablesAfter hops even odd in
+        let N = tableNetwork (base .words) (now (links .entry)) in
+        let depots = vertices (networkOf (base .words) (now (targets .entry)) []) in
+        ⌜ (searched (r .depth) after ≡ searchTable (base .words) (now (links .entry)) start before)
+        × (r .ecc ≡ maxOf (dist N start) depots) ⌝ }
+{
+    let depth = search_sound(links, hops, even, odd, start);
+    let last = last_layer(&*even, &*odd, depth);
+    let ecc = targets::greatest_hop(targets, &*hops, last, map::WORDS, depth);
+    Reach {
+        ecc: ecc,
+        depth: depth,
+    }
+}
+
 // ---- the public call
 
 // The first refusal of a search that holds, 0 for none. It only reads. A search is lent no pairs, bounds and skips, and looks at no figures.
@@ -84,8 +128,8 @@ pub fn search_refusal(
     0
 }
 
-// The search from a depot: its eccentricity, with distances in the hop table and the last two layers in the rows; or the first refusal that
-// holds, and then nothing is changed.
+// The search from a depot: its eccentricity and the distance of the last layer, with distances in the hop table and the last two layers in the rows; or
+// the first refusal that holds, and then nothing is changed.
 pub fn search_from(
     rec: Record,
     links: &[u64],
@@ -103,15 +147,19 @@ pub fn search_from(
     if refusal != 0 {
         return Found::Refused(refusal);
     }
-    let ecc = search_sound(links, hops, even, odd, code as usize);
-    Found::Reached(ecc)
+    let mut delivering = rec.members;
+    let yards = rec.yards;
+    map::keep_delivering(&mut delivering, &yards, map::WORDS);
+    let found = search_to(&delivering, links, hops, even, odd, code as usize);
+    Found::Reached(found.ecc, found.depth)
 }
 
-// The last layer of a search with this eccentricity: a part of whichever lent row holds it.
-pub fn last_layer<'a>(even: &'a [u64], odd: &'a [u64], ecc: u16) -> &'a [u64]
-    ensures { λ r. ⌜ now r ≡ lastLayer (base .words) ecc (now (even .entry)) (now (odd .entry)) ⌝ }
+// The last layer of a search to this depth: a part of whichever lent row holds it. The eccentricity does not tell the row: where the last layer holds
+// yards alone it is less than the depth, and may have the other parity.
+pub fn last_layer<'a>(even: &'a [u64], odd: &'a [u64], depth: u16) -> &'a [u64]
+    ensures { λ r. ⌜ now r ≡ lastLayer (base .words) depth (now (even .entry)) (now (odd .entry)) ⌝ }
 {
-    if ecc % 2 == 0 {
+    if depth % 2 == 0 {
         if even.len() < map::WORDS {
             return even;
         }
@@ -124,7 +172,7 @@ pub fn last_layer<'a>(even: &'a [u64], odd: &'a [u64], ecc: u16) -> &'a [u64]
 }
 
 // The search with its last layer (rule 3.3): the part of the row that holds it, beside both rows, so that no word is left unsaid.
-// The answer goes into two numbers, since a lent enum is not covered: the refusal (0: none), and the eccentricity, which a refused call keeps.
+// The answer goes into three numbers, since a lent enum is not covered: the refusal (0: none), and eccentricity and depth, which a refused call keeps.
 pub fn search_rows<'a>(
     rec: Record,
     links: &[u64],
@@ -133,21 +181,24 @@ pub fn search_rows<'a>(
     odd: &'a mut [u64],
     refusal: &mut u8,
     ecc: &mut u16,
+    depth: &mut u16,
     code: u8,
 ) -> [&'a [u64]; 3]
     ensures { λ r.
         let before = tablesAt (hops .entry) (even .entry) (odd .entry) in
         let found = searchCall base rec (now (links .entry)) before code in
-        ⌜ rowsLeft (map now r) (now (hops .exit)) (now (refusal .exit)) (now (ecc .exit)) ≡ rowsOf (base .words) found (now (ecc .entry)) ⌝ }
+        ⌜ rowsLeft (map now r) (now (hops .exit)) (now (refusal .exit)) (now (ecc .exit)) (now (depth .exit))
+        ≡ rowsOf (base .words) found (now (ecc .entry)) (now (depth .entry)) ⌝ }
 {
     let found = search_from(rec, links, hops, &mut *even, &mut *odd, code);
     let first = &even[..];
     let second = &odd[..];
     match found {
-        Found::Reached(e) => {
+        Found::Reached(e, d) => {
             *refusal = 0;
             *ecc = e;
-            let last = last_layer(first, second, e);
+            *depth = d;
+            let last = last_layer(first, second, d);
             [last, first, second]
         }
         Found::Refused(k) => {

@@ -11,16 +11,14 @@ use Rattle.outcome.specs.Numbers.{shortBuffer, tooFew}
 use Rattle.lists.specs.Lists.{range, countb, lastOr, mapl, overwrite, firstOf}
 use Rattle.lists.proofs.Tests.{and-true}
 use Rattle.lists.proofs.Members.{first-zero}
-use Rattle.lists.proofs.Counts.{count-ext, length-count, count-filter}
 use Rattle.graph.specs.Network.{Network, delivers}
 use Rattle.graph.specs.Distance.{vertices}
 use Rattle.graph.specs.Chart.{chart, destinations}
 use Rattle.graph.specs.Correct.{IsNet}
 use Rattle.graph.specs.Summary.{distanceSum, pairNumber, eccCount}
 use Rattle.graph.proofs.Summary.{pairs-positive}
-use Rattle.rows.specs.Rows.{rowBit, tableBit}
-use Rattle.rows.proofs.Written.{table-zero}
-use Rattle.map.specs.Memory.{Shape, places, IsShape, networkOf, mapNetwork}
+use Rattle.rows.specs.Rows.{tableBit, encodeRow}
+use Rattle.map.specs.Memory.{Shape, places, IsShape, mapNetwork}
 use Rattle.map.specs.Room.{Tables, AreLong, longEnough}
 use Rattle.map.specs.declared.Record.{Record}
 use Rattle.map.proofs.Longs.{are-long}
@@ -31,14 +29,7 @@ use Rattle.search.specs.SearchCall.{searchSizes}
 use Rattle.summary.specs.SummaryCall.{summaryRefusal, summaryLeft, summaryGiven, summaryCall}
 use Rattle.summary.specs.Steps.{Totalled, totalled, totalOver}
 use Rattle.summary.specs.declared.Summing.the-variants.{Summed, Refused}
-use Rattle.summary.proofs.Leaving.{total-is}
-
--- so many destinations are the open codes of the row
-number-is : (W : ℕ) (members links : List ℕ) → countb (tableBit W members 0) (range (64 * W)) ≡ countb (delivers (networkOf W members links)) (vertices (networkOf W members links))
-unfolding networkOf delivers
-number-is W members links =
-    count-ext (tableBit W members 0) (rowBit W members) (range (64 * W)) (λ v m. table-zero W members v)
-    ∙ sym (count-filter (rowBit W members) (rowBit W members) (range (64 * W)) (λ v t. t))
+use Rattle.summary.proofs.Leaving.{number-is, total-is}
 
 -- ---- what no refusal says
 
@@ -98,17 +89,19 @@ module _ (K : Shape) (rec : Record) (links : List ℕ) (hops even odd counts : �
   unfolding summaryRefusal
   passed l q e z = lent-then K (long && leb (places K) counts) false rec links [] few (sym z ∙ lent-is l q e)
 
-  pub refused-few : {k n : ℕ} {b : Bool} → places K ≤ counts → b ≡ long → k ≡ lentRefusal K b false rec links links → k ≡ 0
-      → n ≡ countb (tableBit (K .words) (rec .members) 0) (range (64 * K .words)) → n < 2 → tooFew ≡ summaryRefusal K rec links hops even odd counts
-  unfolding firstOf
-  refused-few l q e z d s =
-      rw (lt-ltb (countb (delivers G) (vertices G)) 2 (omega (arith, d, s, number-is (K .words) (rec .members) links))) at (passed l q e z)
+  -- the number is that of a row of the depots that deliver
+  module _ {row : List ℕ} (kept : row ≡ overwrite (encodeRow (K .words) (delivers (mapNetwork K rec []))) (rec .members)) where
+    pub refused-few : {k n : ℕ} {b : Bool} → places K ≤ counts → b ≡ long → k ≡ lentRefusal K b false rec links links → k ≡ 0
+        → n ≡ countb (tableBit (K .words) row 0) (range (64 * K .words)) → n < 2 → tooFew ≡ summaryRefusal K rec links hops even odd counts
+    unfolding firstOf
+    refused-few l q e z d s =
+        rw (lt-ltb (countb (delivers G) (vertices G)) 2 (omega (arith, d, s, number-is (K .words) (rec .members) (rec .yards) links kept))) at (passed l q e z)
 
-  pub refused-never : {k n : ℕ} {b : Bool} → places K ≤ counts → b ≡ long → k ≡ lentRefusal K b false rec links links → k ≡ 0
-      → n ≡ countb (tableBit (K .words) (rec .members) 0) (range (64 * K .words)) → 2 ≤ n → 0 ≡ summaryRefusal K rec links hops even odd counts
-  unfolding firstOf
-  refused-never l q e z d s =
-      rw (le-ltb (countb (delivers G) (vertices G)) 2 (omega (arith, d, s, number-is (K .words) (rec .members) links))) at (passed l q e z)
+    pub refused-never : {k n : ℕ} {b : Bool} → places K ≤ counts → b ≡ long → k ≡ lentRefusal K b false rec links links → k ≡ 0
+        → n ≡ countb (tableBit (K .words) row 0) (range (64 * K .words)) → 2 ≤ n → 0 ≡ summaryRefusal K rec links hops even odd counts
+    unfolding firstOf
+    refused-never l q e z d s =
+        rw (le-ltb (countb (delivers G) (vertices G)) 2 (omega (arith, d, s, number-is (K .words) (rec .members) (rec .yards) links kept))) at (passed l q e z)
 
 -- ---- the call
 
@@ -132,21 +125,13 @@ module _ (K : Shape) (rec : Record) (links : List ℕ) (B : Tables) (counts : Li
     grants : IsGranted K rec links (length (B .hops)) (length (B .even)) (length (B .odd)) (length counts)
     grants = granted K rec links (length (B .hops)) (length (B .even)) (length (B .odd)) (length counts) shape z
 
-    module _ {sum pairs : ℕ} {B′ : Tables} {counts′ : List ℕ} (is : totalled sum pairs B′ counts′ ≡ totalOver (K .words) (rec .members) links B counts) where
-      some : 0 < length (vertices (networkOf (K .words) (rec .members) []))
-      unfolding networkOf
-      some =
-          omega (
-            arith,
-            grants .two,
-            sym (number-is (K .words) (rec .members) links),
-            count-ext (tableBit (K .words) (rec .members) 0) (rowBit (K .words) (rec .members)) (range (64 * K .words)) (λ v m. table-zero (K .words) (rec .members) v),
-            length-count (rowBit (K .words) (rec .members)) (range (64 * K .words)),
-          )
-
+    module _ {row : List ℕ} (kept : row ≡ overwrite (encodeRow (K .words) (delivers (mapNetwork K rec []))) (rec .members))
+        {sum pairs : ℕ} {B′ : Tables} {counts′ : List ℕ} (is : totalled sum pairs B′ counts′ ≡ totalOver (K .words) row links B counts) where
       whole : totalled sum pairs B′ counts′ ≡ totalled (distanceSum (chart M)) (pairNumber (chart M)) (searchLeaves (K .words) M (lastOr 0 (destinations (chart M))) B)
           (overwrite (mapl (eccCount (chart M)) (range (places K))) counts)
-      whole = is ∙ total-is (K .words) (shape .most) (rec .members) links (grants .net) B counts (grants .room) some
+      whole =
+          is
+          ∙ total-is (K .words) (rec .members) (rec .yards) links kept (shape .most) (grants .net) B counts (grants .room) (omega (arith, grants .two))
 
       -- there is a pair
       pub some-pair : 0 < pairs

@@ -28,6 +28,7 @@ use Rattle.graph.proofs.Summary.{sum-bound, summary-is}
 use Rattle.map.specs.Memory.{Shape, places, tableWords, IsShape, mapNetwork}
 use Rattle.map.specs.Room.{Tables, longEnough}
 use Rattle.map.proofs.Theorems.{network-rising, network-open-below, network-most}
+use Rattle.layers.specs.Layers.{depthFrom}
 use Rattle.lent_map.proofs.Refuses.{lent-tells}
 use Rattle.search.specs.SearchCall.{searchSizes}
 use Rattle.search.specs.Refusals.{searchBuffers}
@@ -110,6 +111,7 @@ summary-demand2 K shape rec links B counts z =
       last = lastOr 0 ds;
       isLast = (true→t isDestination, λ v t. highest .1 v (filter-in (delivers G) (vertices G) (vertices-in G (grants .net .sound) v (delivers-open G v t)) (t→true (delivers G v) t)));
       ecc = ecc (chart G) (lastOr 0 ds);
+      depth = depthFrom G (lastOr 0 ds);
       searched =
           leaves-search K G (grants .net) (network-open-below (K .words) (rec .members) links) (lastOr 0 ds) (delivers-open G (lastOr 0 ds) (true→t isDestination))
           B (grants .long .hops) (grants .long .even) (grants .long .odd);

@@ -1,46 +1,32 @@
 -- A loop that goes through the destinations in rising code, searches from each, adds its tally and counts its eccentricity. Assumes nothing.
 use mathlib.Core.Path.{_≡_, refl, sym, ap, _∙_, subst}
-use mathlib.Core.Bool.{Bool, true, false, cond, not, _&&_}
 use mathlib.Core.Logic.{_⊎_, inl, inr, _≢_}
 use mathlib.Core.List.{List, [], _∷_, List·Memᴰ, List·Memᴰ·head}
-use Prim.Native.Nat.{ℕ, _+_, _-_, _*_, _%_, _≤_, _<_, min, zero-le}
+use Prim.Native.Nat.{ℕ, _+_, _-_, _*_, _≤_, _<_, zero-le}
 use native.Mathlib.Nat.{le-trans, mul-le-mul-left}
 use native.Mathlib.Numerals.{add-one}
 use native.Mathlib.Omega.{arith}
-use lib.Dec.{eqb, leb, ltb}
-use lib.ListN.{length, getD, set, take, drop, length-take}
+use lib.Dec.{leb, ltb}
+use lib.ListN.{length, getD, set}
 use lib.Seq.{getD-set-same, getD-set-other}
-use borrow.Author.Tests.{eqb-true, eq-eqb, ne-eqb, lt-ltb, le-leb}
+use borrow.Author.Tests.{le-leb}
 use Rattle.lists.specs.Lists.{range, filterb, sumOf, maxOf, mapl, overwrite}
-use Rattle.lists.proofs.Tests.{true→t, eq-or-ne}
-use Rattle.lists.proofs.Members.{filter-in, filter-out, filter-all, range-in, range-out, length-filter}
-use Rattle.lists.proofs.Counts.{max-ge, max-ext, max-le-of}
-use Rattle.lists.proofs.Fills.{fill-at}
+use Rattle.lists.proofs.Tests.{eq-or-ne}
+use Rattle.lists.proofs.Members.{filter-out, filter-all, length-filter}
+use Rattle.lists.proofs.Counts.{max-le-of}
 use Rattle.graph.specs.Network.{Network}
-use Rattle.graph.specs.Distance.{vertices, unreached, dist}
+use Rattle.graph.specs.Distance.{vertices, dist}
 use Rattle.graph.proofs.Summary.{sum-alike, sum-most}
-use Rattle.rows.specs.Rows.{rowBit, encodeRow}
-use Rattle.rows.proofs.Written.{row-at, row-of-table, table-zero}
 use Rattle.map.specs.Memory.{networkOf, tableNetwork}
 use Rattle.map.specs.Room.{Tables, tables}
 use Rattle.map.specs.Depots.{depotsFrom, IsNextOpen}
-use Rattle.map.proofs.Theorems.{network-open-below, network-most}
-use Rattle.layers.specs.Layers.{depthFrom, layerBit, Searched, searched, searchLeaves, searchTable}
-use Rattle.search.specs.SearchCall.{lastLayer}
-use Rattle.targets.specs.Hops.{IsLastLayer}
+use Rattle.map.proofs.Theorems.{network-most}
+use Rattle.layers.specs.Layers.{searched, searchLeaves, searchTable}
+use Rattle.search.proofs.Reaches.{target-below, search-leaves, hop-is}
 use Rattle.summary.specs.Steps.{tallyOf, countOne, countAll, searchAll, Totalled, totalled, totalBy, totalOver, AreNear}
 use Rattle.summary.specs.declared.Tally.{Tally}
 
 -- ---- one destination: what its search left
-
--- the last layer has a row's words
-pub last-long : (W e : ℕ) {last : List ℕ} (even odd : List ℕ) → last ≡ lastLayer W e even odd → W ≤ length even → W ≤ length odd → W ≤ length last
-unfolding lastLayer
-last-long W e {last} even odd q a b = go (eqb (e % 2) 0) (ap length q ∙ length-take W (cond (eqb (e % 2) 0) even odd))
-  where
-    go : (t : Bool) → length last ≡ min W (length (cond t even odd)) → W ≤ length last
-    go true n = omega (arith, n)
-    go false n = omega (arith, n)
 
 module _ (W : ℕ) (targets links : List ℕ) (u : ℕ) where
   abbrev N : Network
@@ -49,81 +35,27 @@ module _ (W : ℕ) (targets links : List ℕ) (u : ℕ) where
   abbrev vs : List ℕ
   vs = vertices (networkOf W targets [])
 
-  -- a target's code is one of the map's
-  target-below : (v : ℕ) → List·Memᴰ v (vertices (networkOf W targets [])) → v < 64 * W
-  unfolding networkOf
-  target-below v m = range-out (64 * W) (filter-out (rowBit W targets) (range (64 * W)) m .0)
+  -- its hops are the distances over the link table
+  module _ (B : Tables) {d ecc : ℕ} {hops even odd : List ℕ}
+      (is : (searched d (tables hops even odd) ≡ searchTable W links u B) × (ecc ≡ maxOf (dist (tableNetwork W links) u) (vertices (networkOf W targets [])))) where
+    pub tables-left : tables hops even odd ≡ searchLeaves W (tableNetwork W links) u B
+    tables-left = search-leaves W targets links u B (is .0)
 
-  module _ (B : Tables) {e : ℕ} {hops even odd : List ℕ} (is : searched e (tables hops even odd) ≡ searchTable W links u B) where
-    pub search-leaves : tables hops even odd ≡ searchLeaves W (tableNetwork W links) u B
-    unfolding searchTable
-    search-leaves = ap (λ (x : Searched). x .left) is
+    pub count-is : (l : List ℕ) → set l ecc (getD l ecc 0 + 1) ≡ countOne (maxOf (dist (tableNetwork W links) u) (vertices (networkOf W targets []))) l
+    unfolding countOne
+    count-is l = ap (λ (e : ℕ). set l e (getD l e 0 + 1)) (is .1)
 
-    hop-is : (v : ℕ) → v < 64 * W → getD hops v 0 ≡ dist N u v
-    unfolding searchLeaves
-    hop-is v l = ap (λ (t : Tables). getD (t .hops) v 0) search-leaves ∙ fill-at (dist N u) (B .hops) (64 * W) v 0 l
-
-    depth-is : e ≡ depthFrom N u
-    unfolding searchTable
-    depth-is = ap (λ (x : Searched). x .depth) is
-
-    -- what the greatest hop of a target needs: none lies past the last layer, and the row of the depth's parity holds that
-    module _ (reached : maxOf (dist (tableNetwork W links) u) (vertices (networkOf W targets [])) < unreached) where
-      hop-most : (v : ℕ) → rowBit W targets v ≡ true → getD hops v 0 ≤ e
-      unfolding networkOf tableNetwork depthFrom
-      hop-most v t =
-          let l : v < 64 * W = network-open-below W targets [] v (true→t t) in
-          let a : dist N u v ≤ maxOf (dist N u) vs = max-ge (dist N u) vs (filter-in (rowBit W targets) (range (64 * W)) (range-in (64 * W) l) t) in
-          let f : ℕ → ℕ = λ v. cond (ltb (dist N u v) unreached) (dist N u v) 0 in
-          let b : f v ≤ maxOf f (range (64 * W)) = max-ge f (range (64 * W)) (range-in (64 * W) l) in
-          let c : f v ≡ dist N u v = ap (λ (t : Bool). cond t (dist N u v) 0) (lt-ltb (dist N u v) unreached (omega (arith, reached, a))) in
-          omega (arith, hop-is v l, b, c, depth-is)
-
-      hop-last : (parity : ℕ) (row old : List ℕ) → row ≡ overwrite (encodeRow W (layerBit (dist N u) (depthFrom N u) parity)) old → e % 2 ≡ parity
-          → (v : ℕ) → rowBit W (take W row) v ≡ true → getD hops v 0 ≡ e
-      unfolding networkOf layerBit
-      hop-last parity row old r q v t =
-          let l : v < 64 * W = network-open-below W (take W row) [] v (true→t t) in
-          let z : W * 0 ≡ 0 = omega arith in
-          let part : rowBit W (take W row) v ≡ rowBit W row v =
-          ap (λ (i : ℕ). rowBit W (take W (drop i row)) v) (sym z) ∙ row-of-table W row 0 v (omega arith) ∙ table-zero W row v in
-          let here : rowBit W row v ≡ eqb (dist N u v) (depthFrom N u) =
-          ap (λ (x : List ℕ). rowBit W x v) r ∙ row-at W (layerBit (dist N u) (depthFrom N u) parity) old v l
-          ∙ ap (λ (x : Bool). cond x (eqb (dist N u v) (depthFrom N u)) (not (eqb (depthFrom N u) 0) && eqb (dist N u v) (depthFrom N u - 1)))
-          (eq-eqb (depthFrom N u % 2) parity (ap (λ (k : ℕ). k % 2) (sym depth-is) ∙ q)) in
-          hop-is v l ∙ eqb-true (dist N u v) (depthFrom N u) (sym here ∙ sym part ∙ t) ∙ sym depth-is
-
-      pub last-is : {last : List ℕ} → last ≡ lastLayer W e even odd → IsLastLayer W targets last hops e
-      unfolding lastLayer searchLeaves
-      last-is {last} q = record { most = hop-most; here = λ v t. go (eq-or-ne (e % 2) 0) v (ap (λ (l : List ℕ). rowBit W l v) (sym q) ∙ t) }
-        where
-          go : (e % 2 ≡ 0) ⊎ (e % 2 ≢ 0) → (v : ℕ) → rowBit W (take W (cond (eqb (e % 2) 0) even odd)) v ≡ true → getD hops v 0 ≡ e
-          go (inl z) v t =
-              hop-last 0 even (B .even) (ap (λ (x : Tables). x .even) search-leaves) z v
-              (ap (λ (x : Bool). rowBit W (take W (cond x even odd)) v) (sym (eq-eqb (e % 2) 0 z)) ∙ t)
-          go (inr n) v t =
-              hop-last 1 odd (B .odd) (ap (λ (x : Tables). x .odd) search-leaves) (omega (arith, n)) v
-              (ap (λ (x : Bool). rowBit W (take W (cond x even odd)) v) (sym (ne-eqb (e % 2) 0 n)) ∙ t)
-
-    -- its hops are the distances over the link table
-    module _ {ecc : ℕ} (far : ecc ≡ maxOf (λ v. getD hops v 0) (vertices (networkOf W targets []))) where
-      pub ecc-is : ecc ≡ maxOf (dist (tableNetwork W links) u) (vertices (networkOf W targets []))
-      ecc-is = far ∙ max-ext (λ v. getD hops v 0) (dist N u) vs (λ v m. hop-is v (target-below v m))
-
-      pub count-is : (l : List ℕ) → set l ecc (getD l ecc 0 + 1) ≡ countOne (maxOf (dist (tableNetwork W links) u) (vertices (networkOf W targets []))) l
-      unfolding countOne
-      count-is l = ap (λ (e : ℕ). set l e (getD l e 0 + 1)) ecc-is
-
-      pub tally-is : {sum pairs : ℕ}
-          → (sum ≡ sumOf (λ v. getD hops v 0) (filterb (λ v. ltb u v) (vertices (networkOf W targets []))))
-          × (pairs ≡ length (filterb (λ v. ltb u v) (vertices (networkOf W targets []))))
-          → record { sum = sum; pairs = pairs; ecc = ecc } ≡ tallyOf (dist (tableNetwork W links) u) u (vertices (networkOf W targets []))
-      unfolding tallyOf
-      tally-is {sum} {pairs} later =
-          let s : sum ≡ sumOf (dist N u) (filterb (λ v. ltb u v) vs) =
-          later .0
-          ∙ sum-alike (filterb (λ v. ltb u v) vs) (λ v. getD hops v 0) (dist N u) (λ v m. hop-is v (target-below v (filter-out (λ v. ltb u v) vs m .0))) in
-          rw (s, later .1, ecc-is)
+    pub tally-is : {sum pairs : ℕ}
+        → (sum ≡ sumOf (λ v. getD hops v 0) (filterb (λ v. ltb u v) (vertices (networkOf W targets []))))
+        × (pairs ≡ length (filterb (λ v. ltb u v) (vertices (networkOf W targets []))))
+        → record { sum = sum; pairs = pairs; ecc = ecc } ≡ tallyOf (dist (tableNetwork W links) u) u (vertices (networkOf W targets []))
+    unfolding tallyOf
+    tally-is {sum} {pairs} later =
+        let s : sum ≡ sumOf (dist N u) (filterb (λ v. ltb u v) vs) =
+        later .0
+        ∙ sum-alike (filterb (λ v. ltb u v) vs) (λ v. getD hops v 0) (dist N u)
+        (λ v m. hop-is W targets links u B (is .0) v (target-below W targets links u v (filter-out (λ v. ltb u v) vs m .0))) in
+        rw (s, later .1, is .1)
 
 -- a count grows by at most one
 count-most : (e i : ℕ) (l : List ℕ) → e < length l → getD (countOne e l) i 0 ≤ getD l i 0 + 1

@@ -31,7 +31,8 @@ pub record IsSummaryLeft (K : Shape) (G : Network) (B : Tables) (counts : List �
   pub last : ℕ
   pub isLast : T (delivers G last) × ((v : ℕ) → T (delivers G v) → v ≤ last)
   pub ecc : ℕ
-  pub searched : IsSearch K G last B (searchLeft (Reached ecc) (left .lent))
+  pub depth : ℕ
+  pub searched : IsSearch K G last B (searchLeft (Reached ecc depth) (left .lent))
 
 abbrev pub SummaryDemand2 : Shape → Type 0
 SummaryDemand2 K =

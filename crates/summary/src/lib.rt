@@ -1,5 +1,5 @@
-// The network report: the sum of the distances over all pairs of depots, the number of pairs, the mean, and how many depots have each eccentricity.
-// A search from each depot in rising code; of what it left, the hops above that depot are added, and the last layer gives the eccentricity.
+// The network report: the sum of the distances over all pairs of depots that deliver, the number of pairs, the mean, and how many of them have each
+// eccentricity. A search from each in rising code; of what it left, the hops of those above are added, and the last layer gives the eccentricity.
 ghost use mathlib.Core.List.{[]};
 ghost use mathlib.Core.Path.{_≡_};
 ghost use Prim.Native.Nat.{_<_, _≤_};
@@ -53,16 +53,14 @@ fn search_target(
         × (after ≡ searchLeaves (base .words) N u before)
         × (now (counts .exit) ≡ countOne (maxOf (dist N u) depots) (now (counts .entry))) ⌝ }
 {
-    let depth = search::search_sound(links, hops, even, odd, u);
-    let last = search::last_layer(&*even, &*odd, depth);
-    let ecc = targets::greatest_hop(targets, &*hops, last, map::WORDS, depth);
+    let found = search::search_to(targets, links, hops, even, odd, u);
     let later = targets::sum_above(targets, &*hops, map::WORDS, u);
-    let e = ecc as usize;
+    let e = found.ecc as usize;
     counts[e] = counts[e] + 1;
     Tally {
         sum: later.sum,
         pairs: later.pairs,
-        ecc: ecc,
+        ecc: found.ecc,
     }
 }
 
@@ -150,15 +148,17 @@ fn summary_refusal(
     if refusal != 0 {
         return refusal;
     }
-    let members = rec.members;
-    if rows::degree(&members, map::WORDS, 0) < 2 {
+    let mut delivering = rec.members;
+    let yards = rec.yards;
+    map::keep_delivering(&mut delivering, &yards, map::WORDS);
+    if rows::degree(&delivering, map::WORDS, 0) < 2 {
         return outcome::TOO_FEW;
     }
     0
 }
 
 // The network report, with how many depots have each eccentricity in the lent counts; or the first refusal that holds, and then nothing is changed.
-// The open set is the row of the depots that count.
+// The depots that count are those that deliver: the open set without the yards.
 pub fn summarise(
     rec: Record,
     links: &[u64],
@@ -176,7 +176,9 @@ pub fn summarise(
     if refusal != 0 {
         return Summing::Refused(refusal);
     }
-    let targets = rec.members;
+    let mut targets = rec.members;
+    let yards = rec.yards;
+    map::keep_delivering(&mut targets, &yards, map::WORDS);
     let t = total_over(&targets, links, hops, even, odd, counts);
     Summing::Summed(t.sum, t.pairs, t.sum / t.pairs, t.sum % t.pairs)
 }

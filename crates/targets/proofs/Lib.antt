@@ -6,3 +6,5 @@ pub mod Words
 pub mod Rows
 -- the words of two rows
 pub mod Meets
+-- the targets at a hop, and how far they lie
+pub mod Partners

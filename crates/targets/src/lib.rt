@@ -1,17 +1,18 @@
-// What a search left of the targets, a row of the depots that count: the greatest hop of one, and the hops of those above a code added.
+// What a search left of the targets, a row of the depots that count: the greatest hop of one, the targets at it, and the hops of those above a code added.
 // Words outside, set bits inside: a code that is no target costs nothing.
 ghost use mathlib.Core.List.{[]};
 ghost use mathlib.Core.Path.{_≡_};
 ghost use mathlib.Core.Bool.{_&&_};
 ghost use Prim.Native.Nat.{_+_, _*_, _^_, _<_, _≤_, max};
-ghost use lib.Dec.{ltb};
+ghost use lib.Dec.{eqb, ltb};
 ghost use lib.ListN.{length, getD};
-ghost use Rattle.lists.specs.Lists.{range, filterb, anyb, sumOf, maxOf};
+ghost use Rattle.lists.specs.Lists.{range, filterb, anyb, sumOf, maxOf, overwrite};
 ghost use Rattle.words.specs.Bits.{bit, wordOf};
 ghost use Rattle.graph.specs.Distance.{vertices};
-ghost use Rattle.rows.specs.Rows.{rowBit};
+ghost use Rattle.rows.specs.Rows.{rowBit, encodeRow};
 ghost use Rattle.map.specs.Memory.{networkOf};
 ghost use Rattle.targets.specs.Hops.{hopIn, IsLastLayer};
+ghost use Rattle.targets.specs.Reach.{farthestOf, reached, reachOf};
 
 // ---- the greatest hop
 
@@ -65,7 +66,21 @@ fn meet(a: &[u64], b: &[u64], words: usize) -> bool
     both != 0
 }
 
-// The greatest hop of a target after a search to this depth: the depth where a target is in its last layer, and else by a pass.
+// As far as a target lies, by the last layer of a search to this depth: the depth where a target is in it, and else by a pass.
+fn farthest(targets: &[u64], hops: &[u16], last: &[u64], words: usize, depth: u16) -> u16
+    requires { ⌜ (words ≤ length (now targets))
+        × (64 * words ≤ length (now hops))
+        × (words ≤ length (now last))
+        × (words < 2 ^ 32) ⌝ }
+    ensures { λ r. ⌜ r ≡ farthestOf words (now (targets .entry)) (now (hops .entry)) (now (last .entry)) depth ⌝ }
+{
+    if meet(last, targets, words) {
+        return depth;
+    }
+    greatest_of_all(targets, hops, words)
+}
+
+// The greatest hop of a target after a search to this depth, which reached all of them.
 pub fn greatest_hop(targets: &[u64], hops: &[u16], last: &[u64], words: usize, depth: u16) -> u16
     requires { ⌜ (words ≤ length (now targets))
         × (64 * words ≤ length (now hops))
@@ -74,10 +89,96 @@ pub fn greatest_hop(targets: &[u64], hops: &[u16], last: &[u64], words: usize, d
         × IsLastLayer words (now targets) (now last) (now hops) depth ⌝ }
     ensures { λ r. ⌜ r ≡ maxOf (λ v. getD (now (hops .entry)) v 0) (vertices (networkOf words (now (targets .entry)) [])) ⌝ }
 {
-    if meet(last, targets, words) {
-        return depth;
+    farthest(targets, hops, last, words, depth)
+}
+
+// ---- the targets at it
+
+// The targets that are in the last layer.
+fn put_both(targets: &[u64], last: &[u64], row: &mut [u64], words: usize)
+    requires { ⌜ (words ≤ length (now targets)) × (words ≤ length (now last)) × (words ≤ length (now row)) ⌝ }
+    ensures { λ r.
+        let both = encodeRow words (λ v. rowBit words (now (targets .entry)) v && rowBit words (now (last .entry)) v) in
+        ⌜ now (row .exit) ≡ overwrite both (now (row .entry)) ⌝ }
+{
+    let mut w = 0;
+    while w < words {
+        row[w] = targets[w] & last[w];
+        w += 1;
     }
-    greatest_of_all(targets, hops, words)
+}
+
+// The members of word w of a row whose hop is e. The word is a copy, from which each member leaves as it is looked at.
+fn word_at(hops: &[u16], w: usize, word: u64, e: u16) -> u64
+    requires { ⌜ (64 * w + 64 ≤ length (now hops)) × (w < 2 ^ 32) ⌝ }
+    ensures { λ r. ⌜ r ≡ wordOf 64 (λ b. bit word b && eqb (getD (now (hops .entry)) (64 * w + b) 0) e) ⌝ }
+{
+    let mut here = word;
+    let mut x = word;
+    while x != 0 {
+        let b = words::least(x);
+        if hops[64 * w + b] != e {
+            here = words::without_bit(here, b);
+        }
+        x = words::drop_least(x);
+    }
+    here
+}
+
+// The targets whose hop is e, by one pass over all of them.
+fn put_at(targets: &[u64], hops: &[u16], row: &mut [u64], words: usize, e: u16)
+    requires { ⌜ (words ≤ length (now targets))
+        × (64 * words ≤ length (now hops))
+        × (words ≤ length (now row))
+        × (words < 2 ^ 32) ⌝ }
+    ensures { λ r.
+        let here = encodeRow words (λ v. rowBit words (now (targets .entry)) v && eqb (getD (now (hops .entry)) v 0) e) in
+        ⌜ now (row .exit) ≡ overwrite here (now (row .entry)) ⌝ }
+{
+    let mut w = 0;
+    while w < words {
+        row[w] = word_at(hops, w, targets[w], e);
+        w += 1;
+    }
+}
+
+// As far as a target lies from a depot, and what of it is the depot's own: the same if it is a target, and else 0, which makes no pair.
+pub struct Span {
+    pub ecc: u16,
+    pub own: u16,
+}
+
+// After a search from r to this depth: how far the targets lie, and in the row its partners, the targets at that hop. What is no target has none.
+pub fn reach(
+    targets: &[u64],
+    hops: &[u16],
+    last: &[u64],
+    row: &mut [u64],
+    words: usize,
+    r: usize,
+    depth: u16,
+) -> Span
+    requires { ⌜ (words ≤ length (now targets))
+        × (64 * words ≤ length (now hops))
+        × (words ≤ length (now last))
+        × (words ≤ length (now row))
+        × (words < 2 ^ 32)
+        × (r < 64 * words) ⌝ }
+    ensures { λ t.
+        let found = reachOf words (now (targets .entry)) (now (hops .entry)) (now (last .entry)) r depth (now (row .entry)) in
+        ⌜ reached (t .ecc) (t .own) (now (row .exit)) ≡ found ⌝ }
+{
+    let e = farthest(targets, hops, last, words, depth);
+    if !map::is_open(targets, words, r) {
+        rows::clear(row, words);
+        return Span { ecc: e, own: 0 };
+    }
+    if e == depth {
+        put_both(targets, last, row, words);
+    } else {
+        put_at(targets, hops, row, words, e);
+    }
+    Span { ecc: e, own: e }
 }
 
 // ---- the targets above a code

@@ -1,4 +1,4 @@
--- `summary::summary_refusal` meets its contract: short counts come first, then what refuses the lent map, then the number of the destinations.
+-- `summary::summary_refusal` meets its contract: short counts come first, then what refuses the lent map, then the number of the depots that deliver.
 -- Assumes nothing.
 use mathlib.Core.Path.{refl, sym, _∙_}
 use native.Mathlib.Omega.{arith}
@@ -17,6 +17,17 @@ map-refusal-requires c κs =
       λ h f. absurd (clash f refl),
     )
 
+slice-aggregate-keep-delivering : tie.Need-slice-aggregate-keep-delivering
+slice-aggregate-keep-delivering c = search needs
+
+slice-aggregate-keep-delivering-2 : tie.Need-slice-aggregate-keep-delivering-2
+slice-aggregate-keep-delivering-2 c = search needs
+
+keep-delivering-requires : tie.Need-keep-delivering-requires
+keep-delivering-requires c κs =
+    let after-delivering2 : tie.After-delivering2 = search in
+    (omega (arith, slice-aggregate-keep-delivering after-delivering2), omega (arith, slice-aggregate-keep-delivering-2 c))
+
 slice-aggregate-degree : tie.Need-slice-aggregate-degree
 slice-aggregate-degree c = search needs
 
@@ -31,6 +42,9 @@ summary-refusal-spec =
     (λ c. search needs)  -- are-long-requires
     map-refusal-requires
     (λ c. search refused-map)  -- returns-2
+    slice-aggregate-keep-delivering
+    slice-aggregate-keep-delivering-2
+    keep-delivering-requires
     slice-aggregate-degree
     degree-requires
     (λ c. search refused-few)  -- returns-3
