@@ -21,16 +21,16 @@ use Rattle.layers.specs.Layers.{searchLeaves}
 use Rattle.map.specs.Memory.{Shape, places}
 use Rattle.pairs.specs.Pairs.{Tally, tally, tallyOf, settleOf}
 use Rattle.rounds.specs.Leaves.{ran, ranBy, roundsLeave, searchAfter}
-use Rattle.rounds.specs.Workspace.{lastRow}
+use Rattle.targets.specs.Reach.{Reached}
 use Rattle.bounds.specs.Once.{Marked, marking, markOnce as marksOnce}
 use Rattle.insertion.specs.Steps.{markOnceIn, Joined, joined, joinOf}
 
 -- ---- pairs and marks
 
-pub join-is : (K : Shape) (a e D : ℕ) (T : Tables) (J : Joined) (t : Tally) (m : Marked) → t ≡ settleOf (K .words) (lastRow e T) a e D (J .paired) → m ≡ markOnceIn K a e (J .marked)
-    → joined t m ≡ joinOf K a e D T J
+pub join-is : (K : Shape) (a D : ℕ) (R : Reached) (J : Joined) (t : Tally) (m : Marked) → t ≡ settleOf (K .words) (R .partners) a (R .own) D (J .paired)
+    → m ≡ markOnceIn K a (R .ecc) (J .marked) → joined t m ≡ joinOf K a R D J
 unfolding joinOf
-join-is K a e D T J t m p q = ap₂ joined p q
+join-is K a D R J t m p q = ap₂ joined p q
 
 -- ---- a call whose marks are those of a state, place by place
 

@@ -3,26 +3,28 @@ use mathlib.Core.Path.{_≡_, refl, sym, ap, ap₂, _∙_, subst}
 use mathlib.Core.Bool.{Bool, true, false, cond, _||_}
 use mathlib.Core.List.{List}
 use mathlib.Core.Option.{Option, none, some}
-use Prim.Native.Nat.{ℕ, zero, suc, _≤_}
-use lib.Dec.{eqb, ltb}
-use lib.ListN.{length}
+use Prim.Native.Nat.{ℕ, zero, suc, _≤_, _<_}
+use lib.ListN.{length, getD}
 use Rattle.lists.specs.Lists.{lastOr, memb, anyb, overwrite}
+use Rattle.lists.proofs.Fills.{fill-at}
 use Rattle.graph.specs.Network.{Network}
-use Rattle.graph.specs.Distance.{unreached}
+use Rattle.graph.specs.Distance.{unreached, dist}
 use Rattle.graph.specs.Chart.{chart, ecc, Pairs, ownPairs}
 use Rattle.graph.specs.Rounds.{State, round, rounds, pick, remaining, orStop, start}
-use Rattle.graph.specs.Opening.{opening, openCase, searchedOnce, stayingPairs, shrunkCandidate, anyPair, via}
+use Rattle.graph.specs.Opening.{opening, openCase, growsBy, keptBy, searchedOnce, stayingPairs, shrunkCandidate, anyPair, via}
 use Rattle.graph.proofs.Charts.{depot-in}
 use Rattle.rows.specs.Rows.{tableBit, encodeTable}
 use Rattle.map.specs.Room.{Tables, Lent, lent}
 use Rattle.layers.specs.Layers.{searchLeaves}
-use Rattle.map.specs.Memory.{Shape, IsShape, places, networkOf}
+use Rattle.map.specs.Memory.{Shape, IsShape, places}
+use Rattle.targets.specs.Reach.{Reached}
 use Rattle.pairs.specs.Pairs.{Tally, tally, Counted}
 use Rattle.bounds.specs.Bounds.{Marks, marks}
 use Rattle.rounds.specs.Leaves.{ran, ranBy, roundsLeave, searchAfter}
-use Rattle.rounds.specs.Workspace.{Workspace, workspace, Absorbed, absorbed, absorbing, holding, absorbOf, runOf, roundsBegun, roundsBeginOf}
+use Rattle.rounds.specs.Workspace.{Workspace, workspace, Absorbed, absorbed, absorbing, holding, runOf, roundsBegun, roundsBeginOf}
+use Rattle.rounds.specs.Targets.{targetNetwork, AreTargets}
 use Rattle.rounds.proofs.Holding.{Origin, Holds, leaves-over, after-snoc}
-use Rattle.rounds.proofs.Simulation.{Running, running-round, absorb}
+use Rattle.rounds.proofs.Simulation.{Running, running-round, absorb-over}
 use Rattle.rounds.proofs.Finish.{start-holds, start-running, run-is}
 use Rattle.pairs.proofs.Settling.{settle-counted}
 use Rattle.pairs.proofs.Tallies.{table-over}
@@ -32,22 +34,28 @@ use Rattle.insertion.specs.Steps.{HoldsSearch}
 -- ---- the pairs are counted at each call
 
 -- whether it skips or not
-pub absorbed-counted : (skipping : Bool) (W mark r e : ℕ) (T : Tables) (A : Absorbed) (p : List ℕ) (n : ℕ) (m : Marks) (c : ℕ) → Counted W (A .paired .pairs) (A .paired .count)
-    → absorbed (tally p n) m c ≡ cond skipping (absorbing W mark r e T A) (holding W mark r e T A) → Counted W p n
+pub absorbed-counted : (skipping : Bool) (W mark r : ℕ) (R : Reached) (h : List ℕ) (A : Absorbed) (p : List ℕ) (n : ℕ) (m : Marks) (c : ℕ) → Counted W (A .paired .pairs) (A .paired .count)
+    → absorbed (tally p n) m c ≡ cond skipping (absorbing W mark r R h A) (holding W mark r R h A) → Counted W p n
 unfolding absorbing holding
-absorbed-counted true W mark r e T A p n m c k h =
-    settle-counted W _ r e (A .candidate) (A .paired .pairs) p (A .paired .count) n k (ap (λ (X : Absorbed). X .paired) h)
-absorbed-counted false W mark r e T A p n m c k h =
-    settle-counted W _ r e (A .candidate) (A .paired .pairs) p (A .paired .count) n k (ap (λ (X : Absorbed). X .paired) h)
+absorbed-counted true W mark r R h A p n m c k q =
+    settle-counted W _ r (R .own) (A .candidate) (A .paired .pairs) p (A .paired .count) n k (ap (λ (X : Absorbed). X .paired) q)
+absorbed-counted false W mark r R h A p n m c k q =
+    settle-counted W _ r (R .own) (A .candidate) (A .paired .pairs) p (A .paired .count) n k (ap (λ (X : Absorbed). X .paired) q)
+
+-- the hop table of a search that stands in tables
+pub hop-stands : (K : Shape) (G : Network) (T : Tables) (a : ℕ) → T ≡ searchLeaves (K .words) G a T → (v : ℕ) → v < places K → getD (T .hops) v 0 ≡ dist G a v
+unfolding searchLeaves
+hop-stands K G T a s v l = ap (λ (X : Tables). getD (X .hops) v 0) s ∙ fill-at (dist G a) (T .hops) (places K) v 0 l
 
 -- ---- the rounds
 
-module _ (K : Shape) (shape : IsShape K) (members links : List ℕ) (B : Lent) (a e way : ℕ) (row : List ℕ) (I : HoldsSearch K members links B a e) (low : way ≤ unreached) where
+module _ (K : Shape) (shape : IsShape K) (members targets links : List ℕ) (are : AreTargets (K .words) members targets) (B : Lent) (a way : ℕ) (R : Reached) (row : List ℕ)
+    (I : HoldsSearch K (targetNetwork (K .words) members targets links) B a R) (low : way ≤ unreached) where
   abbrev G : Network
-  G = networkOf (K .words) members links
+  G = targetNetwork (K .words) members targets links
 
   abbrev S₁ : State
-  S₁ = round (chart (networkOf (K .words) members links)) a (start way)
+  S₁ = round (chart (targetNetwork (K .words) members targets links)) a (start way)
 
   abbrev O : Origin
   O = record { searched = B .searched; pairs = B .pairs; bounds = B .bounds; skips = B .skips; waiting = row }
@@ -56,35 +64,37 @@ module _ (K : Shape) (shape : IsShape K) (members links : List ℕ) (B : Lent) (
   unfolding start memb anyb
   fresh = refl
 
-  running : Running (K .words) (K .searchedMark) (K .otherMark) (shape .most) members links (I .net) S₁
+  running : Running (K .words) (K .searchedMark) (K .otherMark) (shape .most) members targets links are (I .net) S₁
   running =
-      running-round (K .words) (K .searchedMark) (K .otherMark) (shape .most) members links (I .net) (start way) a (start-running K shape members links (I .net) way low)
-      (depot-in G (I .net) a (I .present)) fresh
+      running-round (K .words) (K .searchedMark) (K .otherMark) (shape .most) members targets links are (I .net) (start way) a
+      (start-running K shape members targets links are (I .net) way low) (depot-in G (I .net) a (I .present)) fresh
 
   module _ (p b s w : List ℕ) (begins : roundsBegun p (marks b s w) ≡ roundsBeginOf (K .words) (K .otherMark) members (roundsBegun (B .pairs) (marks (B .bounds) (B .skips) row))) where
     abbrev M : Workspace
     M = workspace (tally p 0) (B .searched) (marks b s w) way 0
 
     begun-holds : Holds (K .words) (K .searchedMark) (K .otherMark) G O (start way) M
-    begun-holds = start-holds K shape members links (I .net) way O p b s w begins
+    begun-holds = start-holds K shape members targets links are (I .net) way O p b s w begins
 
-    module _ (t : Tally) (m : Marks) (c : ℕ) (takes : absorbed t m c ≡ absorbing (K .words) (K .searchedMark) a e (B .searched) (absorbed (tally p 0) (marks b s w) way)) where
-      taken-in : absorbOf (K .words) (K .searchedMark) a (ecc (chart G) a) (searchLeaves (K .words) G a (B .searched)) M ≡ workspace t (B .searched) m c 1
-      unfolding absorbOf
-      taken-in =
-          ap₂ (λ (x : ℕ) (T : Tables). absorbOf (K .words) (K .searchedMark) a x T M) (sym (I .depth)) (sym (I .stands))
-          ∙ ap (λ (A : Absorbed). workspace (A .paired) (B .searched) (A .marked) (A .candidate) 1) (sym takes)
+    module _ (t : Tally) (m : Marks) (c : ℕ) (takes : absorbed t m c ≡ absorbing (K .words) (K .searchedMark) a R (B .searched .hops) (absorbed (tally p 0) (marks b s w) way)) where
+      taken-in :
+          let A = absorbing (K .words) (K .searchedMark) a R (B .searched .hops) (absorbed (tally p 0) (marks b s w) way) in
+          workspace (A .paired) (searchLeaves (K .words) G a (B .searched)) (A .marked) (A .candidate) 1 ≡ workspace t (B .searched) m c 1
+      taken-in = ap₂ (λ (A : Absorbed) (T : Tables). workspace (A .paired) T (A .marked) (A .candidate) 1) (sym takes) (sym (I .stands))
 
       first-holds : Holds (K .words) (K .searchedMark) (K .otherMark) G O S₁ (workspace t (B .searched) m c 1)
       first-holds =
           subst (Holds (K .words) (K .searchedMark) (K .otherMark) G O S₁) taken-in
-          (absorb (K .words) (K .searchedMark) (K .otherMark) (shape .most) members links (I .net) O (start way) M begun-holds (start-running K shape members links (I .net) way low) a (depot-in G (I .net) a (I .present)) fresh)
+          (absorb-over (K .words) (K .searchedMark) (K .otherMark) (shape .most) members targets links are (I .net) O (start way) M begun-holds
+          (start-running K shape members targets links are (I .net) way low) a (depot-in G (I .net) a (I .present)) fresh R (I .spans) (B .searched .hops)
+          (hop-stands K G (B .searched) a (I .stands)))
 
       -- WHAT THE THREE CALLS LEAVE: the network's rounds after the one from a
-      pub shrink-is : (T : Tables) (t′ : Tally) (m′ : Marks) (c′ n : ℕ) → workspace t′ T m′ c′ n ≡ runOf (K .words) links (K .searchedMark) (places K) (workspace t (B .searched) m c 1)
+      pub shrink-is : (T : Tables) (t′ : Tally) (m′ : Marks) (c′ n : ℕ)
+          → workspace t′ T m′ c′ n ≡ runOf (K .words) targets links (K .searchedMark) (places K) (workspace t (B .searched) m c 1)
           → ran (lent (t′ .pairs) T (m′ .bounds) (m′ .skips)) c′ (t′ .count) n ≡ ranBy K G (rounds (chart G) (length (chart G .depots)) S₁) B
       shrink-is T t′ m′ c′ n q =
-          run-is K shape members links (I .net) S₁ running O (workspace t (B .searched) m c 1) (workspace t′ T m′ c′ n) first-holds q
+          run-is K shape members targets links are (I .net) S₁ running O (workspace t (B .searched) m c 1) (workspace t′ T m′ c′ n) first-holds q
 
 -- ---- over tables that held another search
 
@@ -141,4 +151,4 @@ module _ (K : Shape) (G : Network) (a : ℕ) (T : Tables) (p b s : List ℕ) whe
   unfolding figuredBy opening
   figured-over D =
       ap (figured (opening (chart G) a D (tableBit (K .words) p) .change))
-      (case-over (ltb D (ecc (chart G) a)) (eqb (ecc (chart G) a) D) (anyPair (chart G .depots) (stayingPairs (via (chart G) a) D (tableBit (K .words) p))) D (tableBit (K .words) p))
+      (case-over (growsBy (chart G) a D) (keptBy (chart G) a D) (anyPair (chart G .depots) (stayingPairs (via (chart G) a) D (tableBit (K .words) p))) D (tableBit (K .words) p))

@@ -5,16 +5,16 @@ use mathlib.Core.Path.{_≡_}
 use mathlib.Core.List.{List}
 use Prim.Native.Nat.{ℕ}
 use lib.Dec.{T}
-use Rattle.graph.specs.Chart.{chart, ecc}
+use Rattle.graph.specs.Network.{Network, delivers}
 use Rattle.graph.specs.Correct.{IsNet}
 use Rattle.rows.specs.Rows.{tableBit}
 use Rattle.map.specs.Room.{Tables, Lent}
 use Rattle.layers.specs.Layers.{searchLeaves}
-use Rattle.map.specs.Memory.{Shape, networkOf}
+use Rattle.map.specs.Memory.{Shape}
+use Rattle.targets.specs.Reach.{Reached}
 use Rattle.pairs.specs.Pairs.{Tally, settleOf}
 use Rattle.bounds.specs.Once.{Marked, markOnce as marksOnce}
-use Rattle.rounds.specs.Workspace.{lastRow}
-use Rattle.graph.specs.Network.{delivers}
+use Rattle.rounds.specs.Targets.{Spans}
 
 -- ---- the marks of a call that searched from a alone, with eccentricity e
 
@@ -30,22 +30,23 @@ pub record Joined : Type 0 where
 abbrev pub joined : Tally → Marked → Joined
 joined t m = record { paired = t; marked = m }
 
-unfoldable pub joinOf : Shape → ℕ → ℕ → ℕ → Tables → Joined → Joined
-joinOf K a e D T J = joined (settleOf (K .words) (lastRow e T) a e D (J .paired)) (markOnceIn K a e (J .marked))
+-- R is what the search says of a: the pairs go by what is its own, the marks by its eccentricity
+unfoldable pub joinOf : Shape → ℕ → Reached → ℕ → Joined → Joined
+joinOf K a R D J = joined (settleOf (K .words) (R .partners) a (R .own) D (J .paired)) (markOnceIn K a (R .ecc) (J .marked))
 
 -- ---- what the functions ask
 
--- the tables S hold the search from the open depot a, with eccentricity e, of a sound, connected network
-pub record StandsIn (K : Shape) (members links : List ℕ) (S : Tables) (a e : ℕ) : Type 0 where
-  pub net : IsNet (networkOf (K .words) members links)
-  pub present : T (networkOf (K .words) members links .isOpen a)
-  pub depth : e ≡ ecc (chart (networkOf (K .words) members links)) a
-  pub stands : S ≡ searchLeaves (K .words) (networkOf (K .words) members links) a S
+-- the tables S hold the search from the open depot a of a sound, connected network, which says R of it
+pub record StandsIn (K : Shape) (G : Network) (S : Tables) (a : ℕ) (R : Reached) : Type 0 where
+  pub net : IsNet G
+  pub present : T (G .isOpen a)
+  pub spans : Spans (K .words) G a R
+  pub stands : S ≡ searchLeaves (K .words) G a S
 
 -- those that are lent do
-abbrev pub HoldsSearch : Shape → List ℕ → List ℕ → Lent → ℕ → ℕ → Type 0
-HoldsSearch K members links B a e = StandsIn K members links (B .searched) a e
+abbrev pub HoldsSearch : Shape → Network → Lent → ℕ → Reached → Type 0
+HoldsSearch K G B a R = StandsIn K G (B .searched) a R
 
--- the stored pairs join open codes
-pub record AreOpen (K : Shape) (members links pairs : List ℕ) : Type 0 where
-  pub ends : (u v : ℕ) → T (tableBit (K .words) pairs u v) → T (delivers (networkOf (K .words) members links) u) × T (delivers (networkOf (K .words) members links) v)
+-- the stored pairs join depots that deliver
+pub record AreOpen (K : Shape) (G : Network) (pairs : List ℕ) : Type 0 where
+  pub ends : (u v : ℕ) → T (tableBit (K .words) pairs u v) → T (delivers G u) × T (delivers G v)

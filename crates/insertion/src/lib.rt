@@ -1,20 +1,22 @@
 // Chain and pairs after a depot's insertion: grown, kept, or settled by rounds (rules 4.2 to 4.4), from the finished search of the new depot on.
-ghost use mathlib.Core.List.{[]};
 ghost use mathlib.Core.Path.{_≡_};
 ghost use Prim.Native.Nat.{_<_, _≤_};
 ghost use lib.ListN.{length};
 ghost use Rattle.graph.specs.Chart.{chart};
 ghost use Rattle.graph.specs.Rounds.{round, rounds, start};
-ghost use Rattle.map.specs.Room.{tables, AreLong};
-ghost use Rattle.map.specs.Memory.{base, places, networkOf};
+ghost use Rattle.map.specs.Room.{AreLong};
+ghost use Rattle.map.specs.Memory.{base, places};
+ghost use Rattle.targets.specs.Reach.{reached};
 ghost use Rattle.pairs.specs.Pairs.{tally, Counted};
 ghost use Rattle.rounds.specs.Leaves.{ran, ranBy};
+ghost use Rattle.rounds.specs.Targets.{targetNetwork, AreTargets};
 ghost use Rattle.map.specs.Slices.{lentAt, lentBefore, lentAfter, sizesAt};
 ghost use Rattle.insertion.specs.Figured.{figured, figuredBy, IsFigurable};
 ghost use Rattle.bounds.specs.Once.{marking};
 ghost use Rattle.insertion.specs.Steps.{joined, joinOf, HoldsSearch, AreOpen};
 use outcome::Change;
 use rounds::RoundFigures;
+use targets::Span;
 
 // The figures after an opening: how the chain moved, chain, pair count, number of searches.
 pub struct Figures {
@@ -31,27 +33,33 @@ fn join(
     pairs: &mut [u64],
     bounds: &mut [u16],
     skips: &mut [u16],
-    even: &[u64],
-    odd: &[u64],
+    partners: &[u64],
     a: usize,
-    e: u16,
+    span: Span,
     chain: u16,
     count: u32,
 ) -> u32
     requires { ⌜ Counted (base .words) (now pairs) count
         × (places base ≤ length (now bounds))
         × (places base ≤ length (now skips))
-        × (base .words ≤ length (now even))
-        × (base .words ≤ length (now odd))
+        × (base .words ≤ length (now partners))
         × (a < places base) ⌝ }
     ensures { λ n.
-        let T = tables [] (now (even .entry)) (now (odd .entry)) in
+        let R = reached (span .ecc) (span .own) (now (partners .entry)) in
         let before = joined (tally (now (pairs .entry)) count) (marking (now (bounds .entry)) (now (skips .entry))) in
         let after = joined (tally (now (pairs .exit)) n) (marking (now (bounds .exit)) (now (skips .exit))) in
-        ⌜ after ≡ joinOf base a e chain T before ⌝ }
+        ⌜ after ≡ joinOf base a R chain before ⌝ }
 {
-    let sum = rounds::settle_by(pairs, even, odd, map::WORDS, a, e, chain, count);
-    bounds::mark_once(bounds, skips, map::WORDS, a, e, map::SEARCHED, map::OTHER);
+    let sum = pairs::settle(pairs, partners, map::WORDS, a, span.own, chain, count);
+    bounds::mark_once(
+        bounds,
+        skips,
+        map::WORDS,
+        a,
+        span.ecc,
+        map::SEARCHED,
+        map::OTHER,
+    );
     sum
 }
 
@@ -60,6 +68,7 @@ fn join(
 // Rounds with the candidate way, whose first reference is the search from a that stands in the tables.
 fn shrink(
     members: &[u64],
+    targets: &[u64],
     links: &[u64],
     pairs: &mut [u64],
     hops: &mut [u16],
@@ -67,19 +76,22 @@ fn shrink(
     skips: &mut [u16],
     even: &mut [u64],
     odd: &mut [u64],
+    partners: &mut [u64],
     a: usize,
-    e: u16,
+    span: Span,
     way: u16,
 ) -> RoundFigures
     requires { let given = lentAt pairs hops bounds skips even odd in
+        let G = targetNetwork (base .words) (now members) (now targets) (now links) in
         ⌜ AreLong base (sizesAt links pairs hops bounds skips even odd)
-        × (base .words ≤ length (now members))
-        × HoldsSearch base (now members) (now links) given a e
+        × AreTargets (base .words) (now members) (now targets)
+        × (base .words ≤ length (now partners))
+        × HoldsSearch base G given a (reached (span .ecc) (span .own) (now partners))
         × (a < places base) ⌝ }
     ensures { λ t.
         let before = lentBefore pairs hops bounds skips even odd in
         let after = lentAfter pairs hops bounds skips even odd in
-        let G = networkOf (base .words) (now (members .entry)) (now (links .entry)) in
+        let G = targetNetwork (base .words) (now (members .entry)) (now (targets .entry)) (now (links .entry)) in
         let M = chart G in
         ⌜ ran after (t .candidate) (t .count) (t .searches)
         ≡ ranBy base G (rounds M (length (M .depots)) (round M a (start way))) before ⌝ }
@@ -102,13 +114,12 @@ fn shrink(
         &*hops,
         bounds,
         skips,
-        &*even,
-        &*odd,
+        &*partners,
         &mut ranks,
         map::WORDS,
         map::SEARCHED,
         a,
-        e,
+        span,
         way,
         0,
         true,
@@ -119,6 +130,7 @@ fn shrink(
         searches: 1,
     };
     rounds::run_rounds(
+        targets,
         links,
         pairs,
         hops,
@@ -128,6 +140,7 @@ fn shrink(
         odd,
         &mut seen,
         &mut next,
+        partners,
         &mut ranks,
         map::WORDS,
         map::SEARCHED,
@@ -137,9 +150,10 @@ fn shrink(
 
 // ---- the whole step
 
-// The figures for an eccentricity e that is not above the chain, without the stale pairs.
+// The figures where what is a's own is not above the chain, without the stale pairs. A yard has nothing of its own: it keeps only a chain that was 0.
 fn settle_low(
     members: &[u64],
+    targets: &[u64],
     links: &[u64],
     pairs: &mut [u64],
     hops: &mut [u16],
@@ -147,26 +161,29 @@ fn settle_low(
     skips: &mut [u16],
     even: &mut [u64],
     odd: &mut [u64],
+    partners: &mut [u64],
     a: usize,
-    e: u16,
+    span: Span,
     chain: u16,
 ) -> Figures
     requires { let given = lentAt pairs hops bounds skips even odd in
+        let G = targetNetwork (base .words) (now members) (now targets) (now links) in
         ⌜ AreLong base (sizesAt links pairs hops bounds skips even odd)
-        × (base .words ≤ length (now members))
-        × AreOpen base (now members) (now links) (now pairs)
-        × HoldsSearch base (now members) (now links) given a e
+        × AreTargets (base .words) (now members) (now targets)
+        × (base .words ≤ length (now partners))
+        × AreOpen base G (now pairs)
+        × HoldsSearch base G given a (reached (span .ecc) (span .own) (now partners))
         × (a < places base)
-        × (e ≤ chain) ⌝ }
+        × (span .own ≤ chain) ⌝ }
     ensures { λ r.
         let before = lentBefore pairs hops bounds skips even odd in
         let after = lentAfter pairs hops bounds skips even odd in
-        let G = networkOf (base .words) (now (members .entry)) (now (links .entry)) in
+        let G = targetNetwork (base .words) (now (members .entry)) (now (targets .entry)) (now (links .entry)) in
         ⌜ figured (r .change) (ran after (r .chain) (r .count) (r .searches)) ≡ figuredBy base G a chain before ⌝ }
 {
     let left = stale_pairs::drop_stale(pairs, &*hops, map::WORDS, chain);
-    if e == chain {
-        let sum = join(pairs, bounds, skips, &*even, &*odd, a, e, chain, left.count);
+    if span.own == chain {
+        let sum = join(pairs, bounds, skips, &*partners, a, span, chain, left.count);
         return Figures {
             change: Change::Kept,
             chain: chain,
@@ -175,7 +192,15 @@ fn settle_low(
         };
     }
     if left.count != 0 {
-        bounds::mark_once(bounds, skips, map::WORDS, a, e, map::SEARCHED, map::OTHER);
+        bounds::mark_once(
+            bounds,
+            skips,
+            map::WORDS,
+            a,
+            span.ecc,
+            map::SEARCHED,
+            map::OTHER,
+        );
         return Figures {
             change: Change::Kept,
             chain: chain,
@@ -185,6 +210,7 @@ fn settle_low(
     }
     let got = shrink(
         members,
+        targets,
         links,
         pairs,
         hops,
@@ -192,8 +218,9 @@ fn settle_low(
         skips,
         even,
         odd,
+        partners,
         a,
-        e,
+        span,
         left.way,
     );
     Figures {
@@ -204,10 +231,11 @@ fn settle_low(
     }
 }
 
-// The figures after a's links are in place, by the stored chain and the count of the stored pairs: the search from a, then the pairs, the
-// marks and, if the chain shrank, the rounds.
+// The figures after a's links are in place, by the stored chain and the count of the stored pairs: the search from a and what it says of a, then the
+// pairs, the marks and, if the chain shrank, the rounds. The targets are the depots that deliver.
 pub fn refigure(
     members: &[u64],
+    targets: &[u64],
     links: &[u64],
     pairs: &mut [u64],
     hops: &mut [u16],
@@ -221,26 +249,38 @@ pub fn refigure(
 ) -> Figures
     requires { let given = lentAt pairs hops bounds skips even odd in
         ⌜ AreLong base (sizesAt links pairs hops bounds skips even odd)
-        × IsFigurable base (now members) (now links) given a chain count
+        × IsFigurable base (now members) (now targets) (now links) given a chain count
         × (a < places base) ⌝ }
     ensures { λ r.
         let before = lentBefore pairs hops bounds skips even odd in
         let after = lentAfter pairs hops bounds skips even odd in
-        let G = networkOf (base .words) (now (members .entry)) (now (links .entry)) in
+        let G = targetNetwork (base .words) (now (members .entry)) (now (targets .entry)) (now (links .entry)) in
         ⌜ figured (r .change) (ran after (r .chain) (r .count) (r .searches)) ≡ figuredBy base G a chain before ⌝ }
 {
-    let e = search::search_sound(links, hops, even, odd, a);
-    if chain < e {
-        let own = join(pairs, bounds, skips, &*even, &*odd, a, e, chain, count);
+    let mut partners = [0u64; map::WORDS];
+    let depth = search::search_sound(links, hops, even, odd, a);
+    let span = rounds::reach_by(
+        targets,
+        &*hops,
+        &*even,
+        &*odd,
+        &mut partners,
+        map::WORDS,
+        a,
+        depth,
+    );
+    if chain < span.own {
+        let own = join(pairs, bounds, skips, &partners, a, span, chain, count);
         return Figures {
             change: Change::Grew,
-            chain: e,
+            chain: span.own,
             count: own,
             searches: 1,
         };
     }
     settle_low(
         members,
+        targets,
         links,
         pairs,
         hops,
@@ -248,8 +288,9 @@ pub fn refigure(
         skips,
         even,
         odd,
+        &mut partners,
         a,
-        e,
+        span,
         chain,
     )
 }

@@ -57,7 +57,7 @@ module _ (K : Shape) (shape : IsShape K) (rec : Record) (links : List ℕ) (B : 
 
   number-is : rec .number ≡ length (vertices G)
   number-is =
-      sound-links-iff (K .words) (rec .members) links (rec .number) .0 (granted-tests K rec links (sizesOf links B) ok .0) .counted
+      sound-links-iff (K .words) (rec .members) (rec .yards) links (rec .number) .0 (granted-tests K rec links (sizesOf links B) ok .0) .counted
       ∙ sym (network-length (K .words) (rec .members) links)
 
   -- ---- without a search
@@ -79,6 +79,7 @@ module _ (K : Shape) (shape : IsShape K) (rec : Record) (links : List ℕ) (B : 
     count = ap (countPairs (range (places K))) (sym (pairs-read K G below (S .pairs) ends (B .pairs)));
     members = refl;
     number = refl;
+    yards = refl;
     accepted = refl;
     marked = skips-counted K G S shape below (correct .references) (net .sound) (B .skips);
     bounded = omega (arith, few-searches G S (correct .references), number-is);

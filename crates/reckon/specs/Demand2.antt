@@ -27,26 +27,28 @@ use Rattle.reckon.specs.declared.Reckoning.the-variants.{Searches, Refus
 
 -- A whole reckoning of G, lent the tables B; references are the depots that the rules search from, in order.
 pub record IsReckoning (K : Shape) (G : Network) (rec : Record) (B : Lent) (references : List ℕ) (left : ReckonLeft) : Type 0 where
-  -- the figures; open set and number open stay
+  -- the figures; open set, number open and yard set stay
   pub chain : IsDiameter G (delivers G) (left .reckoned .after .chain)
   pub pairs : (u v : ℕ) → u < places K → v < places K → T (tableBit (K .words) (left .lent .pairs) u v) ↔ IsFarthest G (delivers G) u v
   pub count : left .reckoned .after .count ≡ countPairs (range (places K)) (tableBit (K .words) (left .lent .pairs))
   pub members : left .reckoned .after .members ≡ rec .members
   pub number : left .reckoned .after .number ≡ rec .number
+  pub yards : left .reckoned .after .yards ≡ rec .yards
   -- the answer: as many searches as depots are marked, no more than are open
   pub accepted : left .reckoned .answer ≡ Searches (searchesOf (left .reckoned .answer))
   pub marked : searchesOf (left .reckoned .answer) ≡ countb (λ v. eqb (getD (left .lent .skips) v 0) (K .searchedMark)) (range (places K))
   pub bounded : searchesOf (left .reckoned .answer) ≤ rec .number
-  -- the marked are exactly the references, with their eccentricities; every other depot is covered
+  -- the marked are exactly the references, with their eccentricities; every other depot that delivers is covered
   pub marks : (v : ℕ) → v < places K → (getD (left .lent .skips) v 0 ≡ K .searchedMark) ↔ T (memb v references)
   pub inside : (v : ℕ) → T (memb v references) → T (G .isOpen v)
-  pub cover : (v : ℕ) → T (G .isOpen v) → T (not (memb v references)) → IsCovered G references (left .reckoned .after .chain) v
+  pub cover : (v : ℕ) → T (delivers G v) → T (not (memb v references)) → IsCovered G references (left .reckoned .after .chain) v
   pub eccentricity : (v : ℕ) → T (memb v references) → IsEcc G (delivers G) v (getD (left .lent .bounds) v 0)
-  -- skip and bound table say so of each depot that was not searched; a closed code has the other mark and 65,535
+  -- skip and bound table say so of each depot that was not searched, a yard too; a closed code has the other mark and 65,535
   pub skipped : (v : ℕ) → T (G .isOpen v) → T (not (memb v references)) → IsSkipped G references (left .reckoned .after .chain) v (getD (left .lent .skips) v 0) (getD (left .lent .bounds) v 0)
   pub closed : (v : ℕ) → v < places K → (T (G .isOpen v) → ⊥) → (getD (left .lent .skips) v 0 ≡ K .otherMark) × (getD (left .lent .bounds) v 0 ≡ unreached)
   -- hop table and layer rows hold what the last search left there, and are unchanged without a search
-  pub searched : (r : ℕ) (rs : List ℕ) → references ≡ r ∷ rs → (e : ℕ) × IsSearch K G (lastOr r rs) (B .searched) (searchLeft (Reached e) (left .lent .searched))
+  pub searched : (r : ℕ) (rs : List ℕ) → references ≡ r ∷ rs
+      → (e : ℕ) × (d : ℕ) × IsSearch K G (lastOr r rs) (B .searched) (searchLeft (Reached e d) (left .lent .searched))
   pub unsearched : references ≡ [] → left .lent .searched ≡ B .searched
   -- what stands past the named sizes stays
   pub pairsKept : KeepsPast (tableWords K) (B .pairs) (left .lent .pairs)

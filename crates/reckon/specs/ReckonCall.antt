@@ -22,7 +22,13 @@ reckonRefusal K rec links sizes = lentRefusal K (longEnough K sizes) false rec l
 
 -- the record with the figures of a state
 unfoldable pub figuredBy : Shape → Record → State → Record
-figuredBy K rec S = record { members = rec .members; number = rec .number; chain = S .candidate; count = countPairs (range (places K)) (S .pairs) }
+figuredBy K rec S = record {
+  members = rec .members;
+  number = rec .number;
+  chain = S .candidate;
+  count = countPairs (range (places K)) (S .pairs);
+  yards = rec .yards;
+}
 
 -- the numbers for each case of the answer: the refusal, 0 for none; the searches, 0 in a refused call (rule 6.4)
 abbrev pub reckoningNumber : Reckoning → ℕ

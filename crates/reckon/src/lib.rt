@@ -1,12 +1,12 @@
 // The whole reckoning (rule 5.5): what refuses it, then rounds from nothing, and the record with their figures.
 ghost use mathlib.Core.Path.{_≡_};
-ghost use Prim.Native.Nat.{_≤_};
 ghost use lib.ListN.{length};
 ghost use Rattle.graph.specs.Chart.{chart};
 ghost use Rattle.graph.specs.Rounds.{reckon};
 ghost use Rattle.graph.specs.Correct.{IsNet};
-ghost use Rattle.map.specs.Memory.{base, networkOf};
+ghost use Rattle.map.specs.Memory.{base};
 ghost use Rattle.rounds.specs.Leaves.{ran, ranBy};
+ghost use Rattle.rounds.specs.Targets.{targetNetwork, AreTargets};
 ghost use Rattle.map.specs.Room.{sizes, AreLong};
 ghost use Rattle.map.specs.Slices.{lentBefore, lentAfter, sizesAt};
 ghost use Rattle.reckon.specs.ReckonCall.{reckonRefusal, reckonLeft, reckonCall};
@@ -42,9 +42,10 @@ fn reckon_refusal(
     lent_map::map_refusal(rec, links, links, long, false)
 }
 
-// The whole reckoning of a sound, connected map.
+// The whole reckoning of a sound, connected map, whose targets are the depots that deliver.
 fn reckon_map(
     members: &[u64],
+    targets: &[u64],
     links: &[u64],
     pairs: &mut [u64],
     hops: &mut [u16],
@@ -54,17 +55,18 @@ fn reckon_map(
     odd: &mut [u64],
 ) -> RoundFigures
     requires { ⌜ AreLong base (sizesAt links pairs hops bounds skips even odd)
-        × (base .words ≤ length (now members))
-        × IsNet (networkOf (base .words) (now members) (now links)) ⌝ }
+        × AreTargets (base .words) (now members) (now targets)
+        × IsNet (targetNetwork (base .words) (now members) (now targets) (now links)) ⌝ }
     ensures { λ t.
         let before = lentBefore pairs hops bounds skips even odd in
         let after = lentAfter pairs hops bounds skips even odd in
-        let G = networkOf (base .words) (now (members .entry)) (now (links .entry)) in
+        let G = targetNetwork (base .words) (now (members .entry)) (now (targets .entry)) (now (links .entry)) in
         ⌜ ran after (t .candidate) (t .count) (t .searches) ≡ ranBy base G (reckon (chart G)) before ⌝ }
 {
     let mut ranks = [0u16; map::PLACES];
     let mut seen = [0u64; map::WORDS];
     let mut next = [0u64; map::WORDS];
+    let mut partners = [0u64; map::WORDS];
     rounds::begin(
         members,
         links,
@@ -81,6 +83,7 @@ fn reckon_map(
         searches: 0,
     };
     rounds::run_rounds(
+        targets,
         links,
         pairs,
         hops,
@@ -90,6 +93,7 @@ fn reckon_map(
         odd,
         &mut seen,
         &mut next,
+        &mut partners,
         &mut ranks,
         map::WORDS,
         map::SEARCHED,
@@ -130,7 +134,20 @@ pub fn reckon_all(
         };
     }
     let members = rec.members;
-    let got = reckon_map(&members, links, pairs, hops, bounds, skips, even, odd);
+    let yards = rec.yards;
+    let mut targets = rec.members;
+    map::keep_delivering(&mut targets, &yards, map::WORDS);
+    let got = reckon_map(
+        &members,
+        &targets,
+        links,
+        pairs,
+        hops,
+        bounds,
+        skips,
+        even,
+        odd,
+    );
     let mut after = rec;
     after.chain = got.candidate;
     after.count = got.count;

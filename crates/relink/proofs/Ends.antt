@@ -2,20 +2,22 @@
 use mathlib.Core.Path.{_≡_, ap₂}
 use mathlib.Core.Bool.{true, false, cond, not, _||_}
 use mathlib.Core.List.{List}
-use Prim.Native.Nat.{ℕ, _*_, _<_, min}
+use Prim.Native.Nat.{ℕ, _+_, _*_, _<_, min}
 use lib.Dec.{T, eqb}
+use lib.ListN.{getD}
 use borrow.Author.Tests.{eq-eqb, ne-eqb}
 use Rattle.lists.specs.Lists.{lastOr}
 use Rattle.graph.specs.Network.{Network}
-use Rattle.graph.specs.Distance.{unreached}
+use Rattle.graph.specs.Distance.{unreached, dist}
 use Rattle.graph.specs.Chart.{Pairs, chart, ecc}
 use Rattle.graph.specs.Rounds.{waiting, searched, markOf, boundOf}
+use Rattle.graph.specs.Opening.{via}
 use Rattle.graph.specs.Linking.{viaEither, searchedTwice}
 use Rattle.map.specs.Room.{Tables, Lent, lent}
 use Rattle.map.specs.Memory.{Shape}
 use Rattle.layers.specs.Layers.{searchLeaves}
 use Rattle.pairs.specs.Pairs.{tally, tallyOf}
-use Rattle.stale_pairs.specs.Stale.{wayByEither}
+use Rattle.stale_pairs.specs.Stale.{wayBy, wayByEither}
 use Rattle.bounds.specs.Once.{Marked, marking, markTwice}
 use Rattle.rounds.specs.Leaves.{ran, ranBy, searchAfter}
 use Rattle.insertion.proofs.Dropping.{way-by-search}
@@ -34,10 +36,16 @@ not-kept k D z n = rw (eq-eqb k 0 z, ne-eqb D 0 n)
 
 -- ---- the ways
 
-pub way-by-both : (W : ℕ) (G : Network) (lo hi : ℕ) (N Y : Tables) (u v : ℕ) → u < 64 * W → v < 64 * W
-    → wayByEither (searchLeaves W G lo N .hops) (searchLeaves W G hi Y .hops) u v ≡ viaEither (chart G) lo hi u v
+way-by-hops : (W : ℕ) (G : Network) (a : ℕ) (near : List ℕ) → ((v : ℕ) → v < 64 * W → getD near v 0 ≡ dist G a v) → (u v : ℕ) → u < 64 * W → v < 64 * W
+    → wayBy near u v ≡ via (chart G) a u v
+unfolding via chart
+way-by-hops W G a near h u v l m = ap₂ (λ (x y : ℕ). x + y) (h u l) (h v m)
+
+-- by the hops of the one and the tables of the other
+pub way-by-both : (W : ℕ) (G : Network) (lo hi : ℕ) (near : List ℕ) (Y : Tables) → ((v : ℕ) → v < 64 * W → getD near v 0 ≡ dist G lo v) → (u v : ℕ) → u < 64 * W → v < 64 * W
+    → wayByEither near (searchLeaves W G hi Y .hops) u v ≡ viaEither (chart G) lo hi u v
 unfolding viaEither
-way-by-both W G lo hi N Y u v l m = ap₂ (λ (x y : ℕ). min x y) (way-by-search W G lo N u v l m) (way-by-search W G hi Y u v l m)
+way-by-both W G lo hi near Y h u v l m = ap₂ (λ (x y : ℕ). min x y) (way-by-hops W G lo near h u v l m) (way-by-search W G hi Y u v l m)
 
 -- ---- the whole of a call that searched from the ends alone
 

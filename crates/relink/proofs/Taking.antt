@@ -11,7 +11,7 @@ use Rattle.lists.specs.Lists.{lastOr, memb, anyb}
 use Rattle.lists.proofs.Members.{memb-snoc}
 use Rattle.graph.specs.Network.{Network}
 use Rattle.graph.specs.Distance.{unreached}
-use Rattle.graph.specs.Chart.{chart, ecc, Pairs}
+use Rattle.graph.specs.Chart.{chart, Pairs}
 use Rattle.graph.specs.Rounds.{State, round, rounds, start}
 use Rattle.graph.specs.Opening.{shrunkCandidate, anyPair}
 use Rattle.graph.specs.Linking.{viaEither, pairsLeft, searchedTwice, unskippedRound, firstTwo, linkCase, linking}
@@ -20,45 +20,48 @@ use Rattle.graph.proofs.FirstTwo.{unskipped-keeps}
 use Rattle.rows.specs.Rows.{tableBit}
 use Rattle.map.specs.Room.{Tables, Lent, lent}
 use Rattle.layers.specs.Layers.{searchLeaves}
-use Rattle.map.specs.Memory.{Shape, IsShape, places, networkOf}
+use Rattle.map.specs.Memory.{Shape, IsShape, places}
+use Rattle.targets.specs.Reach.{Reached}
 use Rattle.pairs.specs.Pairs.{Tally, tally}
 use Rattle.bounds.specs.Bounds.{Marks, marks}
 use Rattle.rounds.specs.Leaves.{ran, ranBy, searchAfter}
-use Rattle.rounds.specs.Workspace.{Workspace, workspace, Absorbed, absorbed, absorbing, holding, absorbOf, runOf, RoundsBegun, roundsBegun, roundsBeginOf}
+use Rattle.rounds.specs.Workspace.{Workspace, workspace, Absorbed, absorbed, absorbing, holding, runOf, RoundsBegun, roundsBegun, roundsBeginOf}
+use Rattle.rounds.specs.Targets.{targetNetwork, AreTargets}
 use Rattle.rounds.proofs.Holding.{Origin, Holds, leaves-over}
-use Rattle.rounds.proofs.Simulation.{Running, running-round, running-unskipped, hold, absorb}
+use Rattle.rounds.proofs.Simulation.{Running, running-round, running-unskipped, hold-over, absorb-over}
 use Rattle.rounds.proofs.Finish.{start-holds, most-ecc, start-running, run-is}
 use Rattle.insertion.specs.Figured.{figured}
-use Rattle.insertion.proofs.Shrinking.{rounds-over, ran-over}
+use Rattle.insertion.proofs.Shrinking.{hop-stands, rounds-over, ran-over}
 use Rattle.relink.specs.Relinked.{relinkedBy}
 use Rattle.relink.specs.Steps.{lowTaken, bothTaken, StandBoth}
 
 -- ---- the calls, one after the other
 
-pub low-taken : (K : Shape) (members : List ℕ) (near : Tables) (lo e way : ℕ) (B : RoundsBegun) (p : List ℕ) (m : Marks) (A : Absorbed)
-    → roundsBegun p m ≡ roundsBeginOf (K .words) (K .otherMark) members B → A ≡ holding (K .words) (K .searchedMark) lo e near (absorbed (tally p 0) m way)
-    → A ≡ lowTaken K members near lo e way B
+pub low-taken : (K : Shape) (members near : List ℕ) (lo : ℕ) (R : Reached) (way : ℕ) (B : RoundsBegun) (p : List ℕ) (m : Marks) (A : Absorbed)
+    → roundsBegun p m ≡ roundsBeginOf (K .words) (K .otherMark) members B → A ≡ holding (K .words) (K .searchedMark) lo R near (absorbed (tally p 0) m way)
+    → A ≡ lowTaken K members near lo R way B
 unfolding lowTaken
-low-taken K members near lo e way B p m A b h =
-    h ∙ ap (λ (X : RoundsBegun). holding (K .words) (K .searchedMark) lo e near (absorbed (tally (X .pairs) 0) (X .marked) way)) b
+low-taken K members near lo R way B p m A b h =
+    h ∙ ap (λ (X : RoundsBegun). holding (K .words) (K .searchedMark) lo R near (absorbed (tally (X .pairs) 0) (X .marked) way)) b
 
-pub both-taken : (K : Shape) (members : List ℕ) (near far : Tables) (lo e hi f way : ℕ) (B : RoundsBegun) (A A′ : Absorbed)
-    → A ≡ lowTaken K members near lo e way B → A′ ≡ absorbing (K .words) (K .searchedMark) hi f far A → A′ ≡ bothTaken K members near far lo e hi f way B
+pub both-taken : (K : Shape) (members near far : List ℕ) (lo : ℕ) (R : Reached) (hi : ℕ) (Q : Reached) (way : ℕ) (B : RoundsBegun) (A A′ : Absorbed)
+    → A ≡ lowTaken K members near lo R way B → A′ ≡ absorbing (K .words) (K .searchedMark) hi Q far A → A′ ≡ bothTaken K members near far lo R hi Q way B
 unfolding bothTaken
-both-taken K members near far lo e hi f way B A A′ a h = h ∙ ap (absorbing (K .words) (K .searchedMark) hi f far) a
+both-taken K members near far lo R hi Q way B A A′ a h = h ∙ ap (absorbing (K .words) (K .searchedMark) hi Q far) a
 
 -- ---- the rounds
 
-module _ (K : Shape) (shape : IsShape K) (members links : List ℕ) (near : Tables) (B : Lent) (lo e hi f way : ℕ) (row : List ℕ)
-    (I : StandBoth K members links near (B .searched) lo e hi f) (low : way ≤ unreached) where
+module _ (K : Shape) (shape : IsShape K) (members targets links : List ℕ) (are : AreTargets (K .words) members targets) (near : List ℕ) (B : Lent)
+    (lo : ℕ) (R : Reached) (hi : ℕ) (Q : Reached) (way : ℕ) (row : List ℕ)
+    (I : StandBoth K (targetNetwork (K .words) members targets links) near (B .searched) lo R hi Q) (low : way ≤ unreached) where
   abbrev G : Network
-  G = networkOf (K .words) members links
+  G = targetNetwork (K .words) members targets links
 
   abbrev S₁ : State
-  S₁ = unskippedRound (chart (networkOf (K .words) members links)) lo (start way)
+  S₁ = unskippedRound (chart (targetNetwork (K .words) members targets links)) lo (start way)
 
   abbrev S₂ : State
-  S₂ = round (chart (networkOf (K .words) members links)) hi (unskippedRound (chart (networkOf (K .words) members links)) lo (start way))
+  S₂ = round (chart (targetNetwork (K .words) members targets links)) hi (unskippedRound (chart (targetNetwork (K .words) members targets links)) lo (start way))
 
   abbrev O : Origin
   O = record { searched = B .searched; pairs = B .pairs; bounds = B .bounds; skips = B .skips; waiting = row }
@@ -69,18 +72,15 @@ module _ (K : Shape) (shape : IsShape K) (members links : List ℕ) (near : Tabl
   abbrev M : Workspace
   M = workspace (tally (X .pairs) 0) (B .searched) (X .marked) way 0
 
-  -- lo taken in by the eccentricity x and the tables N
-  abbrev A₁ : ℕ → Tables → Absorbed
-  A₁ x N = holding (K .words) (K .searchedMark) lo x N (absorbed (tally (X .pairs) 0) (X .marked) way)
+  -- lo taken in, then hi
+  abbrev A₁ : Absorbed
+  A₁ = holding (K .words) (K .searchedMark) lo R near (absorbed (tally (X .pairs) 0) (X .marked) way)
 
-  -- then hi, by y and Y
-  abbrev A₂ : ℕ → Tables → ℕ → Tables → Absorbed
-  A₂ x N y Y = absorbing (K .words) (K .searchedMark) hi y Y (A₁ x N)
+  abbrev A₂ : Absorbed
+  A₂ = absorbing (K .words) (K .searchedMark) hi Q (B .searched .hops) A₁
 
   abbrev M₁ : Workspace
-  M₁ =
-      let A = A₁ (ecc (chart G) lo) (searchLeaves (K .words) G lo near) in
-      workspace (A .paired) (searchLeaves (K .words) G lo (B .searched)) (A .marked) (A .candidate) 1
+  M₁ = workspace (A₁ .paired) (searchLeaves (K .words) G lo (B .searched)) (A₁ .marked) (A₁ .candidate) 1
 
   none-yet : (r : ℕ) → memb r (start way .references) ≡ false
   unfolding start memb anyb
@@ -90,56 +90,56 @@ module _ (K : Shape) (shape : IsShape K) (members links : List ℕ) (near : Tabl
   unfolding unskippedRound start
   higher-fresh = memb-snoc hi [] lo ∙ rw (none-yet hi, ne-eqb hi lo (λ q. I .apart (sym q)))
 
-  started : Running (K .words) (K .searchedMark) (K .otherMark) (shape .most) members links (I .lower .net) (start way)
-  started = start-running K shape members links (I .lower .net) way low
+  started : Running (K .words) (K .searchedMark) (K .otherMark) (shape .most) members targets links are (I .higher .net) (start way)
+  started = start-running K shape members targets links are (I .higher .net) way low
 
-  running-first : Running (K .words) (K .searchedMark) (K .otherMark) (shape .most) members links (I .lower .net) S₁
+  running-first : Running (K .words) (K .searchedMark) (K .otherMark) (shape .most) members targets links are (I .higher .net) S₁
   running-first =
-      running-unskipped (K .words) (K .searchedMark) (K .otherMark) (shape .most) members links (I .lower .net) (start way) lo started
-      (depot-in G (I .lower .net) lo (I .lower .present))
-      (unskipped-keeps (chart G) (chart-metric G (I .lower .net)) unreached (most-ecc K shape members links (I .lower .net)) (le-refl unreached) (start way) lo (depot-in G (I .lower .net) lo (I .lower .present)) (started .inv) (none-yet lo))
+      running-unskipped (K .words) (K .searchedMark) (K .otherMark) (shape .most) members targets links are (I .higher .net) (start way) lo started
+      (depot-in G (I .higher .net) lo (I .present))
+      (unskipped-keeps (chart G) (chart-metric G (I .higher .net)) unreached (most-ecc K shape members targets links are (I .higher .net)) (le-refl unreached)
+      (start way) lo (depot-in G (I .higher .net) lo (I .present)) (started .inv) (none-yet lo))
 
-  running-second : Running (K .words) (K .searchedMark) (K .otherMark) (shape .most) members links (I .lower .net) S₂
+  running-second : Running (K .words) (K .searchedMark) (K .otherMark) (shape .most) members targets links are (I .higher .net) S₂
   running-second =
-      running-round (K .words) (K .searchedMark) (K .otherMark) (shape .most) members links (I .lower .net) S₁ hi running-first
-      (depot-in G (I .lower .net) hi (I .higher .present)) higher-fresh
+      running-round (K .words) (K .searchedMark) (K .otherMark) (shape .most) members targets links are (I .higher .net) S₁ hi running-first
+      (depot-in G (I .higher .net) hi (I .higher .present)) higher-fresh
 
   begun-holds : Holds (K .words) (K .searchedMark) (K .otherMark) G O (start way) M
   unfolding roundsBeginOf
-  begun-holds = start-holds K shape members links (I .lower .net) way O (X .pairs) (X .marked .bounds) (X .marked .skips) (X .marked .waiting) refl
+  begun-holds =
+      start-holds K shape members targets links are (I .higher .net) way O (X .pairs) (X .marked .bounds) (X .marked .skips) (X .marked .waiting) refl
 
   first-holds : Holds (K .words) (K .searchedMark) (K .otherMark) G O S₁ M₁
   first-holds =
-      hold (K .words) (K .searchedMark) (K .otherMark) (shape .most) members links (I .lower .net) O (start way) M begun-holds started lo
-      (depot-in G (I .lower .net) lo (I .lower .present)) (none-yet lo) near
+      hold-over (K .words) (K .searchedMark) (K .otherMark) (shape .most) members targets links are (I .higher .net) O (start way) M begun-holds started lo
+      (depot-in G (I .higher .net) lo (I .present)) (none-yet lo) R (I .spans) near (I .hops)
 
-  second-holds : Holds (K .words) (K .searchedMark) (K .otherMark) G O S₂ (absorbOf (K .words) (K .searchedMark) hi (ecc (chart G) hi) (searchLeaves (K .words) G hi (B .searched)) M₁)
+  second-holds : Holds (K .words) (K .searchedMark) (K .otherMark) G O S₂
+      (workspace (A₂ .paired) (searchLeaves (K .words) G hi (B .searched)) (A₂ .marked) (A₂ .candidate) 2)
   second-holds =
-      absorb (K .words) (K .searchedMark) (K .otherMark) (shape .most) members links (I .lower .net) O S₁ M₁ first-holds running-first hi
-      (depot-in G (I .lower .net) hi (I .higher .present)) higher-fresh
+      absorb-over (K .words) (K .searchedMark) (K .otherMark) (shape .most) members targets links are (I .higher .net) O S₁ M₁ first-holds running-first hi
+      (depot-in G (I .higher .net) hi (I .higher .present)) higher-fresh Q (I .higher .spans) (B .searched .hops)
+      (hop-stands K G (B .searched) hi (I .higher .stands))
 
-  module _ (t : Tally) (m : Marks) (c : ℕ) (takes : absorbed t m c ≡ bothTaken K members near (B .searched) lo e hi f way (roundsBegun (B .pairs) (marks (B .bounds) (B .skips) row))) where
-    -- what a workspace is after the two
-    abbrev after : Absorbed → Tables → Workspace
-    after A Y = workspace (A .paired) Y (A .marked) (A .candidate) 2
-
-    taken-in : absorbOf (K .words) (K .searchedMark) hi (ecc (chart G) hi) (searchLeaves (K .words) G hi (B .searched)) M₁ ≡ workspace t (B .searched) m c 2
-    unfolding absorbOf absorbing bothTaken lowTaken
-    taken-in =
-        ap₂ (λ (x : ℕ) (N : Tables). after (A₂ x N (ecc (chart G) hi) (searchLeaves (K .words) G hi (B .searched))) (searchLeaves (K .words) G hi (B .searched)))
-        (sym (I .lower .depth)) (sym (I .lower .stands))
-        ∙ ap₂ (λ (y : ℕ) (Y : Tables). after (A₂ e near y Y) Y) (sym (I .higher .depth)) (sym (I .higher .stands))
-        ∙ ap (λ (A : Absorbed). after A (B .searched)) (sym takes)
+  module _ (t : Tally) (m : Marks) (c : ℕ)
+      (takes : absorbed t m c ≡ bothTaken K members near (B .searched .hops) lo R hi Q way (roundsBegun (B .pairs) (marks (B .bounds) (B .skips) row))) where
+    taken-in : workspace (A₂ .paired) (searchLeaves (K .words) G hi (B .searched)) (A₂ .marked) (A₂ .candidate) 2 ≡ workspace t (B .searched) m c 2
+    unfolding bothTaken lowTaken
+    taken-in = ap₂ (λ (A : Absorbed) (Y : Tables). workspace (A .paired) Y (A .marked) (A .candidate) 2) (sym takes) (sym (I .higher .stands))
 
     -- WHAT THE CALLS LEAVE: the network's rounds after the ones from both ends
     pub shrink-is : (k : ℕ) → k ≡ 2 → (Y : Tables) (t′ : Tally) (m′ : Marks) (c′ n : ℕ)
-        → workspace t′ Y m′ c′ n ≡ runOf (K .words) links (K .searchedMark) (places K) (workspace t (B .searched) m c k)
-        → ran (lent (t′ .pairs) Y (m′ .bounds) (m′ .skips)) c′ (t′ .count) n ≡ ranBy K G (rounds (chart G) (length (chart G .depots)) (firstTwo (chart G) lo hi way)) B
+        → workspace t′ Y m′ c′ n ≡ runOf (K .words) targets links (K .searchedMark) (places K) (workspace t (B .searched) m c k)
+        → ran (lent (t′ .pairs) Y (m′ .bounds) (m′ .skips)) c′ (t′ .count) n
+        ≡ ranBy K (targetNetwork (K .words) members targets links)
+        (rounds (chart (targetNetwork (K .words) members targets links)) (length (chart (targetNetwork (K .words) members targets links) .depots))
+        (firstTwo (chart (targetNetwork (K .words) members targets links)) lo hi way)) B
     unfolding firstTwo
     shrink-is k two Y t′ m′ c′ n q =
-        run-is K shape members links (I .lower .net) S₂ running-second O (workspace t (B .searched) m c 2) (workspace t′ Y m′ c′ n)
+        run-is K shape members targets links are (I .higher .net) S₂ running-second O (workspace t (B .searched) m c 2) (workspace t′ Y m′ c′ n)
         (subst (Holds (K .words) (K .searchedMark) (K .otherMark) G O S₂) taken-in second-holds)
-        (q ∙ ap (λ (x : ℕ). runOf (K .words) links (K .searchedMark) (places K) (workspace t (B .searched) m c x)) two)
+        (q ∙ ap (λ (x : ℕ). runOf (K .words) targets links (K .searchedMark) (places K) (workspace t (B .searched) m c x)) two)
 
 -- ---- over tables that held the search from hi
 

@@ -8,22 +8,25 @@ ghost use Rattle.graph.specs.Chart.{chart};
 ghost use Rattle.graph.specs.Rounds.{rounds};
 ghost use Rattle.graph.specs.Linking.{firstTwo};
 ghost use Rattle.map.specs.Room.{AreLong};
-ghost use Rattle.map.specs.Memory.{base, places, tableWords, networkOf};
-ghost use Rattle.map.specs.Slices.{tablesAt, tablesBefore, lentAt, lentBefore, lentAfter, sizesAt};
+ghost use Rattle.map.specs.Memory.{base, places, tableWords};
+ghost use Rattle.targets.specs.Reach.{reached};
+ghost use Rattle.map.specs.Slices.{tablesAt, lentAt, lentBefore, lentAfter, sizesAt};
 ghost use Rattle.pairs.specs.Pairs.{tally, Counted};
 ghost use Rattle.ranks.specs.Ranks.{AreRanks};
 ghost use Rattle.bounds.specs.Bounds.{Fits};
 ghost use Rattle.bounds.specs.Once.{marking, markTwice};
 ghost use Rattle.bounds.specs.Slices.{marksBefore, marksAfter};
 ghost use Rattle.rounds.specs.Leaves.{ran, ranBy};
+ghost use Rattle.rounds.specs.Targets.{targetNetwork, AreTargets};
 ghost use Rattle.rounds.specs.Workspace.{absorbed, roundsBegun};
 ghost use Rattle.insertion.specs.Figured.{figured};
 ghost use Rattle.insertion.specs.Steps.{AreOpen};
 ghost use Rattle.relink.specs.Relinked.{relinkedBy, IsRelinkable};
-ghost use Rattle.relink.specs.Steps.{lowTaken, bothTaken, StandBoth, HasTables};
+ghost use Rattle.relink.specs.Steps.{lowTaken, bothTaken, StandBoth};
 use insertion::Figures;
 use outcome::Change;
 use rounds::RoundFigures;
+use targets::Span;
 
 // ---- the chain is kept
 
@@ -66,7 +69,8 @@ fn mark_both(bounds: &mut [u16], skips: &mut [u16], low: usize, e: u16, high: us
 
 // ---- the chain shrank
 
-// The start of rounds with the candidate way, and the search from low, which stands in near, evens and odds, taken in. Nobody is skipped yet.
+// The start of rounds with the candidate way, and the search from low, whose hops stand in near and whose partners in nears, taken in. Nobody is skipped
+// yet.
 fn take_low(
     members: &[u64],
     links: &[u64],
@@ -74,23 +78,24 @@ fn take_low(
     bounds: &mut [u16],
     skips: &mut [u16],
     near: &[u16],
-    evens: &[u64],
-    odds: &[u64],
+    nears: &[u64],
     ranks: &mut [u16],
     low: usize,
-    e: u16,
+    e: Span,
     way: u16,
 ) -> RoundFigures
     requires { ⌜ Fits (base .words) (now bounds) (now skips) (now ranks)
         × (base .words ≤ length (now members))
         × (tableWords base ≤ length (now links))
         × (tableWords base ≤ length (now pairs))
-        × HasTables base (tablesAt near evens odds)
+        × (places base ≤ length (now near))
+        × (base .words ≤ length (now nears))
         × (low < places base) ⌝ }
     ensures { λ t.
+        let R = reached (e .ecc) (e .own) (now (nears .entry)) in
         let before = roundsBegun (now (pairs .entry)) (marksBefore (base .words) bounds skips ranks) in
         let after = absorbed (tally (now (pairs .exit)) (t .count)) (marksAfter (base .words) bounds skips ranks) (t .candidate) in
-        ⌜ (after ≡ lowTaken base (now (members .entry)) (tablesBefore near evens odds) low e way before)
+        ⌜ (after ≡ lowTaken base (now (members .entry)) (now (near .entry)) low R way before)
         × Counted (base .words) (now (pairs .exit)) (t .count)
         × AreRanks (base .words) (now (links .entry)) (now (ranks .exit)) ⌝ }
 {
@@ -109,8 +114,7 @@ fn take_low(
         near,
         bounds,
         skips,
-        evens,
-        odds,
+        nears,
         ranks,
         map::WORDS,
         map::SEARCHED,
@@ -130,32 +134,34 @@ fn take_both(
     hops: &[u16],
     bounds: &mut [u16],
     skips: &mut [u16],
-    even: &[u64],
-    odd: &[u64],
     near: &[u16],
-    evens: &[u64],
-    odds: &[u64],
+    nears: &[u64],
+    fars: &[u64],
     ranks: &mut [u16],
     low: usize,
-    e: u16,
+    e: Span,
     high: usize,
-    f: u16,
+    f: Span,
     way: u16,
 ) -> RoundFigures
     requires { ⌜ Fits (base .words) (now bounds) (now skips) (now ranks)
         × (base .words ≤ length (now members))
         × (tableWords base ≤ length (now links))
         × (tableWords base ≤ length (now pairs))
-        × HasTables base (tablesAt near evens odds)
-        × HasTables base (tablesAt hops even odd)
+        × (places base ≤ length (now near))
+        × (places base ≤ length (now hops))
+        × (base .words ≤ length (now nears))
+        × (base .words ≤ length (now fars))
         × (low < places base)
         × (high < places base) ⌝ }
     ensures { λ t.
-        let N = tablesBefore near evens odds in
-        let T = tablesBefore hops even odd in
+        let N = now (near .entry) in
+        let H = now (hops .entry) in
+        let R = reached (e .ecc) (e .own) (now (nears .entry)) in
+        let Q = reached (f .ecc) (f .own) (now (fars .entry)) in
         let before = roundsBegun (now (pairs .entry)) (marksBefore (base .words) bounds skips ranks) in
         let after = absorbed (tally (now (pairs .exit)) (t .count)) (marksAfter (base .words) bounds skips ranks) (t .candidate) in
-        ⌜ (after ≡ bothTaken base (now (members .entry)) N T low e high f way before)
+        ⌜ (after ≡ bothTaken base (now (members .entry)) N H low R high Q way before)
         × Counted (base .words) (now (pairs .exit)) (t .count)
         × AreRanks (base .words) (now (links .entry)) (now (ranks .exit))
         × (t .searches ≡ 2) ⌝ }
@@ -167,8 +173,7 @@ fn take_both(
         bounds,
         skips,
         near,
-        evens,
-        odds,
+        nears,
         ranks,
         low,
         e,
@@ -179,8 +184,7 @@ fn take_both(
         hops,
         bounds,
         skips,
-        even,
-        odd,
+        fars,
         ranks,
         map::WORDS,
         map::SEARCHED,
@@ -200,6 +204,7 @@ fn take_both(
 // Rounds with the candidate way, whose first two references are the searches from low and from high.
 fn shrink(
     members: &[u64],
+    targets: &[u64],
     links: &[u64],
     pairs: &mut [u64],
     hops: &mut [u16],
@@ -208,25 +213,30 @@ fn shrink(
     even: &mut [u64],
     odd: &mut [u64],
     near: &[u16],
-    evens: &[u64],
-    odds: &[u64],
+    nears: &[u64],
+    fars: &mut [u64],
     low: usize,
-    e: u16,
+    e: Span,
     high: usize,
-    f: u16,
+    f: Span,
     way: u16,
 ) -> RoundFigures
     requires { let far = tablesAt hops even odd in
+        let G = targetNetwork (base .words) (now members) (now targets) (now links) in
+        let R = reached (e .ecc) (e .own) (now nears) in
+        let Q = reached (f .ecc) (f .own) (now fars) in
         ⌜ AreLong base (sizesAt links pairs hops bounds skips even odd)
-        × (base .words ≤ length (now members))
-        × HasTables base (tablesAt near evens odds)
-        × StandBoth base (now members) (now links) (tablesAt near evens odds) far low e high f
+        × AreTargets (base .words) (now members) (now targets)
+        × (places base ≤ length (now near))
+        × (base .words ≤ length (now nears))
+        × (base .words ≤ length (now fars))
+        × StandBoth base G (now near) far low R high Q
         × (low < places base)
         × (high < places base) ⌝ }
     ensures { λ t.
         let before = lentBefore pairs hops bounds skips even odd in
         let after = lentAfter pairs hops bounds skips even odd in
-        let G = networkOf (base .words) (now (members .entry)) (now (links .entry)) in
+        let G = targetNetwork (base .words) (now (members .entry)) (now (targets .entry)) (now (links .entry)) in
         let M = chart G in
         ⌜ ran after (t .candidate) (t .count) (t .searches)
         ≡ ranBy base G (rounds M (length (M .depots)) (firstTwo M low high way)) before ⌝ }
@@ -241,11 +251,9 @@ fn shrink(
         &*hops,
         bounds,
         skips,
-        &*even,
-        &*odd,
         near,
-        evens,
-        odds,
+        nears,
+        &*fars,
         &mut ranks,
         low,
         e,
@@ -254,6 +262,7 @@ fn shrink(
         way,
     );
     rounds::run_rounds(
+        targets,
         links,
         pairs,
         hops,
@@ -263,6 +272,7 @@ fn shrink(
         odd,
         &mut seen,
         &mut next,
+        fars,
         &mut ranks,
         map::WORDS,
         map::SEARCHED,
@@ -275,6 +285,7 @@ fn shrink(
 // The figures by the finished searches of both ends, without the stale pairs.
 fn settle(
     members: &[u64],
+    targets: &[u64],
     links: &[u64],
     pairs: &mut [u64],
     hops: &mut [u16],
@@ -283,31 +294,36 @@ fn settle(
     even: &mut [u64],
     odd: &mut [u64],
     near: &[u16],
-    evens: &[u64],
-    odds: &[u64],
+    nears: &[u64],
+    fars: &mut [u64],
     low: usize,
-    e: u16,
+    e: Span,
     high: usize,
-    f: u16,
+    f: Span,
     chain: u16,
 ) -> Figures
     requires { let far = tablesAt hops even odd in
+        let G = targetNetwork (base .words) (now members) (now targets) (now links) in
+        let R = reached (e .ecc) (e .own) (now nears) in
+        let Q = reached (f .ecc) (f .own) (now fars) in
         ⌜ AreLong base (sizesAt links pairs hops bounds skips even odd)
-        × (base .words ≤ length (now members))
-        × AreOpen base (now members) (now links) (now pairs)
-        × HasTables base (tablesAt near evens odds)
-        × StandBoth base (now members) (now links) (tablesAt near evens odds) far low e high f
+        × AreTargets (base .words) (now members) (now targets)
+        × AreOpen base G (now pairs)
+        × (places base ≤ length (now near))
+        × (base .words ≤ length (now nears))
+        × (base .words ≤ length (now fars))
+        × StandBoth base G (now near) far low R high Q
         × (low < places base)
         × (high < places base) ⌝ }
     ensures { λ r.
         let before = lentBefore pairs hops bounds skips even odd in
         let after = lentAfter pairs hops bounds skips even odd in
-        let G = networkOf (base .words) (now (members .entry)) (now (links .entry)) in
+        let G = targetNetwork (base .words) (now (members .entry)) (now (targets .entry)) (now (links .entry)) in
         ⌜ figured (r .change) (ran after (r .chain) (r .count) (r .searches)) ≡ relinkedBy base G low high chain before ⌝ }
 {
     let left = stale_pairs::drop_stale_either(pairs, near, &*hops, map::WORDS, chain);
     if is_kept(left.count, chain) {
-        mark_both(bounds, skips, low, e, high, f);
+        mark_both(bounds, skips, low, e.ecc, high, f.ecc);
         return Figures {
             change: Change::Kept,
             chain: chain,
@@ -317,6 +333,7 @@ fn settle(
     }
     let got = shrink(
         members,
+        targets,
         links,
         pairs,
         hops,
@@ -325,8 +342,8 @@ fn settle(
         even,
         odd,
         near,
-        evens,
-        odds,
+        nears,
+        fars,
         low,
         e,
         high,
@@ -342,9 +359,10 @@ fn settle(
 }
 
 // The figures after the link of low and high is in place, by the stored chain: the search from low on local tables and the one from high on the lent
-// ones, then the pairs, the marks and, if the chain shrank, the rounds.
+// ones, what each says of its end, then the pairs, the marks and, if the chain shrank, the rounds. The targets are the depots that deliver.
 pub fn relink(
     members: &[u64],
+    targets: &[u64],
     links: &[u64],
     pairs: &mut [u64],
     hops: &mut [u16],
@@ -358,22 +376,45 @@ pub fn relink(
 ) -> Figures
     requires { let given = lentAt pairs hops bounds skips even odd in
         ⌜ AreLong base (sizesAt links pairs hops bounds skips even odd)
-        × IsRelinkable base (now members) (now links) given low high
+        × IsRelinkable base (now members) (now targets) (now links) given low high
         × (low < places base)
         × (high < places base) ⌝ }
     ensures { λ r.
         let before = lentBefore pairs hops bounds skips even odd in
         let after = lentAfter pairs hops bounds skips even odd in
-        let G = networkOf (base .words) (now (members .entry)) (now (links .entry)) in
+        let G = targetNetwork (base .words) (now (members .entry)) (now (targets .entry)) (now (links .entry)) in
         ⌜ figured (r .change) (ran after (r .chain) (r .count) (r .searches)) ≡ relinkedBy base G low high chain before ⌝ }
 {
     let mut near = [0u16; map::PLACES];
     let mut evens = [0u64; map::WORDS];
     let mut odds = [0u64; map::WORDS];
-    let e = search::search_sound(links, &mut near, &mut evens, &mut odds, low);
-    let f = search::search_sound(links, hops, even, odd, high);
+    let mut nears = [0u64; map::WORDS];
+    let mut fars = [0u64; map::WORDS];
+    let d = search::search_sound(links, &mut near, &mut evens, &mut odds, low);
+    let e = rounds::reach_by(
+        targets,
+        &near,
+        &evens,
+        &odds,
+        &mut nears,
+        map::WORDS,
+        low,
+        d,
+    );
+    let b = search::search_sound(links, hops, even, odd, high);
+    let f = rounds::reach_by(
+        targets,
+        &*hops,
+        &*even,
+        &*odd,
+        &mut fars,
+        map::WORDS,
+        high,
+        b,
+    );
     settle(
         members,
+        targets,
         links,
         pairs,
         hops,
@@ -382,8 +423,8 @@ pub fn relink(
         even,
         odd,
         &near,
-        &evens,
-        &odds,
+        &nears,
+        &mut fars,
         low,
         e,
         high,

@@ -32,6 +32,7 @@ use Rattle.bounds.specs.Bounds.{marks}
 use Rattle.map.specs.Room.{lent}
 use Rattle.rounds.specs.Leaves.{searchAfter, roundsLeave, ran, ranBy}
 use Rattle.rounds.specs.Workspace.{Workspace, workspace, runOf, RoundsBegun, roundsBegun, roundsBeginOf}
+use Rattle.rounds.specs.Targets.{targetNetwork, AreTargets}
 use Rattle.rounds.proofs.Holding.{runBound, runMark, Origin, boundPlace, skipPlace, waitingPlace, Holds}
 use Rattle.rounds.proofs.Simulation.{Running, run-holds}
 
@@ -48,12 +49,13 @@ cleared-table W t = refl
 
 -- ---- the start
 
-module _ (K : Shape) (shape : IsShape K) (members links : List ℕ) (net : IsNet (networkOf (K .words) members links)) where
+module _ (K : Shape) (shape : IsShape K) (members targets links : List ℕ) (are : AreTargets (K .words) members targets)
+    (net : IsNet (targetNetwork (K .words) members targets links)) where
   abbrev W : ℕ
   W = K .words
 
   abbrev G : Network
-  G = networkOf (K .words) members links
+  G = targetNetwork (K .words) members targets links
 
   pub start-holds : (c : ℕ) (O : Origin) (pairs bounds skips row : List ℕ)
       → roundsBegun pairs (marks bounds skips row) ≡ roundsBeginOf W (K .otherMark) members (roundsBegun (O .pairs) (marks (O .bounds) (O .skips) (O .waiting)))
@@ -81,7 +83,7 @@ module _ (K : Shape) (shape : IsShape K) (members links : List ℕ) (net : IsNet
   pub most-ecc : (v : ℕ) → chart G .isDestination v ≡ true → ecc (chart G) v ≤ unreached
   most-ecc v t = le-of-lt (ecc-small (chart G) (chart-metric G net) v (chart-metric G net .inside v t))
 
-  pub start-running : (c : ℕ) → c ≤ unreached → Running W (K .searchedMark) (K .otherMark) (shape .most) members links net (start c)
+  pub start-running : (c : ℕ) → c ≤ unreached → Running W (K .searchedMark) (K .otherMark) (shape .most) members targets links are net (start c)
   unfolding start
   start-running c l = record { inv = start-fine (chart G) (chart-metric G net) unreached most-ecc (le-refl unreached) c l; low = λ v ov. le-refl unreached }
 
@@ -105,7 +107,7 @@ module _ (K : Shape) (shape : IsShape K) (members links : List ℕ) (net : IsNet
       go none e ih p = refl
       go (some r) e ih p = ih r p
 
-  module _ (S₀ : State) (R : Running W (K .searchedMark) (K .otherMark) (shape .most) members links net S₀) where
+  module _ (S₀ : State) (R : Running W (K .searchedMark) (K .otherMark) (shape .most) members targets links are net S₀) where
     abbrev S : State
     S = rounds (chart G) (length (chart G .depots)) S₀
 
@@ -154,7 +156,7 @@ module _ (K : Shape) (shape : IsShape K) (members links : List ℕ) (net : IsNet
         at (searched e) w = refl
 
     -- WHAT THE CODE'S ROUNDS LEAVE
-    pub run-is : (O : Origin) (M M′ : Workspace) → Holds W (K .searchedMark) (K .otherMark) G O S₀ M → M′ ≡ runOf W links (K .searchedMark) (64 * W) M
+    pub run-is : (O : Origin) (M M′ : Workspace) → Holds W (K .searchedMark) (K .otherMark) G O S₀ M → M′ ≡ runOf W targets links (K .searchedMark) (64 * W) M
         → ran (lent (M′ .paired .pairs) (M′ .searched) (M′ .marked .bounds) (M′ .marked .skips)) (M′ .candidate) (M′ .paired .count) (M′ .searches)
         ≡ ranBy K G S (lent (O .pairs) (O .searched) (O .bounds) (O .skips))
     unfolding ranBy roundsLeave boundPlace skipPlace
@@ -170,4 +172,4 @@ module _ (K : Shape) (shape : IsShape K) (members links : List ℕ) (net : IsNet
         )
       where
         end : Holds W (K .searchedMark) (K .otherMark) G O S M′
-        end = subst (Holds W (K .searchedMark) (K .otherMark) G O S) (sym e) (subst (λ (X : State). Holds W (K .searchedMark) (K .otherMark) G O X (runOf W links (K .searchedMark) (64 * W) M)) enough (run-holds W (K .searchedMark) (K .otherMark) (shape .most) members links net (64 * W) O S₀ M H R .0))
+        end = subst (Holds W (K .searchedMark) (K .otherMark) G O S) (sym e) (subst (λ (X : State). Holds W (K .searchedMark) (K .otherMark) G O X (runOf W targets links (K .searchedMark) (64 * W) M)) enough (run-holds W (K .searchedMark) (K .otherMark) (shape .most) members targets links are net (64 * W) O S₀ M H R .0))

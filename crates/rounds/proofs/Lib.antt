@@ -1,3 +1,7 @@
+-- the network of an open set and a row of targets
+pub mod Targets
+-- what a search of the network says of its start
+pub mod Reaching
 -- what the workspace holds of the network's rounds
 pub mod Holding
 -- pairs of a round

@@ -25,6 +25,7 @@ use Rattle.rows.specs.Rows.{tableBit, encodeTable}
 use Rattle.rows.proofs.Written.{table-within}
 use Rattle.map.specs.Memory.{Shape, IsShape, places}
 use Rattle.map.specs.Room.{Lent, sizesOf, AreLong}
+use Rattle.layers.specs.Layers.{depthFrom}
 use Rattle.search.specs.SearchCall.{searchLeft}
 use Rattle.search.specs.Demand2.{IsSearch}
 use Rattle.search.specs.declared.Found.the-variants.{Reached}
@@ -153,10 +154,11 @@ last-in r (s ∷ rs) = List·Memᴰ·tail (last-in s rs)
 
 pub last-search : (K : Shape) (G : Network) → IsNet G → ((v : ℕ) → T (G .isOpen v) → v < places K) → (S : State) → AreReferences G S → (links : List ℕ) (B : Lent) → AreLong K (sizesOf links B)
     → (r : ℕ) (rs : List ℕ) → S .references ≡ r ∷ rs
-    → (e : ℕ) × IsSearch K G (lastOr r rs) (B .searched) (searchLeft (Reached e) (searchAfter (K .words) G (S .references) (B .searched)))
+    → (e : ℕ) × (d : ℕ) × IsSearch K G (lastOr r rs) (B .searched) (searchLeft (Reached e d) (searchAfter (K .words) G (S .references) (B .searched)))
 unfolding searchAfter sizesOf
 last-search K G net below S references links B long r rs q =
     let s = lastOr r rs in
     let m : T (memb s (S .references)) = true→t (ap (memb s) q ∙ in-memb s (r ∷ rs) (last-in r rs)) in
+    let found = Reached (ecc (chart G) s) (depthFrom G s) in
     let left = leaves-search K G net below s (references .inside s m) (B .searched) (long .hops) (long .even) (long .odd) in
-    (ecc (chart G) s, subst (λ (l : List ℕ). IsSearch K G s (B .searched) (searchLeft (Reached (ecc (chart G) s)) (searchAfter (K .words) G l (B .searched)))) (sym q) left)
+    (ecc (chart G) s, depthFrom G s, subst (λ (l : List ℕ). IsSearch K G s (B .searched) (searchLeft found (searchAfter (K .words) G l (B .searched)))) (sym q) left)

@@ -4,18 +4,17 @@ use mathlib.Core.Logic.{_⊎_, inl, inr}
 use mathlib.Core.Bool.{Bool, true, false, cond, _&&_}
 use mathlib.Core.List.{List, [], _∷_, _++_, List·Memᴰ}
 use mathlib.Core.Option.{Option, none, some}
-use Prim.Native.Nat.{ℕ, zero, suc, _+_, _*_, _≤_, _<_, min, max}
+use Prim.Native.Nat.{ℕ, zero, suc, _+_, _*_, _≤_, _<_, min, max, zero-le}
 use native.Mathlib.Nat.{le-of-lt, le-refl}
 use native.Mathlib.Omega.{arith}
 use lib.Dec.{T, eqb, ltb}
 use lib.ListN.{length, getD, length-append}
-use borrow.Author.Tests.{ltb-true, ltb-false}
+use borrow.Author.Tests.{ltb-true, ltb-false, le-ltb}
 use Rattle.lists.specs.Lists.{range, filterb, memb}
 use Rattle.lists.proofs.Tests.{look, t→true, true→t, clash}
-use Rattle.lists.proofs.Members.{filter-ext, filter-out, range-out}
+use Rattle.lists.proofs.Members.{filter-ext, filter-out, filter-twice, range-out}
 use Rattle.lists.proofs.Counts.{count-filter}
-use Rattle.lists.proofs.Fills.{fill-at}
-use Rattle.graph.specs.Network.{Network}
+use Rattle.graph.specs.Network.{Network, delivers}
 use Rattle.graph.specs.Distance.{unreached, dist}
 use Rattle.graph.specs.Chart.{Chart, chart, ecc, Pairs}
 use Rattle.graph.specs.Rounds.{Status, waiting, skipped, searched, isWaiting, State, offer, raise, joinPairs, round, better, pick, remaining, orStop, rounds}
@@ -27,33 +26,23 @@ use Rattle.graph.proofs.Rounds.{pick-in}
 use Rattle.graph.proofs.Charts.{chart-metric, depot-out}
 use Rattle.rows.specs.Rows.{rowBit, tableBit}
 use Rattle.rows.proofs.Written.{row-at}
-use Rattle.layers.specs.Layers.{searchLeaves, searchTable}
+use Rattle.layers.specs.Layers.{depthFrom, searchLeaves, searchTable}
 use Rattle.map.specs.Memory.{tableNetwork}
 use Rattle.map.specs.Room.{Tables}
-use Rattle.layers.proofs.Theorems.{table-depth, table-leaves, depth-is}
+use Rattle.layers.proofs.Theorems.{table-depth, table-leaves}
 use Rattle.map.specs.Memory.{networkOf}
 use Rattle.map.proofs.Theorems.{network-open-below}
+use Rattle.targets.specs.Reach.{Reached}
 use Rattle.pairs.specs.Pairs.{Tally, tallyOf, settleOf}
-use Rattle.bounds.specs.Bounds.{leaveOf, relaxOf}
+use Rattle.bounds.specs.Bounds.{Marks, leaveOf, relaxOf}
 use Rattle.ranks.specs.Ranks.{pickIn}
 use Rattle.rounds.specs.Leaves.{searchAfter}
-use Rattle.rounds.specs.Workspace.{Workspace, workspace, lastRow, absorbed, absorbing, holding, absorbOf, roundOf, orEnd, runOf}
+use Rattle.rounds.specs.Workspace.{Workspace, workspace, reachIn, absorbed, absorbing, holding, absorbOf, roundOf, orEnd, runOf}
+use Rattle.rounds.specs.Targets.{targetNetwork, AreTargets, Spans}
+use Rattle.rounds.proofs.Reaching.{spans, hop-at}
 use Rattle.rounds.proofs.Holding.{Origin, Holds, waitingPlace, after-over, after-snoc}
 use Rattle.rounds.proofs.Pairing.{settle-is}
 use Rattle.rounds.proofs.Marking.{IsLow, bounds-after, skips-after, waiting-after}
-
--- ---- lists
-
-filter-twice : (p q : ℕ → Bool) (xs : List ℕ) → filterb p (filterb q xs) ≡ filterb (λ v. q v && p v) xs
-unfolding filterb
-filter-twice p q [] = refl
-filter-twice p q (x ∷ xs) = go (q x) (p x) (filter-twice p q xs) refl
-  where
-    go : (a b : Bool) → filterb p (filterb q xs) ≡ filterb (λ v. q v && p v) xs → p x ≡ b
-        → filterb p (cond a (x ∷ filterb q xs) (filterb q xs)) ≡ cond (a && b) (x ∷ filterb (λ v. q v && p v) xs) (filterb (λ v. q v && p v) xs)
-    go true true ih e = rw (e, ih)
-    go true false ih e = rw (e, ih)
-    go false b ih e = ih
 
 -- the pick looks at degrees alone
 pick-same : (C D : Chart) → ((v : ℕ) → C .degree v ≡ D .degree v) → (xs : List ℕ) → pick C xs ≡ pick D xs
@@ -65,9 +54,10 @@ pick-same C D h (x ∷ xs) = ap (λ (o : Option ℕ). some (better C x o)) (pick
     go none = refl
     go (some w) = rw (h x, h w)
 
-module _ (W mark other : ℕ) (most : W < 513) (members links : List ℕ) (net : IsNet (networkOf W members links)) where
+module _ (W mark other : ℕ) (most : W < 513) (members targets links : List ℕ) (are : AreTargets W members targets)
+    (net : IsNet (targetNetwork W members targets links)) where
   abbrev G : Network
-  G = networkOf W members links
+  G = targetNetwork W members targets links
 
   abbrev metric : IsMetric (chart G)
   metric = chart-metric G net
@@ -138,52 +128,57 @@ module _ (W mark other : ℕ) (most : W < 513) (members links : List ℕ) (net :
     below-r : r < 64 * W
     below-r = inside r open-r
 
-    e : ℕ
-    e = ecc (chart G) r
+    own : ℕ
+    own = cond (delivers G r) (ecc (chart G) r) 0
 
     c′ : ℕ
-    c′ = cond (ltb (M .candidate) (ecc (chart G) r)) (ecc (chart G) r) (M .candidate)
+    c′ = cond (ltb (M .candidate) own) own (M .candidate)
 
     raised : c′ ≡ raise (chart G) r (ecc (chart G) r) (S .candidate)
-    unfolding raise c′ chart
-    raised = rw (t→true (G .isOpen r) open-r, H .candidate-is) (go (look (ltb (S .candidate) (ecc (chart G) r))))
+    unfolding raise c′ own chart
+    raised = rw (H .candidate-is) (by (delivers G r) refl)
       where
         go : (ltb (S .candidate) (ecc (chart G) r) ≡ true) ⊎ (ltb (S .candidate) (ecc (chart G) r) ≡ false)
             → cond (ltb (S .candidate) (ecc (chart G) r)) (ecc (chart G) r) (S .candidate) ≡ max (ecc (chart G) r) (S .candidate)
         go (inl q) = let l : S .candidate < ecc (chart G) r = ltb-true (S .candidate) (ecc (chart G) r) q in rw q (omega arith)
         go (inr q) = let l : ecc (chart G) r ≤ S .candidate = ltb-false (S .candidate) (ecc (chart G) r) q in rw q (omega arith)
 
-    -- a finished search from r, in tables that were written over T₁: bounds are held against `limit`, and S′ is what the network makes of it
-    module _ (T₁ : Tables) (limit : ℕ) (small : limit ≤ unreached) (S′ : State)
+        by : (b : Bool) → delivers G r ≡ b
+            → cond (ltb (S .candidate) (cond b (ecc (chart G) r) 0)) (cond b (ecc (chart G) r) 0) (S .candidate)
+            ≡ cond (chart G .isDestination r) (max (ecc (chart G) r) (S .candidate)) (S .candidate)
+        by true q = rw q (go (look (ltb (S .candidate) (ecc (chart G) r))))
+        by false q = rw (q, le-ltb (S .candidate) 0 zero-le)
+
+    -- a finished search from r, of which R says what it is, with its hop table h: bounds are held against `limit`, and S′ is what the network makes of it
+    module _ (R₁ : Reached) (is : Spans W G r R₁) (h : List ℕ) (hop : (v : ℕ) → v < 64 * W → getD h v 0 ≡ dist G r v) (limit : ℕ) (small : limit ≤ unreached) (S′ : State)
         (candidate′ : S′ .candidate ≡ raise (chart G) r (ecc (chart G) r) (S .candidate))
         (pairs′ : S′ .pairs ≡ joinPairs (chart G) r (ecc (chart G) r) (S .candidate) (S .pairs))
         (status′ : (v : ℕ) → S′ .status v ≡ cond (eqb v r) (searched (ecc (chart G) r)) (offer limit r (ecc (chart G) r + dist G r v) (S .status v)))
         (references′ : S′ .references ≡ S .references ++ (r ∷ [])) where
-      hop : (v : ℕ) → v < 64 * W → getD (searchLeaves W G r T₁ .hops) v 0 ≡ dist G r v
-      unfolding searchLeaves
-      hop v l = fill-at (dist G r) (T₁ .hops) (64 * W) v 0 l
-
-      tally-is : settleOf W (lastRow (ecc (chart G) r) (searchLeaves W G r T₁)) r (ecc (chart G) r) (M .candidate) (M .paired) ≡ tallyOf W (S′ .pairs) (O .pairs)
+      tally-is : settleOf W (R₁ .partners) r (R₁ .own) (M .candidate) (M .paired) ≡ tallyOf W (S′ .pairs) (O .pairs)
       tally-is =
-          ap (λ (n : ℕ). settleOf W (lastRow (ecc (chart G) r) (searchLeaves W G r T₁)) r (ecc (chart G) r) n (M .paired)) (H .candidate-is)
-          ∙ settle-is W G net r open-r T₁ (S .candidate) (S .pairs) (M .paired .pairs) (O .pairs) (M .paired .count) (H .pairs-are) (H .count-is)
+          ap (λ (n : ℕ). settleOf W (R₁ .partners) r (R₁ .own) n (M .paired)) (H .candidate-is)
+          ∙ settle-is W G r R₁ is (S .candidate) (S .pairs) (M .paired .pairs) (O .pairs) (M .paired .count) (H .pairs-are) (H .count-is)
           ∙ ap (λ (P : Pairs). tallyOf W P (O .pairs)) (sym pairs′)
 
+      marks-are : relaxOf W h r (R₁ .ecc) limit (leaveOf W r (R₁ .ecc) mark (M .marked)) ≡ relaxOf W h r (ecc (chart G) r) limit (leaveOf W r (ecc (chart G) r) mark (M .marked))
+      marks-are = ap (λ (e : ℕ). relaxOf W h r e limit (leaveOf W r e mark (M .marked))) (is .ecc-is)
+
       pub taken-in : Holds W mark other G O S′
-          (workspace (settleOf W (lastRow (ecc (chart G) r) (searchLeaves W G r T₁)) r (ecc (chart G) r) (M .candidate) (M .paired))
+          (workspace (settleOf W (R₁ .partners) r (R₁ .own) (M .candidate) (M .paired))
           (searchLeaves W G r (O .searched))
-          (relaxOf W (searchLeaves W G r T₁ .hops) r (ecc (chart G) r) limit (leaveOf W r (ecc (chart G) r) mark (M .marked)))
-          (cond (ltb (M .candidate) (ecc (chart G) r)) (ecc (chart G) r) (M .candidate))
+          (relaxOf W h r (R₁ .ecc) limit (leaveOf W r (R₁ .ecc) mark (M .marked)))
+          (cond (ltb (M .candidate) (R₁ .own)) (R₁ .own) (M .candidate))
           (M .searches + 1))
-      unfolding c′ tallyOf
+      unfolding c′ own tallyOf
       taken-in = record {
         tables-are = after-snoc W G (S .references) r (O .searched) ∙ ap (λ (l : List ℕ). searchAfter W G l (O .searched)) (sym references′);
         pairs-are = ap (λ (t : Tally). t .pairs) tally-is;
         count-is = ap (λ (t : Tally). t .count) tally-is;
-        bounds-are = bounds-after W mark other G S S′ r (ecc (chart G) r) limit below-r (t→true (G .isOpen r) open-r) status′ (R .low) small (O .bounds) (O .skips) (O .waiting) (searchLeaves W G r T₁ .hops) hop (M .marked) (H .bounds-are) (H .skips-are) (H .waiting-is);
-        skips-are = skips-after W mark other G S S′ r (ecc (chart G) r) limit below-r (t→true (G .isOpen r) open-r) status′ (R .low) small (O .bounds) (O .skips) (O .waiting) (searchLeaves W G r T₁ .hops) hop (M .marked) (H .bounds-are) (H .skips-are) (H .waiting-is);
-        waiting-is = waiting-after W mark other G S S′ r (ecc (chart G) r) limit below-r (t→true (G .isOpen r) open-r) status′ (R .low) small (O .bounds) (O .skips) (O .waiting) (searchLeaves W G r T₁ .hops) hop (M .marked) (H .bounds-are) (H .skips-are) (H .waiting-is);
-        candidate-is = raised ∙ sym candidate′;
+        bounds-are = ap (λ (m : Marks). m .bounds) marks-are ∙ bounds-after W mark other G S S′ r (ecc (chart G) r) limit below-r (t→true (G .isOpen r) open-r) status′ (R .low) small (O .bounds) (O .skips) (O .waiting) h hop (M .marked) (H .bounds-are) (H .skips-are) (H .waiting-is);
+        skips-are = ap (λ (m : Marks). m .skips) marks-are ∙ skips-after W mark other G S S′ r (ecc (chart G) r) limit below-r (t→true (G .isOpen r) open-r) status′ (R .low) small (O .bounds) (O .skips) (O .waiting) h hop (M .marked) (H .bounds-are) (H .skips-are) (H .waiting-is);
+        waiting-is = ap (λ (m : Marks). m .waiting) marks-are ∙ waiting-after W mark other G S S′ r (ecc (chart G) r) limit below-r (t→true (G .isOpen r) open-r) status′ (R .low) small (O .bounds) (O .skips) (O .waiting) h hop (M .marked) (H .bounds-are) (H .skips-are) (H .waiting-is);
+        candidate-is = ap (λ (o : ℕ). cond (ltb (M .candidate) o) o (M .candidate)) (is .own-is) ∙ raised ∙ sym candidate′;
         searches-are = ap (λ (n : ℕ). n + 1) (H .searches-are) ∙ sym (length-append (S .references) (r ∷ [])) ∙ ap length (sym references′);
       }
 
@@ -191,37 +186,57 @@ module _ (W mark other : ℕ) (most : W < 513) (members links : List ℕ) (net :
     unfolding round
     low-c = subst (λ (n : ℕ). n ≤ unreached) (sym raised) (running-round S r R m fresh .inv .bounded)
 
-    -- with skipping it is the network's round
-    pub absorb-over : (T₁ : Tables) →
-        let A = absorbing W mark r (ecc (chart G) r) (searchLeaves W G r T₁) (absorbed (M .paired) (M .marked) (M .candidate)) in
-        Holds W mark other G O (round (chart G) r S) (workspace (A .paired) (searchLeaves W G r (O .searched)) (A .marked) (A .candidate) (M .searches + 1))
-    unfolding absorbing round c′
-    absorb-over T₁ =
-        taken-in T₁ c′ low-c (round (chart G) r S) refl refl
-        (λ v. status-is r S v ∙ ap (λ (n : ℕ). cond (eqb v r) (searched (ecc (chart G) r)) (offer n r (ecc (chart G) r + dist G r v) (S .status v))) (sym raised))
-        refl
+    module _ (R₁ : Reached) (is : Spans W (targetNetwork W members targets links) r R₁) (h : List ℕ)
+        (hop : (v : ℕ) → v < 64 * W → getD h v 0 ≡ dist (targetNetwork W members targets links) r v) where
+      -- with skipping it is the network's round
+      pub absorb-over :
+          let A = absorbing W mark r R₁ h (absorbed (M .paired) (M .marked) (M .candidate)) in
+          Holds W mark other G O (round (chart G) r S) (workspace (A .paired) (searchLeaves W G r (O .searched)) (A .marked) (A .candidate) (M .searches + 1))
+      unfolding absorbing round c′ own
+      absorb-over =
+          taken-in R₁ is h hop (cond (ltb (M .candidate) (R₁ .own)) (R₁ .own) (M .candidate)) (subst (λ (n : ℕ). n ≤ unreached) (sym limited) low-c) (round (chart G) r S) refl refl
+          (λ v. status-is r S v ∙ ap (λ (n : ℕ). cond (eqb v r) (searched (ecc (chart G) r)) (offer n r (ecc (chart G) r + dist G r v) (S .status v))) (sym (limited ∙ raised)))
+          refl
+        where
+          limited : cond (ltb (M .candidate) (R₁ .own)) (R₁ .own) (M .candidate) ≡ c′
+          limited = ap (λ (o : ℕ). cond (ltb (M .candidate) o) o (M .candidate)) (is .own-is)
 
-    pub absorb : Holds W mark other G O (round (chart G) r S) (absorbOf W mark r (ecc (chart G) r) (searchLeaves W G r (O .searched)) M)
-    unfolding absorbOf
-    absorb = absorb-over (O .searched)
+      -- without skipping it is the network's round in which nobody is skipped
+      pub hold-over :
+          let A = holding W mark r R₁ h (absorbed (M .paired) (M .marked) (M .candidate)) in
+          Holds W mark other G O (unskippedRound (chart G) r S) (workspace (A .paired) (searchLeaves W G r (O .searched)) (A .marked) (A .candidate) (M .searches + 1))
+      unfolding holding unskippedRound
+      hold-over = taken-in R₁ is h hop 0 (omega arith) (unskippedRound (chart G) r S) refl refl (unskipped-status r S) refl
 
-    -- without skipping it is the network's round in which nobody is skipped
-    pub hold : (T₁ : Tables) →
-        let A = holding W mark r (ecc (chart G) r) (searchLeaves W G r T₁) (absorbed (M .paired) (M .marked) (M .candidate)) in
-        Holds W mark other G O (unskippedRound (chart G) r S) (workspace (A .paired) (searchLeaves W G r (O .searched)) (A .marked) (A .candidate) (M .searches + 1))
-    unfolding holding unskippedRound
-    hold T₁ = taken-in T₁ 0 (omega arith) (unskippedRound (chart G) r S) refl refl (unskipped-status r S) refl
+    -- a search that stands in tables, a row being lent for the partners
+    abbrev reach : Tables → List ℕ → Reached
+    reach T₁ row = reachIn W targets r (depthFrom G r) (searchLeaves W G r T₁) row
 
-    round-is : roundOf W links mark r M ≡ absorbOf W mark r (ecc (chart G) r) (searchLeaves W G r (O .searched)) M
+    pub absorb : (T₁ : Tables) (row : List ℕ) →
+        let R₁ = reachIn W targets r (depthFrom (targetNetwork W members targets links) r) (searchLeaves W (targetNetwork W members targets links) r T₁) row in
+        let A = absorbing W mark r R₁ (searchLeaves W (targetNetwork W members targets links) r T₁ .hops) (absorbed (M .paired) (M .marked) (M .candidate)) in
+        Holds W mark other (targetNetwork W members targets links) O (round (chart (targetNetwork W members targets links)) r S)
+        (workspace (A .paired) (searchLeaves W (targetNetwork W members targets links) r (O .searched)) (A .marked) (A .candidate) (M .searches + 1))
+    absorb T₁ row = absorb-over (reach T₁ row) (spans W members targets links net are r open-r T₁ row) (searchLeaves W G r T₁ .hops) (hop-at W members targets links net are r open-r T₁)
+
+    pub hold : (T₁ : Tables) (row : List ℕ) →
+        let R₁ = reachIn W targets r (depthFrom (targetNetwork W members targets links) r) (searchLeaves W (targetNetwork W members targets links) r T₁) row in
+        let A = holding W mark r R₁ (searchLeaves W (targetNetwork W members targets links) r T₁ .hops) (absorbed (M .paired) (M .marked) (M .candidate)) in
+        Holds W mark other (targetNetwork W members targets links) O (unskippedRound (chart (targetNetwork W members targets links)) r S)
+        (workspace (A .paired) (searchLeaves W (targetNetwork W members targets links) r (O .searched)) (A .marked) (A .candidate) (M .searches + 1))
+    hold T₁ row = hold-over (reach T₁ row) (spans W members targets links net are r open-r T₁ row) (searchLeaves W G r T₁ .hops) (hop-at W members targets links net are r open-r T₁)
+
+    round-is : roundOf W targets links mark r M ≡ absorbOf W mark r (reach (O .searched) []) (searchLeaves W G r (O .searched)) M
     unfolding roundOf searchTable
     round-is =
-        ap₂ (λ (d : ℕ) (t : Tables). absorbOf W mark r d t M)
-        (table-depth G (net .sound) (64 * W) inside few r open-r W links refl links-are ∙ depth-is G net r open-r)
+        ap₂ (λ (d : ℕ) (t : Tables). absorbOf W mark r (reachIn W targets r d t []) t M)
+        (table-depth G (net .sound) (64 * W) inside few r open-r W links refl links-are)
         (table-leaves G (net .sound) (64 * W) inside few r open-r W links (M .searched) refl links-are
         ∙ ap (searchLeaves W G r) (H .tables-are) ∙ after-over W G (S .references) r (O .searched))
 
-    pub round-holds : Holds W mark other G O (round (chart G) r S) (roundOf W links mark r M)
-    round-holds = subst (Holds W mark other G O (round (chart G) r S)) (sym round-is) absorb
+    pub round-holds : Holds W mark other G O (round (chart G) r S) (roundOf W targets links mark r M)
+    unfolding absorbOf
+    round-holds = subst (Holds W mark other G O (round (chart G) r S)) (sym round-is) (absorb (O .searched) [])
 
   -- ---- the pick
 
@@ -252,16 +267,16 @@ module _ (W mark other : ℕ) (most : W < 513) (members links : List ℕ) (net :
 
   -- ---- rounds until none remains
 
-  pub run-holds : (k : ℕ) (O : Origin) (S : State) (M : Workspace) → Holds W mark other G O S M → Running S → Holds W mark other G O (rounds (chart G) k S) (runOf W links mark k M) × Running (rounds (chart G) k S)
+  pub run-holds : (k : ℕ) (O : Origin) (S : State) (M : Workspace) → Holds W mark other G O S M → Running S → Holds W mark other G O (rounds (chart G) k S) (runOf W targets links mark k M) × Running (rounds (chart G) k S)
   unfolding rounds runOf orEnd
   run-holds zero O S M H R = (H, R)
   run-holds (suc k) O S M H R =
       rw (pick-is O S M H)
       (go (pick (chart G) (remaining (chart G) S)) refl (λ r q. let p = picked S R r q in
-      run-holds k O (round (chart G) r S) (roundOf W links mark r M) (round-holds O S M H R r (p .0) (p .1)) (running-round S r R (p .0) (p .1))))
+      run-holds k O (round (chart G) r S) (roundOf W targets links mark r M) (round-holds O S M H R r (p .0) (p .1)) (running-round S r R (p .0) (p .1))))
     where
       go : (o : Option ℕ) → pick (chart G) (remaining (chart G) S) ≡ o
-          → ((r : ℕ) → pick (chart G) (remaining (chart G) S) ≡ some r → Holds W mark other G O (rounds (chart G) k (round (chart G) r S)) (runOf W links mark k (roundOf W links mark r M)) × Running (rounds (chart G) k (round (chart G) r S)))
-          → Holds W mark other G O (orStop o S (λ r. rounds (chart G) k (round (chart G) r S))) (orEnd o M (λ r. runOf W links mark k (roundOf W links mark r M))) × Running (orStop o S (λ r. rounds (chart G) k (round (chart G) r S)))
+          → ((r : ℕ) → pick (chart G) (remaining (chart G) S) ≡ some r → Holds W mark other G O (rounds (chart G) k (round (chart G) r S)) (runOf W targets links mark k (roundOf W targets links mark r M)) × Running (rounds (chart G) k (round (chart G) r S)))
+          → Holds W mark other G O (orStop o S (λ r. rounds (chart G) k (round (chart G) r S))) (orEnd o M (λ r. runOf W targets links mark k (roundOf W targets links mark r M))) × Running (orStop o S (λ r. rounds (chart G) k (round (chart G) r S)))
       go none q ih = (H, R)
       go (some r) q ih = ih r q

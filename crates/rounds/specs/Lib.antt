@@ -5,3 +5,5 @@ pub mod Leaves
 pub mod Workspace
 -- 3. the slices of the workspace as one value, for the contracts. Nobody has to believe this file
 pub mod Slices
+-- 4. the network that the code's steps are told by a row of targets. Nobody has to believe this file
+pub mod Targets

@@ -2,7 +2,7 @@
 -- proofs/Theorems says that they leave what the network's own rounds (graph, Rounds.antt) leave.
 -- Assumes nothing.
 use mathlib.Core.Bool.{false, cond}
-use mathlib.Core.List.{List}
+use mathlib.Core.List.{List, []}
 use mathlib.Core.Option.{Option, none, some}
 use Prim.Native.Nat.{ℕ, zero, suc, _+_, _*_, _%_, _≤_}
 use lib.Dec.{eqb, ltb}
@@ -12,6 +12,7 @@ use Rattle.graph.specs.Distance.{unreached}
 use Rattle.rows.specs.Rows.{rowBit, encodeRow, encodeTable}
 use Rattle.map.specs.Room.{Tables}
 use Rattle.layers.specs.Layers.{searchTable}
+use Rattle.targets.specs.Reach.{Reached, reachOf}
 use Rattle.pairs.specs.Pairs.{Tally, settleOf}
 use Rattle.bounds.specs.Bounds.{Marks, marks, leaveOf, relaxOf}
 use Rattle.ranks.specs.Ranks.{pickIn}
@@ -23,14 +24,18 @@ pub record Workspace : Type 0 where
   pub candidate : ℕ
   pub searches : ℕ
 
--- the last layer's row
+-- the row of a search's last layer, which lies at the depth d
 abbrev pub lastRow : ℕ → Tables → List ℕ
-lastRow e T = cond (eqb (e % 2) 0) (T .even) (T .odd)
+lastRow d T = cond (eqb (d % 2) 0) (T .even) (T .odd)
+
+-- what a search from r to the depth d, with its tables T, says of it, a row being lent for its partners
+abbrev pub reachIn : ℕ → List ℕ → ℕ → ℕ → Tables → List ℕ → Reached
+reachIn W targets r d T row = reachOf W targets (T .hops) (lastRow d T) r d row
 
 abbrev pub workspace : Tally → Tables → Marks → ℕ → ℕ → Workspace
 workspace t T m c n = record { paired = t; searched = T; marked = m; candidate = c; searches = n }
 
--- what a finished search from r, with its last layer at distance e and its tables T, does to pairs, marks and candidate
+-- what a finished search from r, with the hop table h and what it says R, does to pairs, marks and candidate
 pub record Absorbed : Type 0 where
   pub paired : Tally
   pub marked : Marks
@@ -39,38 +44,43 @@ pub record Absorbed : Type 0 where
 abbrev pub absorbed : Tally → Marks → ℕ → Absorbed
 absorbed t m c = record { paired = t; marked = m; candidate = c }
 
-unfoldable pub absorbing : ℕ → ℕ → ℕ → ℕ → Tables → Absorbed → Absorbed
-absorbing W mark r e T A =
-    let c = cond (ltb (A .candidate) e) e (A .candidate) in
+-- candidate and pairs go by what is r's own, marks and bounds by its eccentricity
+unfoldable pub absorbing : ℕ → ℕ → ℕ → Reached → List ℕ → Absorbed → Absorbed
+absorbing W mark r R h A =
+    let c = cond (ltb (A .candidate) (R .own)) (R .own) (A .candidate) in
     record {
-      paired = settleOf W (lastRow e T) r e (A .candidate) (A .paired);
-      marked = relaxOf W (T .hops) r e c (leaveOf W r e mark (A .marked));
+      paired = settleOf W (R .partners) r (R .own) (A .candidate) (A .paired);
+      marked = relaxOf W h r (R .ecc) c (leaveOf W r (R .ecc) mark (A .marked));
       candidate = c;
     }
 
 -- the same, but nobody is skipped: bounds are held against 0 in place of the candidate
-unfoldable pub holding : ℕ → ℕ → ℕ → ℕ → Tables → Absorbed → Absorbed
-holding W mark r e T A = record {
-  paired = settleOf W (lastRow e T) r e (A .candidate) (A .paired);
-  marked = relaxOf W (T .hops) r e 0 (leaveOf W r e mark (A .marked));
-  candidate = cond (ltb (A .candidate) e) e (A .candidate);
+unfoldable pub holding : ℕ → ℕ → ℕ → Reached → List ℕ → Absorbed → Absorbed
+holding W mark r R h A = record {
+  paired = settleOf W (R .partners) r (R .own) (A .candidate) (A .paired);
+  marked = relaxOf W h r (R .ecc) 0 (leaveOf W r (R .ecc) mark (A .marked));
+  candidate = cond (ltb (A .candidate) (R .own)) (R .own) (A .candidate);
 }
 
-unfoldable pub absorbOf : ℕ → ℕ → ℕ → ℕ → Tables → Workspace → Workspace
-absorbOf W mark r e T M =
-    let A = absorbing W mark r e T (absorbed (M .paired) (M .marked) (M .candidate)) in
+unfoldable pub absorbOf : ℕ → ℕ → ℕ → Reached → Tables → Workspace → Workspace
+absorbOf W mark r R T M =
+    let A = absorbing W mark r R (T .hops) (absorbed (M .paired) (M .marked) (M .candidate)) in
     workspace (A .paired) T (A .marked) (A .candidate) (M .searches + 1)
 
-unfoldable pub roundOf : ℕ → List ℕ → ℕ → ℕ → Workspace → Workspace
-roundOf W links mark r M = let S = searchTable W links r (M .searched) in absorbOf W mark r (S .depth) (S .left) M
+-- what stood in the row that is lent for the partners is no matter
+unfoldable pub roundOf : ℕ → List ℕ → List ℕ → ℕ → ℕ → Workspace → Workspace
+roundOf W targets links mark r M =
+    let S = searchTable W links r (M .searched) in
+    absorbOf W mark r (reachIn W targets r (S .depth) (S .left) []) (S .left) M
 
 unfoldable pub orEnd : Option ℕ → Workspace → (ℕ → Workspace) → Workspace
 orEnd none M f = M
 orEnd (some r) M f = f r
 
-unfoldable pub runOf : ℕ → List ℕ → ℕ → ℕ → Workspace → Workspace
-runOf W links mark zero M = M
-runOf W links mark (suc k) M = orEnd (pickIn W links (M .marked .waiting)) M (λ r. runOf W links mark k (roundOf W links mark r M))
+unfoldable pub runOf : ℕ → List ℕ → List ℕ → ℕ → ℕ → Workspace → Workspace
+runOf W targets links mark zero M = M
+runOf W targets links mark (suc k) M =
+    orEnd (pickIn W links (M .marked .waiting)) M (λ r. runOf W targets links mark k (roundOf W targets links mark r M))
 
 -- ---- the start
 
@@ -92,11 +102,13 @@ roundsBeginOf W other members B =
 
 -- ---- what the functions ask
 
--- a link table and a search's memory of W words a row
-pub record RoundRoom (W : ℕ) (links hops even odd seen next : List ℕ) : Type 0 where
+-- a row of targets, a link table, a search's memory and a row for partners, of W words a row
+pub record RoundRoom (W : ℕ) (targets links hops even odd seen next partners : List ℕ) : Type 0 where
+  pub targetRow : W ≤ length targets
   pub table : W * (64 * W) ≤ length links
   pub hopPlaces : 64 * W ≤ length hops
   pub evenRow : W ≤ length even
   pub oddRow : W ≤ length odd
   pub seenRow : W ≤ length seen
   pub nextRow : W ≤ length next
+  pub partnerRow : W ≤ length partners

@@ -1,23 +1,52 @@
 // Reference rounds over lent tables (rules 5.1 to 5.4), a round at a time. Rows of 1 to 512 words.
-ghost use mathlib.Core.List.{[]};
 ghost use mathlib.Core.Path.{_≡_};
 ghost use mathlib.Core.Bool.{cond};
-ghost use Prim.Native.Nat.{_+_, _*_, _<_, _≤_};
+ghost use Prim.Native.Nat.{_+_, _*_, _^_, _<_, _≤_};
 ghost use lib.Dec.{ltb};
 ghost use lib.ListN.{length};
-ghost use Rattle.map.specs.Room.{tables};
-ghost use Rattle.pairs.specs.Pairs.{tally, settleOf, Counted};
+ghost use Rattle.pairs.specs.Pairs.{tally, Counted};
 ghost use Rattle.ranks.specs.Ranks.{AreRanks, AreThinned};
 ghost use Rattle.bounds.specs.Bounds.{Fits};
-ghost use Rattle.rounds.specs.Workspace.{lastRow, absorbed, absorbing, holding, roundOf, runOf, roundsBegun, roundsBeginOf, RoundRoom};
+ghost use Rattle.targets.specs.Reach.{reached};
+ghost use Rattle.rounds.specs.Workspace.{reachIn, absorbed, absorbing, holding, roundOf, runOf, roundsBegun, roundsBeginOf, RoundRoom};
 ghost use Rattle.map.specs.Slices.{tablesBefore};
 ghost use Rattle.bounds.specs.Slices.{marksBefore, marksAfter};
 ghost use Rattle.rounds.specs.Slices.{workspaceBefore, workspaceAfter};
 use rows::Next;
+use targets::Span;
 
 // ---- one round
 
-// The candidate after a search with eccentricity e.
+// What a search from r to this depth says of it: how far the targets lie, and its partners. The last layer stands in the row of the depth's parity.
+pub fn reach_by(
+    targets: &[u64],
+    hops: &[u16],
+    even: &[u64],
+    odd: &[u64],
+    partners: &mut [u64],
+    words: usize,
+    r: usize,
+    depth: u16,
+) -> Span
+    requires { ⌜ (words ≤ length (now targets))
+        × (64 * words ≤ length (now hops))
+        × (words ≤ length (now even))
+        × (words ≤ length (now odd))
+        × (words ≤ length (now partners))
+        × (words < 2 ^ 32)
+        × (r < 64 * words) ⌝ }
+    ensures { λ t.
+        let T = tablesBefore hops even odd in
+        ⌜ reached (t .ecc) (t .own) (now (partners .exit))
+        ≡ reachIn words (now (targets .entry)) r depth T (now (partners .entry)) ⌝ }
+{
+    if depth % 2 == 0 {
+        return targets::reach(targets, hops, even, partners, words, r, depth);
+    }
+    targets::reach(targets, hops, odd, partners, words, r, depth)
+}
+
+// The candidate after a search whose own eccentricity is e.
 fn raise(candidate: u16, e: u16) -> u16
     ensures { λ r. ⌜ r ≡ cond (ltb candidate e) e candidate ⌝ }
 {
@@ -25,31 +54,6 @@ fn raise(candidate: u16, e: u16) -> u16
         return e;
     }
     candidate
-}
-
-// The pairs after a search from r, whose last layer stands in the row of the eccentricity's parity.
-pub fn settle_by(
-    pairs: &mut [u64],
-    even: &[u64],
-    odd: &[u64],
-    words: usize,
-    r: usize,
-    e: u16,
-    candidate: u16,
-    count: u32,
-) -> u32
-    requires { ⌜ Counted words (now pairs) count
-        × (words ≤ length (now even))
-        × (words ≤ length (now odd))
-        × (r < 64 * words) ⌝ }
-    ensures { λ n.
-        let row = lastRow e (tables [] (now (even .entry)) (now (odd .entry))) in
-        ⌜ tally (now (pairs .exit)) n ≡ settleOf words row r e candidate (tally (now (pairs .entry)) count) ⌝ }
-{
-    if e % 2 == 0 {
-        return pairs::settle(pairs, even, words, r, e, candidate, count);
-    }
-    pairs::settle(pairs, odd, words, r, e, candidate, count)
 }
 
 // Candidate, pair count and number of searches.
@@ -69,20 +73,19 @@ fn skip_limit(skipping: bool, c: u16) -> u16
     0
 }
 
-// Takes in a finished search from r with eccentricity e: candidate and pairs; then r leaves the remaining; then their bounds; then the skipping, if
-// it is asked for.
+// Takes in a finished search from r: candidate and pairs by what is its own; then r leaves the remaining; then their bounds, by its eccentricity; then
+// the skipping, if it is asked for.
 pub fn absorb(
     pairs: &mut [u64],
     hops: &[u16],
     bounds: &mut [u16],
     skips: &mut [u16],
-    even: &[u64],
-    odd: &[u64],
+    partners: &[u64],
     ranks: &mut [u16],
     words: usize,
     mark: u16,
     r: usize,
-    e: u16,
+    span: Span,
     candidate: u16,
     count: u32,
     skipping: bool,
@@ -90,21 +93,21 @@ pub fn absorb(
     requires { ⌜ Counted words (now pairs) count
         × Fits words (now bounds) (now skips) (now ranks)
         × (64 * words ≤ length (now hops))
-        × (words ≤ length (now even))
-        × (words ≤ length (now odd))
+        × (words ≤ length (now partners))
         × (r < 64 * words) ⌝ }
     ensures { λ t.
-        let T = tablesBefore hops even odd in
+        let R = reached (span .ecc) (span .own) (now (partners .entry)) in
         let before = absorbed (tally (now (pairs .entry)) count) (marksBefore words bounds skips ranks) candidate in
         let after = absorbed (tally (now (pairs .exit)) (t .count)) (marksAfter words bounds skips ranks) (t .candidate) in
-        ⌜ (after ≡ cond skipping (absorbing words mark r e T before) (holding words mark r e T before))
+        let h = now (hops .entry) in
+        ⌜ (after ≡ cond skipping (absorbing words mark r R h before) (holding words mark r R h before))
         × AreThinned words (now (ranks .entry)) (now (ranks .exit)) ⌝ }
 {
-    let sum = settle_by(pairs, even, odd, words, r, e, candidate, count);
-    let c = raise(candidate, e);
+    let sum = pairs::settle(pairs, partners, words, r, span.own, candidate, count);
+    let c = raise(candidate, span.own);
     let limit = skip_limit(skipping, c);
-    bounds::leave(bounds, skips, ranks, words, r, e, mark);
-    bounds::relax(hops, bounds, skips, ranks, words, r as u16, e, limit);
+    bounds::leave(bounds, skips, ranks, words, r, span.ecc, mark);
+    bounds::relax(hops, bounds, skips, ranks, words, r as u16, span.ecc, limit);
     RoundFigures {
         candidate: c,
         count: sum,
@@ -112,8 +115,9 @@ pub fn absorb(
     }
 }
 
-// One round: a search from r, taken in. What stands in seen and next afterwards is free.
+// One round: a search from r, taken in. What stands in seen, next and partners afterwards is free.
 fn round(
+    targets: &[u64],
     links: &[u64],
     pairs: &mut [u64],
     hops: &mut [u16],
@@ -123,13 +127,14 @@ fn round(
     odd: &mut [u64],
     seen: &mut [u64],
     next: &mut [u64],
+    partners: &mut [u64],
     ranks: &mut [u16],
     words: usize,
     mark: u16,
     r: usize,
     before: RoundFigures,
 ) -> RoundFigures
-    requires { ⌜ RoundRoom words (now links) (now hops) (now even) (now odd) (now seen) (now next)
+    requires { ⌜ RoundRoom words (now targets) (now links) (now hops) (now even) (now odd) (now seen) (now next) (now partners)
         × Counted words (now pairs) (before .count)
         × Fits words (now bounds) (now skips) (now ranks)
         × (r < 64 * words)
@@ -137,22 +142,22 @@ fn round(
     ensures { λ t.
         let entry = workspaceBefore words pairs hops bounds skips even odd ranks (before .candidate) (before .count) (before .searches) in
         let exit = workspaceAfter words pairs hops bounds skips even odd ranks (t .candidate) (t .count) (t .searches) in
-        ⌜ (exit ≡ roundOf words (now (links .entry)) mark r entry)
+        ⌜ (exit ≡ roundOf words (now (targets .entry)) (now (links .entry)) mark r entry)
         × AreThinned words (now (ranks .entry)) (now (ranks .exit)) ⌝ }
 {
-    let e = layers::search_table(links, hops, even, odd, seen, next, words, r);
+    let depth = layers::search_table(links, hops, even, odd, seen, next, words, r);
+    let span = reach_by(targets, &*hops, &*even, &*odd, partners, words, r, depth);
     let got = absorb(
         pairs,
         &*hops,
         bounds,
         skips,
-        &*even,
-        &*odd,
+        &*partners,
         ranks,
         words,
         mark,
         r,
-        e,
+        span,
         before.candidate,
         before.count,
         true,
@@ -166,8 +171,10 @@ fn round(
 
 // ---- rounds until none remains
 
-// Rounds until no depot remains, after up to two searches. What stands in ranks, seen and next afterwards is free where the caller does not look.
+// Rounds until no depot remains, after up to two searches. What stands in ranks, seen, next and partners afterwards is free where the caller does not
+// look.
 pub fn run_rounds(
+    targets: &[u64],
     links: &[u64],
     pairs: &mut [u64],
     hops: &mut [u16],
@@ -177,12 +184,13 @@ pub fn run_rounds(
     odd: &mut [u64],
     seen: &mut [u64],
     next: &mut [u64],
+    partners: &mut [u64],
     ranks: &mut [u16],
     words: usize,
     mark: u16,
     before: RoundFigures,
 ) -> RoundFigures
-    requires { ⌜ RoundRoom words (now links) (now hops) (now even) (now odd) (now seen) (now next)
+    requires { ⌜ RoundRoom words (now targets) (now links) (now hops) (now even) (now odd) (now seen) (now next) (now partners)
         × Counted words (now pairs) (before .count)
         × Fits words (now bounds) (now skips) (now ranks)
         × AreRanks words (now links) (now ranks)
@@ -190,7 +198,7 @@ pub fn run_rounds(
     ensures { λ t.
         let entry = workspaceBefore words pairs hops bounds skips even odd ranks (before .candidate) (before .count) (before .searches) in
         let exit = workspaceAfter words pairs hops bounds skips even odd ranks (t .candidate) (t .count) (t .searches) in
-        ⌜ exit ≡ runOf words (now (links .entry)) mark (64 * words) entry ⌝ }
+        ⌜ exit ≡ runOf words (now (targets .entry)) (now (links .entry)) mark (64 * words) entry ⌝ }
 {
     let mut now = before;
     loop {
@@ -199,6 +207,7 @@ pub fn run_rounds(
             return now;
         };
         let after = round(
+            targets,
             links,
             pairs,
             hops,
@@ -208,6 +217,7 @@ pub fn run_rounds(
             odd,
             seen,
             next,
+            partners,
             ranks,
             words,
             mark,

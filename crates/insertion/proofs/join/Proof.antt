@@ -9,6 +9,6 @@ pub join-spec : {M : Type 1} → statement M
 join-spec =
     tie.close
     (tie.spec
-    (λ c. search needs) (λ c. search needs) (λ c. search needs)  -- settle-by-requires, mark-once-requires, same-length
-    (λ c. search needs) (λ c. search needs)  -- same-length-2, same-length-3
+    (λ c. search needs) (λ c. search needs) (λ c. search needs) (λ c. search needs)  -- settle-requires, mark-once-requires, same-length, same-length-2
+    (λ c. search needs)  -- same-length-3
     (λ c. search join-is))  -- returns

@@ -29,7 +29,6 @@ join-requires c κs = (
   search needs,
   search needs,
   search needs,
-  search needs,
 )
 
 returns : tie.Need-returns
@@ -39,7 +38,7 @@ returns c =
     let after-drop-stale : tie.After-drop-stale = search back in
     let start : tie.Start = search back in
     let pre = start .pre in
-    equal-is base _ _ _ _ _ _ (pre .3) (pre .2 .ends) (pre .5) _ _ _ (after-drop-stale .drop-stale .ensures) (then1 .if1 .taken) _ _ _
+    equal-is base _ _ _ _ _ _ _ (pre .4) (pre .3 .ends) (pre .6) _ _ _ (after-drop-stale .drop-stale .ensures) (then1 .if1 .taken) _ _ _
     (after-join .join .ensures)
 
 returns-2 : tie.Need-returns-2
@@ -50,7 +49,7 @@ returns-2 c =
     let after-drop-stale : tie.After-drop-stale = search back in
     let start : tie.Start = search back in
     let pre = start .pre in
-    kept-is base _ _ _ _ _ _ (pre .3) (pre .2 .ends) (pre .5) _ _ _ (after-drop-stale .drop-stale .ensures) (else1 .if1 .left)
+    kept-is base _ _ _ _ _ _ _ (pre .4) (pre .3 .ends) (pre .6) _ _ _ (after-drop-stale .drop-stale .ensures) (else1 .if1 .left)
     (then2 .if2 .taken) _ (after-mark-once .mark-once .ensures)
 
 shrink-requires : tie.Need-shrink-requires
@@ -59,9 +58,10 @@ shrink-requires c κs =
     let start : tie.Start = search back in
     let pre = start .pre in (
       search needs,
-      search needs,
-      record { net = pre .3 .net; present = pre .3 .present; depth = pre .3 .depth; stands = pre .3 .stands },
-      pre .4,
+      pre .1,
+      pre .2,
+      record { net = pre .4 .net; present = pre .4 .present; spans = pre .4 .spans; stands = pre .4 .stands },
+      pre .5,
     )
 
 returns-3 : tie.Need-returns-3
@@ -71,7 +71,9 @@ returns-3 c =
     let else1 : tie.Else1 = search back in
     let after-drop-stale : tie.After-drop-stale = search back in
     let start : tie.Start = search back in
-    search (shrank-is, needs)
+    let pre = start .pre in
+    shrank-is base _ _ _ _ _ _ _ (pre .4) (pre .3 .ends) (pre .6) _ _ _ (after-drop-stale .drop-stale .ensures) (else1 .if1 .left) (else2 .if2 .left)
+    _ (after-shrink .shrink .ensures)
 
 pub settle-low-spec : {M : Type 1} → statement M
 settle-low-spec =
@@ -80,12 +82,12 @@ settle-low-spec =
     (λ c. search needs)  -- drop-stale-requires
     join-requires
     (λ c. search needs) (λ c. search needs) (λ c. search needs) (λ c. search needs)  -- same-length, same-length-2, same-length-3, same-length-4
-    (λ c. search needs) (λ c. search needs)  -- same-length-5, same-length-6
+    (λ c. search needs)  -- same-length-5
     returns
-    (λ c. search needs) (λ c. search needs) (λ c. search needs) (λ c. search needs)  -- mark-once-requires, same-length-7, same-length-8, same-length-9
-    (λ c. search needs)  -- same-length-10
+    (λ c. search needs) (λ c. search needs) (λ c. search needs) (λ c. search needs)  -- mark-once-requires, same-length-6, same-length-7, same-length-8
+    (λ c. search needs)  -- same-length-9
     returns-2
     shrink-requires
-    (λ c. search needs) (λ c. search needs) (λ c. search needs) (λ c. search needs)  -- same-length-11, same-length-12, same-length-13, same-length-14
-    (λ c. search needs) (λ c. search needs)  -- same-length-15, same-length-16
+    (λ c. search needs) (λ c. search needs) (λ c. search needs) (λ c. search needs)  -- same-length-10, same-length-11, same-length-12, same-length-13
+    (λ c. search needs) (λ c. search needs) (λ c. search needs)  -- same-length-14, same-length-15, same-length-16
     returns-3)

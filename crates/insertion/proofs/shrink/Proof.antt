@@ -33,7 +33,6 @@ absorb-requires c κs =
       search needs,
       search needs,
       search needs,
-      search needs,
     )
 
 slice-aggregate-run-rounds-3 : tie.Need-slice-aggregate-run-rounds-3
@@ -88,8 +87,8 @@ returns c =
     let after-absorb : tie.After-absorb = search back in
     let after-begin : tie.After-begin = search back in
     let start : tie.Start = search back in
-    shrink-is base base-shape _ _ _ _ _ _ _ (start .pre .2) (omega (arith, start .fits .way .fits)) _ _ _ _ (after-begin .begin .ensures .0) _ _ _
-    (after-absorb .absorb .ensures .0) _ _ _ _ _ (after-run-rounds .run-rounds .ensures)
+    shrink-is base base-shape _ _ _ (start .pre .1) _ _ _ _ _ (start .pre .3) (omega (arith, start .fits .way .fits)) _ _ _ _
+    (after-begin .begin .ensures .0) _ _ _ (after-absorb .absorb .ensures .0) _ _ _ _ _ (after-run-rounds .run-rounds .ensures)
 
 pub shrink-spec : {M : Type 1} → statement M
 shrink-spec =
@@ -104,5 +103,5 @@ shrink-spec =
     (λ c. search needs)  -- same-length-2
     same-length-3
     same-length-4
-    (λ c. search needs) (λ c. search needs)  -- same-length-5, same-length-6
+    (λ c. search needs) (λ c. search needs) (λ c. search needs)  -- same-length-5, same-length-6, same-length-7
     returns)

@@ -9,8 +9,8 @@ use Rattle.reckon.proofs.reckon_map.Statement.{statement}
 use Rattle.reckon.proofs.reckon_map.Tie as tie
 use Rattle.map.proofs.Theorems.{base-shape}
 
-slice-aggregate-run-rounds-3 : tie.Need-slice-aggregate-run-rounds-3
-slice-aggregate-run-rounds-3 c = search needs
+slice-aggregate-run-rounds-4 : tie.Need-slice-aggregate-run-rounds-4
+slice-aggregate-run-rounds-4 c = search needs
 
 -- the way back, from each call to the one before it
 abbrev before-run-rounds : tie.After-run-rounds → tie.After-begin
@@ -34,7 +34,7 @@ run-rounds-requires c κs =
         most = omega arith;
         boundPlaces = omega (arith, pre .0 .bounds, k);
         skipPlaces = omega (arith, pre .0 .skips, k);
-        rankPlaces = omega (arith, slice-aggregate-run-rounds-3 c);
+        rankPlaces = omega (arith, slice-aggregate-run-rounds-4 c);
       },
       after-begin .begin .ensures .1,
       omega arith,
@@ -45,15 +45,15 @@ returns c =
     let after-run-rounds : tie.After-run-rounds = search back in
     let after-begin : tie.After-begin = search back in
     let start : tie.Start = search back in
-    reckoned-is base base-shape _ _ (start .pre .2) _ _ _ _ _ _ _ (after-begin .begin .ensures .0) (after-run-rounds .run-rounds .ensures)
+    reckoned-is base base-shape _ _ _ (start .pre .1) (start .pre .2) _ _ _ _ _ _ _ (after-begin .begin .ensures .0) (after-run-rounds .run-rounds .ensures)
 
 pub reckon-map-spec : {M : Type 1} → statement M
 reckon-map-spec =
     tie.close
     (tie.spec
     (λ c. search needs) (λ c. search needs) (λ c. search needs)  -- slice-aggregate-begin, begin-requires, slice-aggregate-run-rounds
-    (λ c. search needs)  -- slice-aggregate-run-rounds-2
-    slice-aggregate-run-rounds-3
+    (λ c. search needs) (λ c. search needs)  -- slice-aggregate-run-rounds-2, slice-aggregate-run-rounds-3
+    slice-aggregate-run-rounds-4
     run-rounds-requires
     (λ c. search needs) (λ c. search needs) (λ c. search needs) (λ c. search needs)  -- same-length, same-length-2, same-length-3, same-length-4
     (λ c. search needs) (λ c. search needs)  -- same-length-5, same-length-6

@@ -30,7 +30,7 @@ returns c =
     let after-drop : tie.After-drop-stale-either = search back in
     let start : tie.Start = search back in
     let pre = start .pre in
-    kept-is base _ _ _ _ _ _ _ _ _ (pre .4) (pre .2 .ends) _ _ _ (after-drop .drop-stale-either .ensures) _ (after-is-kept .is-kept .ensures)
+    kept-is base _ _ _ _ _ _ _ _ _ _ (pre .6) (pre .2 .ends) _ _ _ (after-drop .drop-stale-either .ensures) _ (after-is-kept .is-kept .ensures)
     (then1 .if1 .taken) _ (after-mark-both .mark-both .ensures)
 
 shrink-requires : tie.Need-shrink-requires
@@ -52,6 +52,8 @@ shrink-requires c κs =
       pre .4,
       pre .5,
       pre .6,
+      pre .7,
+      pre .8,
     )
 
 returns-2 : tie.Need-returns-2
@@ -62,7 +64,7 @@ returns-2 c =
     let after-drop : tie.After-drop-stale-either = search back in
     let start : tie.Start = search back in
     let pre = start .pre in
-    shrank-is base _ _ _ _ _ _ _ _ _ (pre .4) (pre .2 .ends) _ _ _ (after-drop .drop-stale-either .ensures) _ (after-is-kept .is-kept .ensures)
+    shrank-is base _ _ _ _ _ _ _ _ _ _ (pre .6) (pre .2 .ends) _ _ _ (after-drop .drop-stale-either .ensures) _ (after-is-kept .is-kept .ensures)
     (else1 .if1 .left) _ (after-shrink .shrink .ensures)
 
 pub settle-spec : {M : Type 1} → statement M
@@ -74,5 +76,5 @@ settle-spec =
     returns
     shrink-requires
     (λ c. search needs) (λ c. search needs) (λ c. search needs) (λ c. search needs)  -- same-length-5, same-length-6, same-length-7, same-length-8
-    (λ c. search needs) (λ c. search needs)  -- same-length-9, same-length-10
+    (λ c. search needs) (λ c. search needs) (λ c. search needs)  -- same-length-9, same-length-10, same-length-11
     returns-2)

@@ -31,13 +31,15 @@ take-both-requires c κs =
         skipPlaces = pre .0 .skips;
         rankPlaces = omega (arith, slice-aggregate-take-both c);
       },
-      pre .1,
+      pre .1 .memberRow,
       pre .0 .links,
       pre .0 .pairs,
       pre .2,
-      record { hops = pre .0 .hops; even = pre .0 .even; odd = pre .0 .odd },
+      pre .0 .hops,
+      pre .3,
       pre .4,
-      pre .5,
+      pre .6,
+      pre .7,
     )
 
 slice-aggregate-run-rounds-3 : tie.Need-slice-aggregate-run-rounds-3
@@ -85,7 +87,7 @@ returns c =
     let after-run-rounds : tie.After-run-rounds = search back in
     let after-take-both : tie.After-take-both = search back in
     let start : tie.Start = search back in
-    shrink-is base base-shape _ _ _ _ _ _ _ _ _ _ (start .pre .3) (omega (arith, start .fits .way .fits)) _ _ _
+    shrink-is base base-shape _ _ _ (start .pre .1) _ _ _ _ _ _ _ _ (start .pre .5) (omega (arith, start .fits .way .fits)) _ _ _
     (after-take-both .take-both .ensures .0) _ (after-take-both .take-both .ensures .3) _ _ _ _ _ (after-run-rounds .run-rounds .ensures)
 
 pub shrink-spec : {M : Type 1} → statement M
@@ -101,5 +103,5 @@ shrink-spec =
     (λ c. search needs)  -- same-length-2
     same-length-3
     same-length-4
-    (λ c. search needs) (λ c. search needs)  -- same-length-5, same-length-6
+    (λ c. search needs) (λ c. search needs) (λ c. search needs)  -- same-length-5, same-length-6, same-length-7
     returns)

@@ -32,10 +32,9 @@ absorb-requires c κs =
         skipPlaces = omega (arith, pre .0 .skipPlaces, after-take-low .take-low .kept);
         rankPlaces = omega (arith, pre .0 .rankPlaces, after-take-low .take-low .kept);
       },
-      pre .5 .hops,
-      pre .5 .even,
-      pre .5 .odd,
+      pre .5,
       pre .7,
+      pre .9,
     )
 
 returns : tie.Need-returns

@@ -30,7 +30,6 @@ absorb-requires c κs =
       search needs,
       search needs,
       search needs,
-      search needs,
     )
 
 returns : tie.Need-returns

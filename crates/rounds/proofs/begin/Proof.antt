@@ -10,7 +10,7 @@ pub begin-spec : {M : Type 1} → statement M
 begin-spec =
     tie.close
     (tie.spec
-    (λ c. search needs) (λ c. search needs) (λ c. search needs)  -- clear-table-requires, mul-fill, fill-requires
-    (λ c. search needs) (λ c. search needs) (λ c. search needs)  -- mul-fill-2, fill-requires-2, rank-all-requires
-    (λ c. search needs) (λ c. search needs) (λ c. search needs) (λ c. search needs)  -- same-length, same-length-2, same-length-3, same-length-4
+    (λ c. search needs) (λ c. search needs) (λ c. search needs) (λ c. search needs)  -- clear-table-requires, mul-fill, fill-requires, mul-fill-2
+    (λ c. search needs) (λ c. search needs) (λ c. search needs) (λ c. search needs)  -- fill-requires-2, rank-all-requires, same-length, same-length-2
+    (λ c. search needs) (λ c. search needs)  -- same-length-3, same-length-4
     (λ c. search (begin-is, ranked-row, ranked-all)))  -- returns

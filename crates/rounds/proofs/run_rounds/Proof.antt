@@ -20,8 +20,9 @@ use Rattle.rounds.proofs.run_rounds.Statement.{statement}
 use Rattle.rounds.proofs.run_rounds.Tie as tie
 
 abbrev Inv-loop : tie.InvT-loop
-Inv-loop links pairs₀ hops₀ bounds₀ skips₀ even₀ odd₀ seen₀ next₀ ranks₀ words mark now₀ pairs hops bounds skips even odd seen next ranks now =
-    AtRound words links mark
+Inv-loop targets links pairs₀ hops₀ bounds₀ skips₀ even₀ odd₀ seen₀ next₀ partners₀ ranks₀ words mark now₀ pairs hops bounds skips even odd
+    seen next partners ranks now =
+    AtRound words targets links mark
     (workspace (tally pairs₀ (now₀ .count)) (tables hops₀ even₀ odd₀) (marks bounds₀ skips₀ (waitingOf words ranks₀)) (now₀ .candidate) (now₀ .searches))
     (workspace (tally pairs (now .count)) (tables hops even odd) (marks bounds skips (waitingOf words ranks)) (now .candidate) (now .searches))
     × ((length hops ≡ length hops₀)
@@ -29,6 +30,7 @@ Inv-loop links pairs₀ hops₀ bounds₀ skips₀ even₀ odd₀ seen₀ next�
     × (length odd ≡ length odd₀)
     × (length seen ≡ length seen₀)
     × (length next ≡ length next₀)
+    × (length partners ≡ length partners₀)
     × (length pairs ≡ length pairs₀)
     × (length bounds ≡ length bounds₀)
     × (length skips ≡ length skips₀)
@@ -36,7 +38,8 @@ Inv-loop links pairs₀ hops₀ bounds₀ skips₀ even₀ odd₀ seen₀ next�
     × AreRanks words links ranks
 
 abbrev μ-loop : tie.MeasureT-loop
-μ-loop links pairs₀ hops₀ bounds₀ skips₀ even₀ odd₀ seen₀ next₀ ranks₀ words mark now₀ pairs hops bounds skips even odd seen next ranks now =
+μ-loop targets links pairs₀ hops₀ bounds₀ skips₀ even₀ odd₀ seen₀ next₀ partners₀ ranks₀ words mark now₀ pairs hops bounds skips even odd
+    seen next partners ranks now =
     countb (rowBit words (waitingOf words ranks)) (range (64 * words))
 
 -- the depot picked
@@ -56,7 +59,7 @@ returns : tie.Need-returns Inv-loop μ-loop
 returns c =
     let after-pick-next : tie.After-pick-next Inv-loop μ-loop = search in
     let at-loop : tie.At-loop Inv-loop μ-loop = search in
-    going-end _ _ _ _ _ (at-loop .loop .inv .0 .going)
+    going-end _ _ _ _ _ _ (at-loop .loop .inv .0 .going)
     (ranked-none _ _ _ (at-loop .loop .inv .2) (subst (PickIs _ _) (c .enum-told .given .1) (after-pick-next .pick-next .ensures)))
 
 round-requires : tie.Need-round-requires Inv-loop μ-loop
@@ -69,14 +72,14 @@ round-requires c κs =
       search needs,
       search needs,
       p .0,
-      room-left _ _ _ _ _ _ (at-loop .loop .inv .0) (start .pre .4) (picked after-known-told) (waiting-fits _ _),
+      room-left _ _ _ _ _ _ _ (at-loop .loop .inv .0) (start .pre .4) (picked after-known-told) (waiting-fits _ _),
     )
 
 loop-less : tie.Need-loop-less Inv-loop μ-loop
 loop-less c =
     let after-round : tie.After-round Inv-loop μ-loop = search in
     let after-known-told : tie.After-known-told Inv-loop μ-loop = search in
-    fewer-remain _ _ _ _ _ _ _ _ _ _ (picked after-known-told) (waiting-fits _ _) (after-round .round .ensures .0)
+    fewer-remain _ _ _ _ _ _ _ _ _ _ _ (picked after-known-told) (waiting-fits _ _) (after-round .round .ensures .0)
 
 loop-again : tie.Need-loop-again Inv-loop μ-loop
 loop-again c =
@@ -84,7 +87,7 @@ loop-again c =
     let after-known-told : tie.After-known-told Inv-loop μ-loop = search in
     let at-loop : tie.At-loop Inv-loop μ-loop = search in
     let v = at-loop .loop .inv in (
-      at-next _ _ _ _ _ _ _ _ _ _ _ _ (v .0) (picked after-known-told) (waiting-fits _ _) (after-round .round .ensures .0),
+      at-next _ _ _ _ _ _ _ _ _ _ _ _ _ (v .0) (picked after-known-told) (waiting-fits _ _) (after-round .round .ensures .0),
       omega (arith, after-round .round .kept, v .1),
       search (thinned-ranks, needs),
     )
@@ -99,6 +102,7 @@ run-rounds-spec =
     (λ c. search needs) (λ c. search needs) (λ c. search needs) (λ c. search needs)  -- pick-next-requires, enum-known-found, enum-told, same-length
     (λ c. search needs) (λ c. search needs) (λ c. search needs) (λ c. search needs)  -- same-length-2, same-length-3, same-length-4, same-length-5
     (λ c. search needs) (λ c. search needs) (λ c. search needs) (λ c. search needs)  -- same-length-6, same-length-7, same-length-8, same-length-9
+    (λ c. search needs)  -- same-length-10
     returns
     round-requires
     loop-less
