@@ -9,7 +9,7 @@ use Rattle.lists.specs.Lists.{firstOf}
 use Rattle.rows.specs.Rows.{rowBit, tableBit}
 use Rattle.graph.specs.Network.{Network}
 use Rattle.graph.specs.Linking.{addLink, linkFaults}
-use Rattle.map.specs.Memory.{networkOf}
+use Rattle.map.specs.Memory.{networkOf, yardNetwork}
 
 module _ (W : ℕ) (members links : List ℕ) (a b : ℕ) where
   abbrev G : Network
@@ -35,7 +35,15 @@ module _ (W : ℕ) (members links : List ℕ) (a b : ℕ) where
   unfolding linkFaults firstOf networkOf
   refused-neither p q n h = rw (p, q, ne-eqb a b n, h)
 
+-- ---- what a caller has
+
+module _ (W : ℕ) (members yards links : List ℕ) (a b : ℕ) where
+  -- `link_refusal` is lent no yards, and its answer is that of the map with any
+  pub link-faults-any : linkFaults (networkOf W members links) a b ≡ linkFaults (yardNetwork W members yards links) a b
+  unfolding linkFaults networkOf
+  link-faults-any = refl
+
   -- what `link_codes` encodes is the links of the network with the link
-  pub link-is : addLink G a b .linked ≡ (λ u v. (eqb u a && eqb v b) || (eqb v a && eqb u b) || tableBit W links u v)
+  pub link-is : addLink (yardNetwork W members yards links) a b .linked ≡ (λ u v. (eqb u a && eqb v b) || (eqb v a && eqb u b) || tableBit W links u v)
   unfolding addLink networkOf
   link-is = refl

@@ -11,7 +11,7 @@ use Rattle.lists.specs.Lists.{range, filterb, anyb, allb, firstOf}
 use Rattle.rows.specs.Rows.{rowBit}
 use Rattle.graph.specs.Network.{Network}
 use Rattle.graph.specs.Distance.{vertices}
-use Rattle.graph.specs.Opening.{Notice, strictlyRising, isEmpty, noticeFaults, openFaults}
+use Rattle.graph.specs.Opening.{Notice, noticeOf, strictlyRising, isEmpty, noticeFaults, openFaults}
 use Rattle.map.specs.Memory.{networkOf}
 
 -- ---- refusal 6, by the two tests of `is_lonely`
@@ -52,7 +52,7 @@ module _ (W : ℕ) (members : List ℕ) (code : ℕ) (ns : List ℕ) where
   G = networkOf W members []
 
   abbrev O : Notice
-  O = record { code = code; neighbours = ns }
+  O = noticeOf false code ns
 
   pub refused-taken : rowBit W members code ≡ true → 5 ≡ firstOf (openFaults G O)
   unfolding openFaults noticeFaults firstOf networkOf

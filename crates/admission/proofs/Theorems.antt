@@ -1,4 +1,4 @@
--- WHAT A CALLER HAS: the refusals 5 to 8 do not look at links, and the linked table is the network with the new depot. Assumes nothing.
+-- WHAT A CALLER HAS: the refusals 5 to 8 look neither at links nor at yards, and the linked table is the network with the new depot. Assumes nothing.
 use mathlib.Core.Path.{_≡_, refl, sym, ap, _∙_, fun-ext}
 use mathlib.Core.Logic.{_⊎_, inl, inr}
 use mathlib.Core.Bool.{Bool, true, false, _&&_, _||_}
@@ -11,23 +11,24 @@ use borrow.Author.Tests.{eqb-true}
 use Rattle.lists.specs.Lists.{range, filterb, anyb, memb, insertBy, overwrite}
 use Rattle.lists.proofs.Tests.{t→true, true→t, clash, and-true, or-true}
 use Rattle.lists.proofs.Distinct.{insert-filter}
-use Rattle.graph.specs.Opening.{Notice, openFaults, byCode, withDepot}
+use Rattle.graph.specs.Opening.{noticeOf, openFaults, byCode, withDepot}
 use Rattle.rows.specs.Rows.{rowBit, tableBit, encodeTable}
 use Rattle.rows.proofs.Written.{table-within}
-use Rattle.map.specs.Memory.{networkOf}
+use Rattle.map.specs.Memory.{networkOf, yardNetwork}
 use Rattle.map.proofs.Theorems.{network-linked-below}
 
--- `notice_refusal` is lent no links, and its answer is that of the map with any
-pub faults-any-links : (W : ℕ) (members l k : List ℕ) (o : Notice) → openFaults (networkOf W members l) o ≡ openFaults (networkOf W members k) o
+-- `notice_refusal` is lent no links and no yards, and is not told whether a yard is to open: its answer is that of the map with any, for either
+pub faults-any : (W : ℕ) (members yards links : List ℕ) (y : Bool) (code : ℕ) (ns : List ℕ)
+    → openFaults (networkOf W members []) (noticeOf false code ns) ≡ openFaults (yardNetwork W members yards links) (noticeOf y code ns)
 unfolding openFaults networkOf
-faults-any-links W members l k o = refl
+faults-any W members yards links y code ns = refl
 
 -- what `link_depot` encodes is the links of the network with the new depot
-pub linked-is : (W : ℕ) (members links : List ℕ) (code : ℕ) (ns : List ℕ)
-    → withDepot (networkOf W members links) (record { code = code; neighbours = ns }) .linked
+pub linked-is : (W : ℕ) (members yards links : List ℕ) (y : Bool) (code : ℕ) (ns : List ℕ)
+    → withDepot (yardNetwork W members yards links) (noticeOf y code ns) .linked
     ≡ (λ u v. (eqb u code && memb v ns) || (eqb v code && memb u ns) || tableBit W links u v)
 unfolding withDepot networkOf
-linked-is W members links code ns = refl
+linked-is W members yards links y code ns = refl
 
 -- ---- the network after an opening
 
@@ -60,12 +61,15 @@ module _ (W code : ℕ) (ns : List ℕ) (low : code < 64 * W) (lows : (k : ℕ) 
       go (inl e) = new (or-true (eqb u code && memb v ns) (eqb v code && memb u ns) e)
       go (inr e) = network-linked-below W [] links u v (true→t e)
 
-  -- THE NEW NETWORK: an open set with the code put, and the table that `link_depot` leaves
-  pub linked-after : (members after links left : List ℕ) → rowBit W members code ≡ false → ((v : ℕ) → rowBit W after v ≡ (eqb v code || rowBit W members v))
+  -- THE NEW NETWORK: an open set with the code put, a yard set with it too where a yard opens, and the table that `link_depot` leaves
+  pub linked-after : (members after yards marked links left : List ℕ) (y : Bool) → rowBit W members code ≡ false
+      → ((v : ℕ) → rowBit W after v ≡ (eqb v code || rowBit W members v))
+      → ((v : ℕ) → rowBit W marked v ≡ ((y && eqb v code) || rowBit W yards v))
       → left ≡ overwrite (encodeTable W (λ u v. (eqb u code && memb v ns) || (eqb v code && memb u ns) || tableBit W links u v)) links
-      → networkOf W after left ≡ withDepot (networkOf W members links) (record { code = code; neighbours = ns })
+      → yardNetwork W after marked left ≡ withDepot (yardNetwork W members yards links) (noticeOf y code ns)
   unfolding withDepot networkOf
-  linked-after members after links left new h e = λ i. record { depots = listed i; isOpen = λ c. h c i; linked = joined i }
+  linked-after members after yards marked links left y new h m e =
+      λ i. record { depots = listed i; isOpen = λ c. h c i; isYard = λ c. m c i; linked = joined i }
     where
       listed : filterb (rowBit W after) (range (64 * W)) ≡ insertBy byCode code (filterb (rowBit W members) (range (64 * W)))
       listed = ap (λ (p : ℕ → Bool). filterb p (range (64 * W))) (fun-ext h) ∙ sym (insert-filter (rowBit W members) code new (64 * W) (omega arith))

@@ -2,13 +2,13 @@
 // link. A row of words may be longer than a map's, up to 512: a code is a byte, and so stands in a row.
 ghost use mathlib.Core.List.{[]};
 ghost use mathlib.Core.Path.{_≡_};
-ghost use mathlib.Core.Bool.{_&&_, _||_};
+ghost use mathlib.Core.Bool.{false, _&&_, _||_};
 ghost use Prim.Native.Nat.{_*_, _<_, _≤_};
 ghost use lib.Dec.{eqb, ltb};
 ghost use lib.ListN.{length};
 ghost use Rattle.lists.specs.Lists.{allb, memb, overwrite, firstOf};
 ghost use Rattle.graph.specs.Distance.{vertices};
-ghost use Rattle.graph.specs.Opening.{strictlyRising, isEmpty, openFaults};
+ghost use Rattle.graph.specs.Opening.{noticeOf, strictlyRising, isEmpty, openFaults};
 ghost use Rattle.graph.specs.Linking.{linkFaults};
 ghost use Rattle.rows.specs.Rows.{rowBit, tableBit, encodeTable};
 ghost use Rattle.map.specs.Memory.{base, networkOf};
@@ -56,10 +56,11 @@ fn all_open(members: &[u64], words: usize, neighbours: &[u8]) -> bool
     true
 }
 
-// The first of the refusals 5 to 8 that holds, 0 for none. They ask only which codes are open, so no link is lent.
+// The first of the refusals 5 to 8 that holds, 0 for none. They ask only which codes are open, so no link is lent; nor do they ask whether the notice
+// or any open depot is a yard (`faults-any`, proofs/Theorems).
 pub fn notice_refusal(members: &[u64], words: usize, code: u8, neighbours: &[u8]) -> u8
     requires { ⌜ (base .words ≤ words) × (words < 513) × (words ≤ length (now members)) ⌝ }
-    ensures { λ r. ⌜ r ≡ firstOf (openFaults (networkOf words (now (members .entry)) []) (record { code = code; neighbours = now (neighbours .entry) })) ⌝ }
+    ensures { λ r. ⌜ r ≡ firstOf (openFaults (networkOf words (now (members .entry)) []) (noticeOf false code (now (neighbours .entry)))) ⌝ }
 {
     if map::is_open(members, words, code as usize) {
         return outcome::TAKEN;

@@ -16,11 +16,11 @@ use Rattle.lists.proofs.Members.{filter-ext, filter-all, filter-twice}
 use Rattle.lists.proofs.Scans.{all-at}
 use Rattle.words.specs.Bits.{bit, wordOf}
 use Rattle.words.proofs.Bits.{bit-of-zero, bit-wordOf}
-use Rattle.graph.specs.Opening.{Notice}
+use Rattle.graph.specs.Opening.{Notice, noticeOf}
 use Rattle.graph.specs.Updates.{opens, joins}
 use Rattle.graph.specs.Batch.{Entry, entryOf, without, numbersOf, AreNumbered}
 use Rattle.hexadecimal.specs.Hex.{isByte}
-use Rattle.notice.specs.Lines.{openingKind, Line, garbled, frame, linesOf, readLine}
+use Rattle.notice.specs.Lines.{yardKind, opensDepot, Line, garbled, frame, linesOf, readLine}
 use Rattle.notice.proofs.Tests.{frame-parts}
 use Rattle.notice.proofs.Theorems.{read-frame}
 use Rattle.transcript.specs.Transcript.{updateIn}
@@ -85,9 +85,10 @@ entries-apart input = entries-numbered 0 (linesOf input)
 notice-code : (l : Line) → ((f : List ℕ) (u : ℕ) → l ≡ frame f u → getD f 1 0 < 256) → (o : Notice) → noticeIn l ≡ some o → o .code < 256
 unfolding noticeIn openingIn updateIn
 notice-code garbled byte o q = let z : _≡_ {A = ℕ} 0 1 = cc in absurd (lt-irrefl 0 (omega arith))
-notice-code (frame f u) byte o q = go (eqb (getD f 0 0) openingKind) q
+notice-code (frame f u) byte o q = go (opensDepot (getD f 0 0)) q
   where
-    go : (b : Bool) → openingIn (cond b (opens (record { code = getD f 1 0; neighbours = drop 3 f })) (joins (getD f 1 0) (getD f 2 0))) ≡ some o → o .code < 256
+    go : (b : Bool) → openingIn (cond b (opens (noticeOf (eqb (getD f 0 0) yardKind) (getD f 1 0) (drop 3 f))) (joins (getD f 1 0) (getD f 2 0))) ≡ some o
+        → o .code < 256
     go true p = let s : getD f 1 0 ≡ o .code = cc in omega (arith, s, byte f u refl)
     go false p = let z : _≡_ {A = ℕ} 0 1 = cc in absurd (lt-irrefl 0 (omega arith))
 

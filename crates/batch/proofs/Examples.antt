@@ -1,5 +1,6 @@
 -- Batches read, computed: what refuses them, in its order, and their entries. Assumes nothing.
 use mathlib.Core.Path.{_≡_, refl}
+use mathlib.Core.Bool.{true, false}
 use mathlib.Core.List.{List, [], _∷_, _++_}
 use Prim.Native.Nat.{ℕ}
 use Rattle.lists.specs.Lists.{range, mapl, allb, firstOf}
@@ -31,7 +32,12 @@ pub none-read : firstOf (batchFaults 0 []) ∷ firstOf (batchFaults 1 []) ∷ []
 unfolding batchFaults firstOf
 none-read = refl
 
--- 9 beside 5, and 5 beside 0
-pub two-read : entriesOf (bytesIn "01090105\n01050100\n") ≡ entryOf 0 (noticeOf 9 (5 ∷ [])) ∷ entryOf 1 (noticeOf 5 (0 ∷ [])) ∷ []
+-- a yard's line opens something, and a link's does not: it is garbled here
+pub kinds-read : firstOf (batchFaults 1 (bytesIn "04010100\n")) ∷ firstOf (batchFaults 1 (bytesIn "04010100\n020001\n")) ∷ [] ≡ 0 ∷ 9 ∷ []
+unfolding batchFaults firstOf bytesIn readHead spellsFrame isFrame bytesOf endOf isDigit digitValue allb
+kinds-read = refl
+
+-- 9 beside 5, and the yard 5 beside 0
+pub two-read : entriesOf (bytesIn "01090105\n04050100\n") ≡ entryOf 0 (noticeOf false 9 (5 ∷ [])) ∷ entryOf 1 (noticeOf true 5 (0 ∷ [])) ∷ []
 unfolding entriesOf bytesIn readHead spellsFrame isFrame bytesOf endOf isDigit digitValue allb
 two-read = refl

@@ -16,9 +16,8 @@ use Rattle.graph.specs.Batch.{entryOf}
 use Rattle.hexadecimal.specs.Hex.{isDigit, digitsOf}
 use Rattle.hexadecimal.proofs.Digits.{digit-no-end}
 use Rattle.hexadecimal.proofs.Spelling.{all-digits}
-use Rattle.notice.specs.Lines.{openingKind, lineEnd, lineOf, Line, garbled, frame, readLine, onto, linesOf}
+use Rattle.notice.specs.Lines.{yardKind, opensDepot, lineEnd, lineOf, Line, garbled, frame, readLine, onto, linesOf}
 use Rattle.notice.proofs.Readings.{behind, FrameStands}
-use borrow.Author.Tests.{eq-eqb, ne-eqb}
 use Rattle.notice.proofs.Theorems.{written-reads, read-written, read-used, read-frame}
 use Rattle.transcript.specs.Transcript.{updateIn}
 use Rattle.batch.specs.Lines.{openingIn, noticeIn, isSome, isOpening, entryBefore, entriesFrom}
@@ -110,12 +109,12 @@ pub record AreRead (s : List ℕ) (at : ℕ) : Type 0 where
 pub read-none : (s : List ℕ) → AreRead s 0
 read-none s = record { within = omega arith; same = refl }
 
-pub all-reads : (s f : List ℕ) (u : ℕ) → LineReads s f u → eqb (getD f 0 0) openingKind ≡ true → allb isOpening (linesOf s) ≡ allb isOpening (linesOf (drop u s))
+pub all-reads : (s f : List ℕ) (u : ℕ) → LineReads s f u → opensDepot (getD f 0 0) ≡ true → allb isOpening (linesOf s) ≡ allb isOpening (linesOf (drop u s))
 unfolding allb isOpening noticeIn openingIn updateIn isSome
 all-reads s f u r k = rw (r .lines, r .reads, k)
 
 -- a frame of another kind opens nothing
-pub all-other : (s f : List ℕ) (u : ℕ) → LineReads s f u → eqb (getD f 0 0) openingKind ≡ false → allb isOpening (linesOf s) ≡ false
+pub all-other : (s f : List ℕ) (u : ℕ) → LineReads s f u → opensDepot (getD f 0 0) ≡ false → allb isOpening (linesOf s) ≡ false
 unfolding allb isOpening noticeIn openingIn updateIn isSome
 all-other s f u r k = rw (r .lines, r .reads, k)
 
@@ -136,9 +135,9 @@ read-more {s} {at} {u} is e some-used = go (readLine t) refl
 
     go : (l : Line) → readLine t ≡ l → (0 < u) × AreRead s (at + u)
     go garbled q = absurd (some-used (e ∙ ap openingLength q))
-    go (frame f v) q = by (eqb (getD f 0 0) openingKind) refl
+    go (frame f v) q = by (opensDepot (getD f 0 0)) refl
       where
-        by : (b : Bool) → eqb (getD f 0 0) openingKind ≡ b → (0 < u) × AreRead s (at + u)
+        by : (b : Bool) → opensDepot (getD f 0 0) ≡ b → (0 < u) × AreRead s (at + u)
         by false k = absurd (some-used (e ∙ ap openingLength q ∙ ap (λ (b : Bool). cond b v 0) k))
         by true k =
             let r = line-reads t f v q in
@@ -164,9 +163,9 @@ read-fails {s} {at} {u} is l e z = go (readLine t) refl
 
     go : (x : Line) → readLine t ≡ x → false ≡ allb isOpening (linesOf s)
     go garbled q = sym (is .same ∙ ap (λ (x : List ℕ). allb isOpening (linesOf x)) (sym part) ∙ all-fails-here t (omega (arith, ap length part, length-drop at s)) q)
-    go (frame f v) q = by (eqb (getD f 0 0) openingKind) refl
+    go (frame f v) q = by (opensDepot (getD f 0 0)) refl
       where
-        by : (b : Bool) → eqb (getD f 0 0) openingKind ≡ b → false ≡ allb isOpening (linesOf s)
+        by : (b : Bool) → opensDepot (getD f 0 0) ≡ b → false ≡ allb isOpening (linesOf s)
         by true k = let r = line-reads t f v q in absurd (omega (arith, r .some-used, e ∙ ap openingLength q ∙ ap (λ (b : Bool). cond b v 0) k))
         by false k = sym (is .same ∙ ap (λ (x : List ℕ). allb isOpening (linesOf x)) (sym part) ∙ all-other t f v (line-reads t f v q) k)
 
@@ -176,17 +175,20 @@ read-all {s} is l = sym (is .same ∙ ap (λ (x : List ℕ). allb isOpening (lin
 
 -- what the code finds by the frame that it has read
 
-pub opening-length : (text : List ℕ) {after : List ℕ} {n u : ℕ} → ((f : List ℕ) × (readLine text ≡ frame f u) × FrameStands f n after) → getD after 0 0 ≡ openingKind → u ≡ openingLength (readLine text)
-unfolding openingLength
-opening-length text {u = u} x k = sym (ap openingLength (x .1) ∙ ap (λ (b : Bool). cond b u 0) (eq-eqb (getD (x .0) 0 0) openingKind (sym (x .2 .kind) ∙ k)))
+module _ (text : List ℕ) {after : List ℕ} {n u : ℕ} (x : (f : List ℕ) × (readLine text ≡ frame f u) × FrameStands f n after) where
+  length-by : {b : Bool} → opensDepot (getD after 0 0) ≡ b → cond b u 0 ≡ openingLength (readLine text)
+  unfolding openingLength
+  length-by e = sym (ap openingLength (x .1) ∙ ap (λ (t : Bool). cond t u 0) (sym (ap opensDepot (x .2 .kind)) ∙ e))
 
-pub other-length : (text : List ℕ) {after : List ℕ} {n u : ℕ} → ((f : List ℕ) × (readLine text ≡ frame f u) × FrameStands f n after) → (getD after 0 0 ≡ openingKind → ⊥) → 0 ≡ openingLength (readLine text)
-unfolding openingLength
-other-length text {u = u} x k = sym (ap openingLength (x .1) ∙ ap (λ (b : Bool). cond b u 0) (ne-eqb (getD (x .0) 0 0) openingKind (λ e. k (x .2 .kind ∙ e))))
+  pub opening-length : opensDepot (getD after 0 0) ≡ true → u ≡ openingLength (readLine text)
+  opening-length e = length-by e
+
+  pub other-length : opensDepot (getD after 0 0) ≡ false → 0 ≡ openingLength (readLine text)
+  other-length e = length-by e
 
 -- ---- the entries of a line and of those behind it
 
-pub entries-reads : (n : ℕ) (s f : List ℕ) (u : ℕ) → LineReads s f u → eqb (getD f 0 0) openingKind ≡ true
-    → entriesFrom n (linesOf s) ≡ entryOf n (noticeOf (getD f 1 0) (drop 3 f)) ∷ entriesFrom (suc n) (linesOf (drop u s))
+pub entries-reads : (n : ℕ) (s f : List ℕ) (u : ℕ) → LineReads s f u → opensDepot (getD f 0 0) ≡ true
+    → entriesFrom n (linesOf s) ≡ entryOf n (noticeOf (eqb (getD f 0 0) yardKind) (getD f 1 0) (drop 3 f)) ∷ entriesFrom (suc n) (linesOf (drop u s))
 unfolding entriesFrom noticeIn openingIn updateIn entryBefore
 entries-reads n s f u r k = rw (r .lines, r .reads, k)

@@ -20,10 +20,10 @@ use Rattle.graph.specs.Network.{Network}
 use Rattle.graph.specs.Opening.{Notice, noticeOf, openFaults}
 use Rattle.graph.specs.Updates.{updateFaults}
 use Rattle.graph.specs.Batch.{Entry, accepts, firstFit}
-use Rattle.notice.specs.Lines.{openingKind, garbled, frame, linesOf, readLine}
+use Rattle.notice.specs.Lines.{opensDepot, garbled, frame, linesOf, readLine}
 use Rattle.notice.proofs.Readings.{behind, FrameStands}
 use Rattle.batch.specs.Lines.{isOpening, entriesFrom, entriesOf}
-use Rattle.batch.specs.Steps.{waitingOf, fitOf, Leavings, leavings, leftNumbers, leftOver, putNumber}
+use Rattle.batch.specs.Steps.{waitingOf, noticeAt, fitOf, Leavings, leavings, leftNumbers, leftOver, putNumber}
 use Rattle.batch.specs.declared.Fit.the-variants.{Line as Found, Nothing}
 use Rattle.batch.proofs.Lines.{LineReads, line-reads, all-reads, all-other, all-fails-here, entries-reads}
 
@@ -40,20 +40,21 @@ fit-cons G taken e es = go (not (bit taken (e .number))) refl
     go true h = rw h
     go false h = rw h
 
-module _ (G : Network) (taken number : ℕ) (s f : List ℕ) (u : ℕ) {n : ℕ} {after : List ℕ} (r : LineReads s f u) (opens-one : eqb (getD f 0 0) openingKind ≡ true) (stands : FrameStands f n after) where
+module _ (G : Network) (taken number : ℕ) (s f : List ℕ) (u : ℕ) {n : ℕ} {after : List ℕ} (r : LineReads s f u)
+    (opens-one : opensDepot (getD f 0 0) ≡ true) (stands : FrameStands f n after) where
   fit-reads : firstFit G (waitingOf taken (entriesFrom number (linesOf s)))
-      ≡ cond (not (bit taken number) && accepts G (noticeOf (getD after 1 0) (take (n - 3) (drop 3 after)))) (fitOf (Found number n) after)
+      ≡ cond (not (bit taken number) && accepts G (noticeAt after n)) (fitOf (Found number n) after)
       (firstFit G (waitingOf taken (entriesFrom (suc number) (linesOf (drop u s)))))
   unfolding fitOf
-  fit-reads = rw (entries-reads number s f u r opens-one, stands .code, stands .neighbours) (fit-cons G taken _ _)
+  fit-reads = rw (entries-reads number s f u r opens-one, stands .kind, stands .code, stands .neighbours) (fit-cons G taken _ _)
 
   -- this line it is
-  pub scan-takes : {b : Bool} → b ≡ (not (bit taken number) && accepts G (noticeOf (getD after 1 0) (take (n - 3) (drop 3 after)))) → b ≡ true
+  pub scan-takes : {b : Bool} → b ≡ (not (bit taken number) && accepts G (noticeAt after n)) → b ≡ true
       → fitOf (Found number n) after ≡ firstFit G (waitingOf taken (entriesFrom number (linesOf s)))
   scan-takes e h = sym (fit-reads ∙ rw (← e, h))
 
   -- it is one of those behind it
-  pub scan-passes : {b : Bool} → b ≡ (not (bit taken number) && accepts G (noticeOf (getD after 1 0) (take (n - 3) (drop 3 after)))) → b ≡ false
+  pub scan-passes : {b : Bool} → b ≡ (not (bit taken number) && accepts G (noticeAt after n)) → b ≡ false
       → firstFit G (waitingOf taken (entriesFrom number (linesOf s))) ≡ firstFit G (waitingOf taken (entriesFrom (number + 1) (linesOf (drop u s))))
   scan-passes e h = fit-reads ∙ rw (← e, h, add-one number)
 
@@ -78,10 +79,10 @@ module _ {G : Network} {taken : ℕ} {s : List ℕ} {number at : ℕ} (is : IsSc
 
   module _ {f : List ℕ} {u : ℕ} (r : LineReads (drop at s) f u) where
     -- it opens something, as all do
-    opens-one : eqb (getD f 0 0) openingKind ≡ true
-    opens-one = go (eqb (getD f 0 0) openingKind) refl
+    opens-one : opensDepot (getD f 0 0) ≡ true
+    opens-one = go (opensDepot (getD f 0 0)) refl
       where
-        go : (b : Bool) → eqb (getD f 0 0) openingKind ≡ b → eqb (getD f 0 0) openingKind ≡ true
+        go : (b : Bool) → opensDepot (getD f 0 0) ≡ b → opensDepot (getD f 0 0) ≡ true
         go true k = k
         go false k = absurd (clash (is .opening) (all-other (drop at s) f u r k))
 
@@ -93,7 +94,7 @@ module _ {G : Network} {taken : ℕ} {s : List ℕ} {number at : ℕ} (is : IsSc
     scan-number = omega (arith, is .counted, ap length (r .lines))
 
     module _ {n : ℕ} {after : List ℕ} (stands : FrameStands f n after) {b : Bool}
-        (e : b ≡ (not (bit taken number) && accepts G (noticeOf (getD after 1 0) (take (n - 3) (drop 3 after))))) where
+        (e : b ≡ (not (bit taken number) && accepts G (noticeAt after n))) where
       pub scan-found : b ≡ true → fitOf (Found number n) after ≡ firstFit G (waitingOf taken (entriesOf s))
       scan-found h = scan-takes G taken number (drop at s) f u r opens-one stands e h ∙ sym (is .same)
 
@@ -116,9 +117,11 @@ module _ {G : Network} {taken : ℕ} {s : List ℕ} {number at : ℕ} (is : IsSc
 pub fits-taken : (G : Network) (taken number : ℕ) (o : Notice) {b : Bool} → b ≡ bit taken number → b ≡ true → false ≡ (not (bit taken number) && accepts G o)
 fits-taken G taken number o e h = rw (← e, h)
 
-pub fits-by : (G : Network) (taken number : ℕ) (o : Notice) {b : Bool} {k : ℕ} → b ≡ bit taken number → b ≡ false → k ≡ firstOf (openFaults G o)
+-- whether the notice is a yard's is not asked
+pub fits-by : (G : Network) (taken number : ℕ) (o : Notice) {b : Bool} {k : ℕ} → b ≡ bit taken number → b ≡ false
+    → k ≡ firstOf (openFaults G (noticeOf false (o .code) (o .neighbours)))
     → eqb k 0 ≡ (not (bit taken number) && accepts G o)
-unfolding accepts updateFaults
+unfolding accepts updateFaults openFaults
 fits-by G taken number o e h q = rw (← e, h, q)
 
 -- ---- the numbers left over

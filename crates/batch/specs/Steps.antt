@@ -7,9 +7,9 @@ use lib.Dec.{eqb}
 use lib.ListN.{length, getD, set, take, drop}
 use Rattle.lists.specs.Lists.{range, filterb, overwrite}
 use Rattle.words.specs.Bits.{bit}
-use Rattle.graph.specs.Opening.{noticeOf}
+use Rattle.graph.specs.Opening.{Notice, noticeOf}
 use Rattle.graph.specs.Batch.{Entry, entryOf}
-use Rattle.notice.specs.Lines.{openingKind, Line, garbled, frame}
+use Rattle.notice.specs.Lines.{yardKind, opensDepot, Line, garbled, frame}
 use Rattle.batch.specs.Lines.{batchLimit}
 use Rattle.batch.specs.declared.Fit.{Fit}
 use Rattle.batch.specs.declared.Fit.the-variants.{Line as Found, Nothing}
@@ -17,16 +17,20 @@ use Rattle.batch.specs.declared.Fit.the-variants.{Line as Found, Nothing
 -- the bytes of a line that opens something; 0: it is garbled here
 unfoldable pub openingLength : Line → ℕ
 openingLength garbled = 0
-openingLength (frame f used) = cond (eqb (getD f 0 0) openingKind) used 0
+openingLength (frame f used) = cond (opensDepot (getD f 0 0)) used 0
 
 -- the entries whose numbers are not in the word `taken`
 unfoldable pub waitingOf : ℕ → List Entry → List Entry
 waitingOf taken es = filterb (λ e. not (bit taken (e .number))) es
 
+-- the notice of the frame of n bytes, which opens something
+abbrev pub noticeAt : List ℕ → ℕ → Notice
+noticeAt bytes n = noticeOf (eqb (getD bytes 0 0) yardKind) (getD bytes 1 0) (take (n - 3) (drop 3 bytes))
+
 -- the entry that a scan found: its number, and its notice in the frame of n bytes
 unfoldable pub fitOf : Fit → List ℕ → Option Entry
 fitOf Nothing bytes = none
-fitOf (Found i n) bytes = some (entryOf i (noticeOf (getD bytes 1 0) (take (n - 3) (drop 3 bytes))))
+fitOf (Found i n) bytes = some (entryOf i (noticeAt bytes n))
 
 -- the number is that of a line, and the notice stands in a frame of m bytes
 abbrev pub FitsFrame : Fit → ℕ → Type 0

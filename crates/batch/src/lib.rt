@@ -3,18 +3,17 @@
 ghost use mathlib.Core.List.{[]};
 ghost use mathlib.Core.Path.{_≡_};
 ghost use mathlib.Core.Bool.{true, cond, not, _&&_};
-ghost use Prim.Native.Nat.{_-_, _≤_, _<_};
-ghost use lib.ListN.{length, getD, take, drop};
+ghost use Prim.Native.Nat.{_≤_, _<_};
+ghost use lib.ListN.{length};
 ghost use Rattle.lists.specs.Lists.{allb, firstOf};
 ghost use Rattle.graph.specs.Distance.{vertices};
-ghost use Rattle.graph.specs.Opening.{noticeOf};
 ghost use Rattle.graph.specs.Batch.{accepts, firstFit};
 ghost use Rattle.words.specs.Bits.{bit};
 ghost use Rattle.map.specs.Memory.{base, networkOf};
 ghost use Rattle.notice.specs.Lines.{linesOf, readLine};
 ghost use Rattle.notice.specs.Calls.{frameLimit};
 ghost use Rattle.batch.specs.Lines.{batchLimit, isOpening, entriesOf, batchFaults};
-ghost use Rattle.batch.specs.Steps.{openingLength, waitingOf, fitOf, FitsFrame, leavings, putNumber, leftNumbers, leftOver};
+ghost use Rattle.batch.specs.Steps.{openingLength, waitingOf, noticeAt, fitOf, FitsFrame, leavings, putNumber, leftNumbers, leftOver};
 use notice::Reading;
 
 // the most lines of a batch; in specifications `batchLimit`
@@ -61,7 +60,7 @@ fn opening_length(text: &[u8]) -> usize
     let got = notice::read_notice(&mut frame, text);
     match got {
         Reading::Frame(_, used) => {
-            if frame[0] != notice::OPENING {
+            if !notice::opens_depot(frame[0]) {
                 return 0;
             }
             used
@@ -108,8 +107,8 @@ pub fn lines_refusal(members: &[u64], words: usize, lines: &[u8]) -> u8
 fn fits(members: &[u64], frame: &[u8], words: usize, taken: u64, number: u8, n: usize) -> bool
     requires { ⌜ (base .words ≤ words) × (words < 513) × (words ≤ length (now members)) × (number < batchLimit) × (3 ≤ n) × (n ≤ length (now frame)) ⌝ }
     ensures { λ r.
-        let notice = noticeOf (getD (now (frame .entry)) 1 0) (take (n - 3) (drop 3 (now (frame .entry)))) in
-        ⌜ r ≡ (not (bit taken number) && accepts (networkOf words (now (members .entry)) []) notice) ⌝ }
+        let G = networkOf words (now (members .entry)) [] in
+        ⌜ r ≡ (not (bit taken number) && accepts G (noticeAt (now (frame .entry)) n)) ⌝ }
 {
     if words::test(taken, number as usize) {
         return false;

@@ -8,5 +8,5 @@ pub mod Answers
 pub mod Theorems
 -- What the reader's answer says of the line, for callers of the reader.
 pub mod Readings
--- The line of rule 7.2, computed.
+-- The lines of rule 7.2, and one that opens a yard, computed.
 pub mod Examples

@@ -10,7 +10,7 @@ use borrow.Author.Tests.{eq-eqb, ne-eqb, eqb-true, le-leb, lt-leb, leb-true}
 use Rattle.lists.proofs.Tests.{and-true}
 use Rattle.lists.specs.Lists.{allb}
 use Rattle.hexadecimal.specs.Hex.{isDigit, bytesOf}
-use Rattle.notice.specs.Lines.{openingKind, linkKind, frameLength, isFrame, spellsFrame}
+use Rattle.notice.specs.Lines.{openingKind, linkKind, yardKind, opensDepot, frameLength, isFrame, spellsFrame}
 use Rattle.hexadecimal.proofs.Spelling.{length-bytes}
 
 -- ---- a frame
@@ -28,36 +28,47 @@ pub frame-long : (f : List ℕ) {n k : ℕ} → 3 ≤ length f → n ≡ length 
 unfolding isFrame
 frame-long f h l e = rw (l, e, le-leb 3 (length f) h)
 
+-- ---- its kind
+
+pub opens-delivering : (kind : ℕ) → kind ≡ openingKind → true ≡ opensDepot kind
+unfolding opensDepot
+opens-delivering kind h = rw (eq-eqb kind openingKind h)
+
+pub opens-other : (kind : ℕ) → (kind ≡ openingKind → ⊥) → eqb kind yardKind ≡ opensDepot kind
+unfolding opensDepot
+opens-other kind n = rw (ne-eqb kind openingKind n)
+
 -- ---- how long it is
 
-pub length-opening : (kind third : ℕ) {r : ℕ} → kind ≡ openingKind → r ≡ 3 + third → r ≡ frameLength kind third
+pub length-opening : (kind third : ℕ) {b : Bool} {r : ℕ} → b ≡ opensDepot kind → b ≡ true → r ≡ 3 + third → r ≡ frameLength kind third
 unfolding frameLength
-length-opening kind third h e = rw (eq-eqb kind openingKind h) e
+length-opening kind third k h e = rw (← k, h) e
 
-pub length-link : (kind third : ℕ) → (kind ≡ openingKind → ⊥) → kind ≡ linkKind → 3 ≡ frameLength kind third
+pub length-link : (kind third : ℕ) {b : Bool} → b ≡ opensDepot kind → b ≡ false → kind ≡ linkKind → 3 ≡ frameLength kind third
 unfolding frameLength
-length-link kind third n h = rw (ne-eqb kind openingKind n, eq-eqb kind linkKind h)
+length-link kind third k n h = rw (← k, n, eq-eqb kind linkKind h)
 
-pub length-none : (kind third : ℕ) → (kind ≡ openingKind → ⊥) → (kind ≡ linkKind → ⊥) → 0 ≡ frameLength kind third
+pub length-none : (kind third : ℕ) {b : Bool} → b ≡ opensDepot kind → b ≡ false → (kind ≡ linkKind → ⊥) → 0 ≡ frameLength kind third
 unfolding frameLength
-length-none kind third n m = rw (ne-eqb kind openingKind n, ne-eqb kind linkKind m)
+length-none kind third k n m = rw (← k, n, ne-eqb kind linkKind m)
 
--- no kind is longer than the opening of so many neighbours, and only this one is
+-- no kind is longer than the opening of so many neighbours, and only an opening is
 pub length-most : (kind third : ℕ) → frameLength kind third ≤ 3 + third
 unfolding frameLength
-length-most kind third = go (eqb kind openingKind) (eqb kind linkKind)
+length-most kind third = go (opensDepot kind) (eqb kind linkKind)
   where
     go : (a b : Bool) → cond a (3 + third) (cond b 3 0) ≤ 3 + third
     go true b = omega arith
     go false true = omega arith
     go false false = omega arith
 
-pub length-only : (kind third : ℕ) → 3 < frameLength kind third → (kind ≡ openingKind) × (frameLength kind third ≡ 3 + third)
+pub length-only : (kind third : ℕ) → 3 < frameLength kind third → (opensDepot kind ≡ true) × (frameLength kind third ≡ 3 + third)
 unfolding frameLength
-length-only kind third l = go (eqb kind openingKind) refl (eqb kind linkKind) l
+length-only kind third l = go (opensDepot kind) refl (eqb kind linkKind) l
   where
-    go : (a : Bool) → eqb kind openingKind ≡ a → (b : Bool) → 3 < cond a (3 + third) (cond b 3 0) → (kind ≡ openingKind) × (cond a (3 + third) (cond b 3 0) ≡ 3 + third)
-    go true e b l = (eqb-true kind openingKind e, refl)
+    go : (a : Bool) → opensDepot kind ≡ a → (b : Bool) → 3 < cond a (3 + third) (cond b 3 0)
+        → (opensDepot kind ≡ true) × (cond a (3 + third) (cond b 3 0) ≡ 3 + third)
+    go true e b l = (e, refl)
     go false e true l = absurd (omega arith)
     go false e false l = absurd (omega arith)
 

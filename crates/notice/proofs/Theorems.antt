@@ -10,7 +10,7 @@ use lib.Seq.{append-snoc, take-append-seam, take-append-add, take-take, take-suc
 use borrow.Author.Tests.{ltb-true, lt-ltb, eq-eqb, le-ltb}
 use Rattle.lists.specs.Lists.{allb, overwrite}
 use Rattle.lists.proofs.Tests.{and-true, and-intro}
-use Rattle.notice.specs.Lines.{lineLimit, lineEnd, frameLength, isFrame, lineOf, endOf, spellsFrame, garbled, frame, readHead, readLine}
+use Rattle.notice.specs.Lines.{lineLimit, lineEnd, opensDepot, frameLength, isFrame, lineOf, endOf, spellsFrame, garbled, frame, readHead, readLine}
 use Rattle.hexadecimal.specs.Hex.{isByte, digitsOf, bytesOf}
 use Rattle.notice.specs.Calls.{frameLimit, lineDone, lineLeft, readInto, readCall, writeCall}
 use Rattle.notice.proofs.Tests.{length-opening, length-most, length-only, Spells, frame-parts, spells-parts}
@@ -32,11 +32,11 @@ third-below f h b = let p = frame-parts f h in ltb-true (getD f 2 0) 256 (all-at
 pub line-most : (f : List ℕ) → isFrame f ≡ true → allb isByte f ≡ true → length (lineOf f) ≤ lineLimit
 line-most f h b = let l = line-length f h in let c = third-below f h b in let m = length-most (getD f 0 0) (getD f 2 0) in omega arith
 
--- it has 517 exactly where the frame opens a depot with 255 neighbours
-pub line-longest : (f : List ℕ) → isFrame f ≡ true → getD f 0 0 ≡ 1 → getD f 2 0 ≡ 255 → length (lineOf f) ≡ lineLimit
-line-longest f h k e = let l = line-length f h in let m = length-opening (getD f 0 0) (getD f 2 0) k refl in omega arith
+-- it has 517 exactly where the frame opens a depot, one that delivers or a yard, with 255 neighbours
+pub line-longest : (f : List ℕ) → isFrame f ≡ true → opensDepot (getD f 0 0) ≡ true → getD f 2 0 ≡ 255 → length (lineOf f) ≡ lineLimit
+line-longest f h k e = let l = line-length f h in let m = length-opening (getD f 0 0) (getD f 2 0) refl k refl in omega arith
 
-pub line-longest-only : (f : List ℕ) → isFrame f ≡ true → length (lineOf f) ≡ lineLimit → (getD f 0 0 ≡ 1) × (getD f 2 0 ≡ 255)
+pub line-longest-only : (f : List ℕ) → isFrame f ≡ true → length (lineOf f) ≡ lineLimit → (opensDepot (getD f 0 0) ≡ true) × (getD f 2 0 ≡ 255)
 line-longest-only f h e =
     let l = line-length f h in
     let o = length-only (getD f 0 0) (getD f 2 0) (omega arith) in

@@ -1,5 +1,5 @@
 -- Notice lines (rules 7.1 and 7.2): frames, and the lines that spell them. Assumes nothing.
-use mathlib.Core.Bool.{Bool, cond, _&&_}
+use mathlib.Core.Bool.{Bool, cond, _&&_, _||_}
 use mathlib.Core.List.{List, [], _∷_, _++_}
 use Prim.Native.Nat.{ℕ, suc, _+_, _%_}
 use lib.Dec.{eqb, leb, ltb}
@@ -15,7 +15,7 @@ lineLimit = 517
 abbrev pub lineEnd : ℕ
 lineEnd = 10
 
--- THE KINDS OF FRAMES. One opens a depot: kind, code, number of neighbours, and that many neighbours
+-- THE KINDS OF FRAMES. One opens a depot that delivers: kind, code, number of neighbours, and that many neighbours
 abbrev pub openingKind : ℕ
 openingKind = 1
 
@@ -23,9 +23,18 @@ openingKind = 1
 abbrev pub linkKind : ℕ
 linkKind = 2
 
+-- one opens a yard, and is laid out as the first
+abbrev pub yardKind : ℕ
+yardKind = 4
+
+-- the kinds that open a depot, one that delivers or a yard
+unfoldable pub opensDepot : ℕ → Bool
+opensDepot kind = eqb kind openingKind || eqb kind yardKind
+
 -- how many bytes a frame of a kind has, by its third byte; 0 for a byte that is no kind
 unfoldable pub frameLength : ℕ → ℕ → ℕ
-frameLength kind third = cond (eqb kind openingKind) (3 + third) (cond (eqb kind linkKind) 3 0)
+unfolding opensDepot
+frameLength kind third = cond (opensDepot kind) (3 + third) (cond (eqb kind linkKind) 3 0)
 
 unfoldable pub isFrame : List ℕ → Bool
 unfolding frameLength

@@ -7,7 +7,7 @@ ghost use Prim.Native.Nat.{_<_};
 ghost use lib.ListN.{take};
 ghost use Rattle.lists.specs.Lists.{allb};
 ghost use Rattle.hexadecimal.specs.Hex.{isDigit};
-ghost use Rattle.notice.specs.Lines.{lineLimit, frameLength, isFrame, spellsFrame};
+ghost use Rattle.notice.specs.Lines.{lineLimit, opensDepot, frameLength, isFrame, spellsFrame};
 ghost use Rattle.notice.specs.Calls.{readingOf, writingOf, lineLeft, readCall, writeCall};
 
 // the most bytes that a frame has, and a line with its ending; in specifications `frameLimit`, `lineLimit`
@@ -15,10 +15,12 @@ pub const FRAME_LIMIT: usize = 258;
 
 pub const LINE_LIMIT: usize = 2 * FRAME_LIMIT + 1;
 
-// the kinds of frames; in specifications `openingKind`, `linkKind`
+// the kinds of frames; in specifications `openingKind`, `linkKind`, `yardKind`
 pub const OPENING: u8 = 1;
 
 pub const LINK: u8 = 2;
+
+pub const YARD: u8 = 4;
 
 // What the reader answers: the frame's length with the bytes used, or the number of the refusal.
 pub enum Reading {
@@ -83,11 +85,21 @@ fn first_part(input: &[u8]) -> &[u8]
     &input[..LINE_LIMIT]
 }
 
+// Whether frames of a kind open a depot, one that delivers or a yard.
+pub fn opens_depot(kind: u8) -> bool
+    ensures { λ r. ⌜ r ≡ opensDepot kind ⌝ }
+{
+    if kind == OPENING {
+        return true;
+    }
+    kind == YARD
+}
+
 // How many bytes a frame of a kind has, by its third byte; 0 for a byte that is no kind.
 fn frame_length(kind: u8, third: u8) -> usize
     ensures { λ r. ⌜ r ≡ frameLength kind third ⌝ }
 {
-    if kind == OPENING {
+    if opens_depot(kind) {
         return 3 + wide(third);
     }
     if kind == LINK {

@@ -10,13 +10,13 @@ use Rattle.lists.specs.Lists.{firstOf}
 use Rattle.graph.specs.Network.{Network}
 use Rattle.graph.specs.Distance.{vertices}
 use Rattle.graph.specs.Chart.{chart, diameter, farthest, countPairs}
-use Rattle.graph.specs.Opening.{emptyNetwork}
+use Rattle.graph.specs.Opening.{noticeOf, emptyNetwork}
 use Rattle.graph.specs.Updates.{Update, opens, joins, updateFaults, steps}
 use Rattle.outcome.specs.Numbers.{garbledLine}
 use Rattle.outcome.specs.declared.Outcome.{Outcome}
 use Rattle.outcome.specs.declared.Outcome.the-variants.{Refused}
 use Rattle.plain_list.specs.PlainList.{plainAnswer, plainNext}
-use Rattle.notice.specs.Lines.{openingKind, linesOf, Line, garbled, frame, readLine}
+use Rattle.notice.specs.Lines.{yardKind, opensDepot, linesOf, Line, garbled, frame, readLine}
 use Rattle.report.specs.Line.{reportLine}
 use Rattle.report.specs.declared.ReportFields.{ReportFields}
 
@@ -26,9 +26,13 @@ linesLimit = 1000000
 
 -- ---- a line's answer
 
--- the update that a frame asks for, by its kind: a code and, behind their number, its neighbours; or the link of two codes
+-- the update that a frame asks for, by its kind: the opening of a depot that delivers or of a yard, by its code and, behind their number, its
+-- neighbours; or the link of two codes
 unfoldable pub updateIn : List ℕ → Update
-updateIn f = cond (eqb (getD f 0 0) openingKind) (opens (record { code = getD f 1 0; neighbours = drop 3 f })) (joins (getD f 1 0) (getD f 2 0))
+unfolding opensDepot
+updateIn f =
+    let kind = getD f 0 0 in
+    cond (opensDepot kind) (opens (noticeOf (eqb kind yardKind) (getD f 1 0) (drop 3 f))) (joins (getD f 1 0) (getD f 2 0))
 
 -- what a line gives: its outcome, the network after it, and the searches of its call
 pub record Followed : Type 0 where
