@@ -4,7 +4,7 @@ which lends it. Each is a walk of the function's code, one rule of the program l
 
     tools/walks.py        in the repository's root; then `rt check lent_opening`
 
-The parameters are read from crates/lent_opening/src/lib.rt: behind the record `&mut` slices and numbers in any order, and one shared slice. What the
+The parameters are read from crates/lent_opening/src/lib.rt: behind the record `&mut` slices, numbers and bools in any order, and one shared slice. What the
 callees' contracts say is written below, over the parameters: `links` is the list passed, `links′` the list at exit, `h` the record passed, `r` what
 the callee returns, `h′` the record at exit. Run it again when the signature or a contract changes.
 
@@ -15,7 +15,7 @@ import subprocess
 
 from walk import CRATE, Walk, laid
 
-ASKED = 'updateCall baseShape h links (lent pairs (tables hops even odd) bounds skips) (opensDepot (noticeOf code neighbours))'
+ASKED = 'updateCall baseShape h links (lent pairs (tables hops even odd) bounds skips) (opensDepot (noticeOf yard code neighbours))'
 LEFT = 'links′ (lent pairs′ (tables hops′ even′ odd′) bounds′ skips′)'
 STEP_SAYS = f'updateLeft r {LEFT} ≡ {ASKED}'
 OPEN_SAYS = f'leftOf r h′ {LEFT} ≡ {ASKED}'

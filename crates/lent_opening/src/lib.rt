@@ -9,7 +9,7 @@ use map::Record;
 use update::Report;
 use update::Returned;
 
-// The opening of a depot on a record that is lent, and is brought up to date (rule 4.1).
+// The opening of a depot, or of a yard, on a record that is lent, and is brought up to date (rule 4.1).
 pub fn open(
     rec: &mut Record,
     links: &mut [u64],
@@ -19,13 +19,14 @@ pub fn open(
     skips: &mut [u16],
     even: &mut [u64],
     odd: &mut [u64],
+    yard: bool,
     code: u8,
     neighbours: &[u8],
 ) -> Report
     ensures { λ r.
         let before = lentBefore pairs hops bounds skips even odd in
         let after = lentAfter pairs hops bounds skips even odd in
-        let asked = opens (noticeOf code (now (neighbours .entry))) in
+        let asked = opens (noticeOf yard code (now (neighbours .entry))) in
         ⌜ leftOf r (now (rec .exit)) (now (links .exit)) after
         ≡ updateCall base (now (rec .entry)) (now (links .entry)) before asked ⌝ }
 {
@@ -38,6 +39,7 @@ pub fn open(
         skips,
         even,
         odd,
+        yard,
         code,
         neighbours,
     );
@@ -55,13 +57,14 @@ pub fn open_value(
     skips: &mut [u16],
     even: &mut [u64],
     odd: &mut [u64],
+    yard: bool,
     code: u8,
     neighbours: &[u8],
 ) -> Returned
     ensures { λ r.
         let before = lentBefore pairs hops bounds skips even odd in
         let after = lentAfter pairs hops bounds skips even odd in
-        let asked = opens (noticeOf code (now (neighbours .entry))) in
+        let asked = opens (noticeOf yard code (now (neighbours .entry))) in
         ⌜ updateLeft r (now (links .exit)) after ≡ updateCall base rec (now (links .entry)) before asked ⌝ }
 {
     let mut own = rec;
@@ -74,6 +77,7 @@ pub fn open_value(
         skips,
         even,
         odd,
+        yard,
         code,
         neighbours,
     );

@@ -1,13 +1,17 @@
 // The link call, record in and out by value: what refuses it, the link in place, then the figures.
+ghost use mathlib.Core.List.{[]};
 ghost use mathlib.Core.Path.{_≡_};
-ghost use Prim.Native.Nat.{max, min};
+ghost use Prim.Native.Nat.{_≤_, max, min};
+ghost use lib.ListN.{length};
 ghost use Rattle.lists.specs.Lists.{overwrite};
 ghost use Rattle.rows.specs.Rows.{rowBit, encodeRow};
+ghost use Rattle.graph.specs.Network.{delivers};
 ghost use Rattle.graph.specs.Updates.{joins};
 ghost use Rattle.map.specs.Room.{AreLong};
-ghost use Rattle.map.specs.Memory.{base, networkOf};
+ghost use Rattle.map.specs.Memory.{base, yardNetwork};
 ghost use Rattle.map.specs.Slices.{lentAt, lentBefore, lentAfter, sizesAt};
 ghost use Rattle.rounds.specs.Leaves.{ran};
+ghost use Rattle.rounds.specs.Targets.{targetNetwork};
 ghost use Rattle.insertion.specs.Figured.{figured};
 ghost use Rattle.relink.specs.Relinked.{relinkedBy, IsRelinkable};
 ghost use Rattle.update.specs.UpdateCall.{updateRefusal, updateLeft, updateGiven, updateCall};
@@ -38,10 +42,23 @@ fn higher(first: u8, second: u8) -> u8
     first
 }
 
-// The figures after the link of two codes, the lower one's search first. Of the open set it says that it is what its bits encode, its words being of 64
-// bits each: so the call's definition writes it.
+// The targets: the yards are taken out of the row, which has the open set. Of the yard set it says that it is what its bits encode, its words being of
+// 64 bits each: so the call's definition writes it.
+fn keep_targets(targets: &mut [u64], yards: &[u64])
+    requires { ⌜ (base .words ≤ length (now targets)) × (base .words ≤ length (now yards)) ⌝ }
+    ensures { λ r.
+        let row = now (yards .entry) in
+        let G = yardNetwork (base .words) (now (targets .entry)) row [] in
+        ⌜ (now (targets .exit) ≡ overwrite (encodeRow (base .words) (delivers G)) (now (targets .entry)))
+        × (row ≡ overwrite (encodeRow (base .words) (rowBit (base .words) row)) row) ⌝ }
+{
+    map::keep_delivering(targets, yards, map::WORDS);
+}
+
+// The figures after the link of two codes, the lower one's search first. It says the same of the open set.
 fn relink_codes(
     members: &[u64],
+    targets: &[u64],
     links: &[u64],
     pairs: &mut [u64],
     hops: &mut [u16],
@@ -55,12 +72,12 @@ fn relink_codes(
 ) -> Figures
     requires { let given = lentAt pairs hops bounds skips even odd in
         ⌜ AreLong base (sizesAt links pairs hops bounds skips even odd)
-        × IsRelinkable base (now members) (now links) given (min first second) (max first second) ⌝ }
+        × IsRelinkable base (now members) (now targets) (now links) given (min first second) (max first second) ⌝ }
     ensures { λ r.
         let before = lentBefore pairs hops bounds skips even odd in
         let after = lentAfter pairs hops bounds skips even odd in
         let row = now (members .entry) in
-        let G = networkOf (base .words) row (now (links .entry)) in
+        let G = targetNetwork (base .words) row (now (targets .entry)) (now (links .entry)) in
         ⌜ (figured (r .change) (ran after (r .chain) (r .count) (r .searches)) ≡ relinkedBy base G (min first second) (max first second) chain before)
         × (row ≡ overwrite (encodeRow (base .words) (rowBit (base .words) row)) row) ⌝ }
 {
@@ -68,6 +85,7 @@ fn relink_codes(
     let high = higher(first, second);
     relink::relink(
         members,
+        targets,
         links,
         pairs,
         hops,
@@ -103,8 +121,12 @@ fn link_map(
 {
     admission::link_codes(links, map::WORDS, first, second);
     let members = rec.members;
+    let yards = rec.yards;
+    let mut targets = rec.members;
+    keep_targets(&mut targets, &yards);
     let got = relink_codes(
         &members,
+        &targets,
         &*links,
         pairs,
         hops,

@@ -1,6 +1,6 @@
-// The opening call, record in and out by value (rule 4): what refuses it, the links in place, then the figures.
+// The opening call, of a depot that delivers or of a yard, record in and out by value (rule 4): what refuses it, the links in place, then the figures.
 ghost use mathlib.Core.Path.{_≡_};
-ghost use mathlib.Core.Bool.{_||_};
+ghost use mathlib.Core.Bool.{_&&_, _||_};
 ghost use Prim.Native.Nat.{_≤_};
 ghost use lib.Dec.{eqb};
 ghost use lib.ListN.{length};
@@ -29,6 +29,18 @@ fn put_code(members: &mut [u64], code: u8)
     rows::row_set(members, map::WORDS, 0, code as usize);
 }
 
+// Puts the code of a yard into the yard set. Of any other opening it says that the row is what its bits encode.
+fn put_yard(yards: &mut [u64], yard: bool, code: u8)
+    requires { ⌜ base .words ≤ length (now yards) ⌝ }
+    ensures { λ r.
+        let before = now (yards .entry) in
+        ⌜ now (yards .exit) ≡ overwrite (encodeRow (base .words) (λ v. (yard && eqb v code) || rowBit (base .words) before v)) before ⌝ }
+{
+    if yard {
+        rows::row_set(yards, map::WORDS, 0, code as usize);
+    }
+}
+
 // The opening of a notice that nothing refuses: its links in place, then the figures.
 fn open_map(
     rec: Record,
@@ -39,22 +51,28 @@ fn open_map(
     skips: &mut [u16],
     even: &mut [u64],
     odd: &mut [u64],
+    yard: bool,
     code: u8,
     neighbours: &[u8],
 ) -> Returned
     requires { let long = sizesAt links pairs hops bounds skips even odd in
-        ⌜ updateRefusal base rec (now links) (now pairs) long (opens (noticeOf code (now neighbours))) ≡ 0 ⌝ }
+        ⌜ updateRefusal base rec (now links) (now pairs) long (opens (noticeOf yard code (now neighbours))) ≡ 0 ⌝ }
     ensures { λ r.
         let before = lentBefore pairs hops bounds skips even odd in
         let after = lentAfter pairs hops bounds skips even odd in
-        let asked = opens (noticeOf code (now (neighbours .entry))) in
+        let asked = opens (noticeOf yard code (now (neighbours .entry))) in
         ⌜ updateLeft r (now (links .exit)) after ≡ updateGiven 0 base rec (now (links .entry)) before asked ⌝ }
 {
     admission::link_depot(links, map::WORDS, code, neighbours);
     let mut members = rec.members;
     put_code(&mut members, code);
+    let mut yards = rec.yards;
+    put_yard(&mut yards, yard, code);
+    let mut targets = members;
+    map::keep_delivering(&mut targets, &yards, map::WORDS);
     let got = insertion::refigure(
         &members,
+        &targets,
         &*links,
         pairs,
         hops,
@@ -71,6 +89,7 @@ fn open_map(
     after.number = rec.number + 1;
     after.chain = got.chain;
     after.count = got.count;
+    after.yards = yards;
     let change = got.change;
     let report = Report {
         outcome: Outcome::Accepted(change),
@@ -92,6 +111,7 @@ pub fn open_sound(
     skips: &mut [u16],
     even: &mut [u64],
     odd: &mut [u64],
+    yard: bool,
     code: u8,
     neighbours: &[u8],
 ) -> Returned
@@ -100,7 +120,7 @@ pub fn open_sound(
     ensures { λ r.
         let before = lentBefore pairs hops bounds skips even odd in
         let after = lentAfter pairs hops bounds skips even odd in
-        let asked = opens (noticeOf code (now (neighbours .entry))) in
+        let asked = opens (noticeOf yard code (now (neighbours .entry))) in
         ⌜ updateLeft r (now (links .exit)) after ≡ updateCall base rec (now (links .entry)) before asked ⌝ }
 {
     let members = rec.members;
@@ -117,12 +137,13 @@ pub fn open_sound(
         skips,
         even,
         odd,
+        yard,
         code,
         neighbours,
     )
 }
 
-// The opening of a depot, record in and out by value: grew, kept or shrank with the number of searches; or the first refusal that holds, and then
+// The opening of a depot, or of a yard, record in and out by value: grew, kept or shrank with the number of searches; or the first refusal that holds, and then
 // nothing is changed.
 pub fn open_step(
     rec: Record,
@@ -133,13 +154,14 @@ pub fn open_step(
     skips: &mut [u16],
     even: &mut [u64],
     odd: &mut [u64],
+    yard: bool,
     code: u8,
     neighbours: &[u8],
 ) -> Returned
     ensures { λ r.
         let before = lentBefore pairs hops bounds skips even odd in
         let after = lentAfter pairs hops bounds skips even odd in
-        let asked = opens (noticeOf code (now (neighbours .entry))) in
+        let asked = opens (noticeOf yard code (now (neighbours .entry))) in
         ⌜ updateLeft r (now (links .exit)) after ≡ updateCall base rec (now (links .entry)) before asked ⌝ }
 {
     let refusal = update::map_refusal(
@@ -164,6 +186,7 @@ pub fn open_step(
         skips,
         even,
         odd,
+        yard,
         code,
         neighbours,
     )

@@ -44,7 +44,7 @@ module _ (K : Shape) (shape : IsShape K) where
   unfolding emptyNetwork distinct
   empty-held = record {
     net = record {
-      sound = record { listed = λ u. sym (memb-nil u); once = refl; ends = λ u v l. absurd l; loopless = λ u v l. absurd l; symmetric = λ u v l. absurd l };
+      sound = record { listed = λ u. sym (memb-nil u); once = refl; yards = λ u y. absurd y; ends = λ u v l. absurd l; loopless = λ u v l. absurd l; symmetric = λ u v l. absurd l };
       connected = λ u v o. absurd o;
       small = lit< tt;
     };
@@ -56,6 +56,10 @@ module _ (K : Shape) (shape : IsShape K) where
   all-closed : (u : ℕ) → E .isOpen u ≡ false
   unfolding emptyNetwork
   all-closed u = refl
+
+  no-yards : (u : ℕ) → E .isYard u ≡ false
+  unfolding emptyNetwork
+  no-yards u = refl
 
   pub none-farthest : farthest E ≡ (λ u v. false)
   none-farthest = fun-ext (λ u. fun-ext (λ v. not→false (farthest E u v) (λ h. false→not (all-closed u) (delivers-open E u (farthest-is E (empty-held .net) u v .0 h .first)))))
@@ -81,4 +85,5 @@ module _ (K : Shape) (shape : IsShape K) where
       sym (memory-path
       (ap (encodeTable (K .words)) linked-none ∙ none-table (K .words))
       (ap (encodeTable (K .words)) none-farthest ∙ none-table (K .words))
-      (record-path (ap (encodeRow (K .words)) (fun-ext all-closed) ∙ none-zeros (K .words)) none-number none-diameter none-count))
+      (record-path (ap (encodeRow (K .words)) (fun-ext all-closed) ∙ none-zeros (K .words)) none-number none-diameter none-count
+      (ap (encodeRow (K .words)) (fun-ext no-yards) ∙ none-zeros (K .words))))

@@ -65,7 +65,7 @@ module _ (K : Shape) (shape : IsShape K) (rec : Record) (links pairs : List ℕ)
   granted-long = passed .whole
 
   pub granted-links : AreLinksSound (places K) N (rec .number)
-  granted-links = sound-links-iff (K .words) (rec .members) links (rec .number) .0 (passed .linked)
+  granted-links = sound-links-iff (K .words) (rec .members) (rec .yards) links (rec .number) .0 (passed .linked)
 
   pub granted-figures : AreFiguresSound (places K) N P (rec .chain) (rec .count)
   granted-figures = sound-figures-iff (places K) N P (rec .chain) (rec .count) .0 (passed .stored refl)
@@ -140,7 +140,7 @@ module _ (K : Shape) (shape : IsShape K) (G : Network) (held : IsHeld K G) where
   module _ (D : ℕ) (P : Pairs) (sound : AreFiguresSound (places K) G P D (countPairs (range (places K)) P)) where
     module _ (rec : Record) (links pairs : List ℕ) (s : Stores K G D P rec links pairs) where
       pub links-pass : soundLinks (places K) (mapNetwork K rec links) (rec .number) ≡ true
-      links-pass = sound-links-iff (K .words) (rec .members) links (rec .number) .1 (rw (s .network, s .number) links-are-sound)
+      links-pass = sound-links-iff (K .words) (rec .members) (rec .yards) links (rec .number) .1 (rw (s .network, s .number) links-are-sound)
 
       pub figures-pass : soundFigures (places K) (mapNetwork K rec links) (tableBit (K .words) pairs) (rec .chain) (rec .count) ≡ true
       figures-pass = rw (s .network, s .pairs, s .chain, s .count) (sound-figures-iff (places K) G P D (countPairs (range (places K)) P) .1 sound)

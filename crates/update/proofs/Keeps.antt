@@ -1,6 +1,6 @@
 -- A CALL KEEPS A MAP THAT NOTHING REFUSES, on any sound stored figures, true or false: sizes stay, the words mean the network after it, and its
 -- figures are sound. Assumes nothing.
-use mathlib.Core.Path.{_≡_, refl, sym, ap, ap₂, _∙_}
+use mathlib.Core.Path.{_≡_, refl, sym, ap, _∙_}
 use mathlib.Core.Bool.{Bool, true, cond}
 use mathlib.Core.List.{List, [], _∷_}
 use Prim.Native.Nat.{ℕ, zero, suc, _*_, _≤_}
@@ -31,7 +31,7 @@ use Rattle.update.specs.Steps.{mapRefusal}
 use Rattle.update.proofs.Memories.{IsHeld, Stores, depots-few, open-below, network-read}
 use Rattle.rounds.proofs.Reading.{pairs-read}
 use Rattle.update.proofs.Grants.{granted-long, granted-figures, granted-lawful, held-after, links-pass, figures-pass, connected-pass}
-use Rattle.update.proofs.Openings.{given-number, given-chain, given-members, given-count, given-links, given-pairs}
+use Rattle.update.proofs.Openings.{given-number, given-chain, given-members, given-yards, given-count, given-links, given-pairs}
 use Rattle.update.proofs.Refuses.{refused-never}
 use Rattle.graph.specs.Updates.{Update}
 
@@ -116,7 +116,7 @@ module _ (K : Shape) (rec : Record) (links : List ℕ) (B : Lent) (o : Update) w
     pub left-stores : Stores K (networkAfter K rec links o) (updatedBy K rec links (B .pairs) o .final .candidate) (updatedBy K rec links (B .pairs) o .final .pairs)
         (updateGiven zero K rec links B o .after) (updateGiven zero K rec links B o .links) (updateGiven zero K rec links B o .lent .pairs)
     left-stores = record {
-      network = ap₂ (networkOf (K .words)) (given-members K rec links B o) (given-links K rec links B o) ∙ network-read K H held (rec .members) links;
+      network = rw (given-members K rec links B o, given-yards K rec links B o, given-links K rec links B o) (network-read K H held (rec .members) (rec .yards) links);
       pairs = ap (tableBit (K .words)) (given-pairs K rec links B o) ∙ pairs-read K H (open-below K H held) (x .final .pairs) left-ends (B .pairs);
       number = given-number K rec links B o;
       chain = given-chain K rec links B o;

@@ -19,7 +19,7 @@ use Rattle.graph.specs.Chart.{diameter, Pairs, farthest, countPairs}
 use Rattle.graph.specs.Correct.{IsNet}
 use Rattle.graph.proofs.Distances.{vertices-in}
 use Rattle.graph.proofs.Theorems.{diameter-is, farthest-is}
-use Rattle.map.specs.Memory.{Shape, places, tableWords, networkOf, mapNetwork}
+use Rattle.map.specs.Memory.{Shape, places, tableWords, networkOf, yardNetwork, mapNetwork}
 use Rattle.map.specs.declared.Record.{Record}
 use Rattle.rounds.proofs.Reading.{pairs-read}
 use Rattle.update.specs.Memory.{Memory}
@@ -30,11 +30,11 @@ use Rattle.graph.proofs.Delivers.{delivers-open}
 
 -- ---- networks and memories are equal by their fields
 
-pub network-path : {A B : Network} → A .depots ≡ B .depots → ((c : ℕ) → A .isOpen c ≡ B .isOpen c) → ((u v : ℕ) → A .linked u v ≡ B .linked u v) → A ≡ B
-network-path p q r = λ i. record { depots = p i; isOpen = λ c. q c i; linked = λ u v. r u v i }
+pub network-path : {A B : Network} → A .depots ≡ B .depots → ((c : ℕ) → A .isOpen c ≡ B .isOpen c) → ((c : ℕ) → A .isYard c ≡ B .isYard c) → ((u v : ℕ) → A .linked u v ≡ B .linked u v) → A ≡ B
+network-path p q y r = λ i. record { depots = p i; isOpen = λ c. q c i; isYard = λ c. y c i; linked = λ u v. r u v i }
 
-pub record-path : {A B : Record} → A .members ≡ B .members → A .number ≡ B .number → A .chain ≡ B .chain → A .count ≡ B .count → A ≡ B
-record-path p q r s = λ i. record { members = p i; number = q i; chain = r i; count = s i }
+pub record-path : {A B : Record} → A .members ≡ B .members → A .number ≡ B .number → A .chain ≡ B .chain → A .count ≡ B .count → A .yards ≡ B .yards → A ≡ B
+record-path p q r s y = λ i. record { members = p i; number = q i; chain = r i; count = s i; yards = y i }
 
 pub memory-path : {A B : Memory} → A .links ≡ B .links → A .pairs ≡ B .pairs → A .rec ≡ B .rec → A ≡ B
 memory-path p q r = λ i. record { links = p i; pairs = q i; rec = r i }
@@ -45,7 +45,7 @@ pub record IsHeld (K : Shape) (G : Network) : Type 0 where
   pub net : IsNet G
   pub depots : vertices G ≡ filterb (G .isOpen) (range (places K))
 
--- the map of a network written over a memory's tables and open set
+-- the map of a network written over a memory's tables, open set and yard set
 unfoldable pub writeMap : Shape → Network → Memory → Memory
 writeMap K G M = record {
   links = overwrite (encodeTable (K .words) (G .linked)) (M .links);
@@ -55,6 +55,7 @@ writeMap K G M = record {
     number = length (vertices G);
     chain = diameter G;
     count = countPairs (range (places K)) (farthest G);
+    yards = overwrite (encodeRow (K .words) (G .isYard)) (M .rec .yards);
   };
 }
 
@@ -68,6 +69,7 @@ memoryFor K G = record {
     number = length (vertices G);
     chain = diameter G;
     count = countPairs (range (places K)) (farthest G);
+    yards = encodeRow (K .words) (G .isYard);
   };
 }
 
@@ -105,11 +107,14 @@ module _ (K : Shape) (G : Network) (held : IsHeld K G) where
 
   -- ---- WHAT IS WRITTEN IS READ
 
-  pub network-read : (members links : List ℕ) → networkOf (K .words) (overwrite (encodeRow (K .words) (G .isOpen)) members) (overwrite (encodeTable (K .words) (G .linked)) links) ≡ G
+  pub network-read : (members yards links : List ℕ)
+      → yardNetwork (K .words) (overwrite (encodeRow (K .words) (G .isOpen)) members) (overwrite (encodeRow (K .words) (G .isYard)) yards) (overwrite (encodeTable (K .words) (G .linked)) links)
+      ≡ G
   unfolding networkOf
-  network-read members links =
+  network-read members yards links =
       network-path (filter-ext _ (G .isOpen) (range (places K)) (λ c m. opens c) ∙ sym (held .depots))
       opens
+      (row-within (K .words) (G .isYard) yards (λ c y. open-below c (held .net .sound .yards c y)))
       (table-within (K .words) (G .linked) links (λ u v l. let o = linked-open u v l in (open-below u (o .0), open-below v (o .1))))
     where
       opens : (c : ℕ) → rowBit (K .words) (overwrite (encodeRow (K .words) (G .isOpen)) members) c ≡ G .isOpen c
@@ -118,7 +123,7 @@ module _ (K : Shape) (G : Network) (held : IsHeld K G) where
   pub written-says : (M : Memory) → Says K G (writeMap K G M .rec) (writeMap K G M .links) (writeMap K G M .pairs)
   unfolding writeMap
   written-says M = record {
-    network = network-read (M .rec .members) (M .links);
+    network = network-read (M .rec .members) (M .rec .yards) (M .links);
     pairs = pairs-read K G open-below (farthest G) farthest-open (M .pairs);
     number = refl;
     chain = refl;
@@ -135,6 +140,7 @@ module _ (K : Shape) (G : Network) (held : IsHeld K G) where
     chain = diameter-is G (held .net);
     pairs = λ u v p q. subst (λ (b : Bool). T b ↔ IsFarthest G (delivers G) u v) (sym (table-at (K .words) (farthest G) (M .pairs) u v p q)) (farthest-is G (held .net) u v);
     count = ap (countPairs (range (places K))) (sym (pairs-read K G open-below (farthest G) farthest-open (M .pairs)));
+    yards = λ c l. row-at (K .words) (G .isYard) (M .rec .yards) c l;
   }
 
 -- ---- the memory of a network is its map written over itself
@@ -153,7 +159,8 @@ memory-written K G =
     memory-path
     (sym (overwrite-all (encodeTable (K .words) (G .linked)) (encodeTable (K .words) (G .linked)) refl))
     (sym (overwrite-all (encodeTable (K .words) (farthest G)) (encodeTable (K .words) (farthest G)) refl))
-    (record-path (sym (overwrite-all (encodeRow (K .words) (G .isOpen)) (encodeRow (K .words) (G .isOpen)) refl)) refl refl refl)
+    (record-path (sym (overwrite-all (encodeRow (K .words) (G .isOpen)) (encodeRow (K .words) (G .isOpen)) refl)) refl refl refl
+    (sym (overwrite-all (encodeRow (K .words) (G .isYard)) (encodeRow (K .words) (G .isYard)) refl)))
 
 -- a map written over a map
 table-twice : (W : ℕ) (f g : ℕ → ℕ → Bool) (old : List ℕ) → overwrite (encodeTable W f) (overwrite (encodeTable W g) old) ≡ overwrite (encodeTable W f) old
@@ -168,4 +175,4 @@ written-twice K G H M =
     memory-path
     (table-twice (K .words) (H .linked) (G .linked) (M .links))
     (table-twice (K .words) (farthest H) (farthest G) (M .pairs))
-    (record-path (row-twice (K .words) (H .isOpen) (G .isOpen) (M .rec .members)) refl refl refl)
+    (record-path (row-twice (K .words) (H .isOpen) (G .isOpen) (M .rec .members)) refl refl refl (row-twice (K .words) (H .isYard) (G .isYard) (M .rec .yards)))

@@ -58,6 +58,10 @@ module _ (K : Shape) (rec : Record) (links : List ℕ) (B : Lent) (o : Update) w
   unfolding updateGiven
   given-members = refl
 
+  pub given-yards : updateGiven zero K rec links B o .after .yards ≡ overwrite (encodeRow (K .words) (H .isYard)) (rec .yards)
+  unfolding updateGiven
+  given-yards = refl
+
   pub given-count : updateGiven zero K rec links B o .after .count ≡ countPairs (range (places K)) (x .final .pairs)
   unfolding updateGiven
   given-count = refl
@@ -111,7 +115,8 @@ module _ (K : Shape) (shape : IsShape K) (rec : Record) (links : List ℕ) (B : 
       (record-path (given-members K rec links B o)
       (given-number K rec links B o)
       (given-chain K rec links B o ∙ chain-is)
-      (given-count K rec links B o ∙ ap (countPairs (range (places K))) pairs-are))
+      (given-count K rec links B o ∙ ap (countPairs (range (places K))) pairs-are)
+      (given-yards K rec links B o))
 
 -- a memory that says a network's figures stores true ones
 pub says-true : (K : Shape) (G : Network) → IsHeld K G → (rec : Record) (links pairs : List ℕ) → Says K G rec links pairs

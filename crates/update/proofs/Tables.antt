@@ -69,13 +69,13 @@ module _ (K : Shape) (shape : IsShape K) (rec : Record) (links : List ℕ) (B : 
       granted-lawful K shape rec links (B .pairs) (sizesOf links B) u ok .settled (rec .chain) (tableBit (K .words) (B .pairs))
       (granted-chain K shape rec links (B .pairs) (sizesOf links B) u ok)
 
-  last : (e : ℕ) × IsSearch K H (lastOr 0 (S .references)) (B .searched) (searchLeft (Reached e) (searchAfter (K .words) H (S .references) (B .searched)))
+  last : (e : ℕ) × (d : ℕ) × IsSearch K H (lastOr 0 (S .references)) (B .searched) (searchLeft (Reached e d) (searchAfter (K .words) H (S .references) (B .searched)))
   unfolding lastOr
   last =
       let f = searches-first u in
       let q = says .first ∙ ap (λ (l : List ℕ). l ++ says .later) (f .2) in
       let g = last-search K H (held .net) below S references links B long (f .0) (f .1 ++ says .later) q in
-      (g .0, subst (λ (l : List ℕ). IsSearch K H (lastOr 0 l) (B .searched) (searchLeft (Reached (g .0)) (searchAfter (K .words) H (S .references) (B .searched)))) (sym q) (g .1))
+      (g .0, g .1, subst (λ (l : List ℕ). IsSearch K H (lastOr 0 l) (B .searched) (searchLeft (Reached (g .0) (g .1)) (searchAfter (K .words) H (S .references) (B .searched)))) (sym q) (g .2))
 
   given-tables : AreTables K H (firstSearches u) (S .references) links B (updateGiven zero K rec links B u)
   unfolding updateGiven roundsLeave sizesOf

@@ -28,6 +28,7 @@ pub record Represents (K : Shape) (M : Memory) (G : Network) : Type 0 where
   pub chain : IsDiameter G (delivers G) (M .rec .chain)
   pub pairs : (u v : ℕ) → u < places K → v < places K → T (tableBit (K .words) (M .pairs) u v) ↔ IsFarthest G (delivers G) u v
   pub count : M .rec .count ≡ countPairs (range (places K)) (tableBit (K .words) (M .pairs))
+  pub yards : (c : ℕ) → c < places K → rowBit (K .words) (M .rec .yards) c ≡ G .isYard c
 
 -- a call's marks: references are the depots that the rules search from in the call, H the network after it, l what the call left
 pub record IsMarked (K : Shape) (H : Network) (references : List ℕ) (l : UpdateLeft) : Type 0 where
@@ -36,4 +37,4 @@ pub record IsMarked (K : Shape) (H : Network) (references : List ℕ) (l : Updat
   pub searches : (a : Change) → l .report .outcome ≡ Accepted a → l .report .searches ≡ countb (λ v. eqb (getD (l .lent .skips) v 0) (K .searchedMark)) (range (places K))
   pub inside : (v : ℕ) → T (memb v references) → T (H .isOpen v)
   pub bounded : l .report .searches ≤ l .after .number
-  pub cover : l .report .outcome ≡ Accepted Shrank → (v : ℕ) → T (H .isOpen v) → T (not (memb v references)) → IsCovered H references (l .after .chain) v
+  pub cover : l .report .outcome ≡ Accepted Shrank → (v : ℕ) → T (delivers H v) → T (not (memb v references)) → IsCovered H references (l .after .chain) v

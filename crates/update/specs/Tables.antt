@@ -44,7 +44,7 @@ pub record AreTables (K : Shape) (H : Network) (firsts references links : List �
   pub others : (l .report .outcome ≡ Accepted Shrank → ⊥) → (v : ℕ) → v < places K → T (not (memb v firsts)) → IsBlank K l v
   pub closed : (v : ℕ) → v < places K → (T (H .isOpen v) → ⊥) → IsBlank K l v
   -- hop table and layer rows hold what the last search left there
-  pub searched : (e : ℕ) × IsSearch K H (lastOr 0 references) (B .searched) (searchLeft (Reached e) (l .lent .searched))
+  pub searched : (e : ℕ) × (d : ℕ) × IsSearch K H (lastOr 0 references) (B .searched) (searchLeft (Reached e d) (l .lent .searched))
   -- what stands past the named sizes stays
   pub linksKept : KeepsPast (tableWords K) links (l .links)
   pub pairsKept : KeepsPast (tableWords K) (B .pairs) (l .lent .pairs)

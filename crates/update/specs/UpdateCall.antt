@@ -57,6 +57,7 @@ updateGiven zero K rec links B o =
         number = length (vertices H);
         chain = S .candidate;
         count = countPairs (range (places K)) (S .pairs);
+        yards = overwrite (encodeRow (K .words) (H .isYard)) (rec .yards);
       };
       links = overwrite (encodeTable (K .words) (H .linked)) links;
       lent = roundsLeave K H S B;

@@ -3,7 +3,8 @@ use mathlib.Core.Path.{sym, _∙_}
 use native.Mathlib.Omega.{arith}
 use Rattle.map.specs.Memory.{base}
 use Rattle.map.proofs.Longs.{are-long}
-use Rattle.update.proofs.Refuses.{map-long, refused-by-link, refused-call, accepted-call}
+use Rattle.update.proofs.Refuses.{map-long, refused-call, accepted-call}
+use Rattle.linking.proofs.Joined.{refused-codes}
 use borrow.Author.Needs.{needs}
 use Rattle.linking.proofs.link_sound.Statement.{statement}
 use Rattle.linking.proofs.link_sound.Tie as tie
@@ -32,14 +33,14 @@ returns c =
     let after-link-refusal : tie.After-link-refusal = search back in
     let start : tie.Start = search back in
     refused-call base _ _ _ _ _ _ _ _ _ _ _ (c .refused .ensures)
-    (after-link-refusal .link-refusal .ensures ∙ refused-by-link base _ _ _ _ _ _ (sym (start .pre))) (then1 .if1 .taken)
+    (after-link-refusal .link-refusal .ensures ∙ refused-codes base _ _ _ _ _ _ (sym (start .pre))) (then1 .if1 .taken)
 
 link-map-requires : tie.Need-link-map-requires
 link-map-requires c κs =
     let else1 : tie.Else1 = search back in
     let after-link-refusal : tie.After-link-refusal = search back in
     let start : tie.Start = search back in
-    sym (after-link-refusal .link-refusal .ensures ∙ refused-by-link base _ _ _ _ _ _ (sym (start .pre))) ∙ else1 .if1 .left
+    sym (after-link-refusal .link-refusal .ensures ∙ refused-codes base _ _ _ _ _ _ (sym (start .pre))) ∙ else1 .if1 .left
 
 returns-2 : tie.Need-returns-2
 returns-2 c =
@@ -48,7 +49,7 @@ returns-2 c =
     let after-link-refusal : tie.After-link-refusal = search back in
     let start : tie.Start = search back in
     accepted-call base _ _ _ _ _ _ _ _ _ _
-    (sym (else1 .if1 .left) ∙ after-link-refusal .link-refusal .ensures ∙ refused-by-link base _ _ _ _ _ _ (sym (start .pre)))
+    (sym (else1 .if1 .left) ∙ after-link-refusal .link-refusal .ensures ∙ refused-codes base _ _ _ _ _ _ (sym (start .pre)))
     (after-link-map .link-map .ensures)
 
 pub link-sound-spec : {M : Type 1} → statement M

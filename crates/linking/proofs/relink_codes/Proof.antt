@@ -23,7 +23,7 @@ relink-requires c κs =
     let after-higher : tie.After-higher = search back in
     let after-lower : tie.After-lower = search back in
     let start : tie.Start = search back in
-    (search needs, relinkable-at _ _ _ _ (after-lower .lower .ensures) (after-higher .higher .ensures) (start .pre .1), omega arith, omega arith)
+    (search needs, relinkable-at _ _ _ _ _ (after-lower .lower .ensures) (after-higher .higher .ensures) (start .pre .1), omega arith, omega arith)
 
 returns : tie.Need-returns
 returns c =
@@ -33,7 +33,7 @@ returns c =
     let after-shared-slice-known : tie.After-shared-slice-known = search back in
     let start : tie.Start = search back in (
       relinked-at _ _ _ _ (after-lower .lower .ensures) (after-higher .higher .ensures) (after-relink .relink .ensures),
-      row-whole _ _ (start .pre .1 .codeRow) (λ i l. after-shared-slice-known .shared-slice-known .given i .fits),
+      row-whole _ _ (start .pre .1 .are .memberRow) (λ i l. after-shared-slice-known .shared-slice-known .given i .fits),
     )
 
 pub relink-codes-spec : {M : Type 1} → statement M
@@ -42,6 +42,6 @@ relink-codes-spec =
     (tie.spec
     (λ c. search needs) (λ c. search needs) (λ c. search needs) (λ c. search needs)  -- lower-requires, higher-requires, cast-relink, cast-relink-2
     relink-requires
-    (λ c. search needs) (λ c. search needs) (λ c. search needs)  -- same-length, same-length-2, same-length-3
-    (λ c. search needs) (λ c. search needs) (λ c. search needs)  -- same-length-4, same-length-5, same-length-6
+    (λ c. search needs) (λ c. search needs) (λ c. search needs) (λ c. search needs)  -- same-length, same-length-2, same-length-3, same-length-4
+    (λ c. search needs) (λ c. search needs)  -- same-length-5, same-length-6
     returns)

@@ -1,10 +1,9 @@
 -- `opening::open_sound` meets its contract: of a memory that nothing refuses the notice alone is judged. Assumes nothing.
-use mathlib.Core.List.{[]}
 use mathlib.Core.Path.{sym, ap, _∙_}
 use native.Mathlib.Omega.{arith}
 use Rattle.lists.specs.Lists.{firstOf}
 use Rattle.map.specs.Memory.{base}
-use Rattle.admission.proofs.Theorems.{faults-any-links}
+use Rattle.admission.proofs.Theorems.{faults-any}
 use Rattle.update.proofs.Refuses.{refused-by-notice, refused-call, accepted-call}
 use borrow.Author.Needs.{needs}
 use Rattle.opening.proofs.open_sound.Statement.{statement}
@@ -31,7 +30,7 @@ returns c =
     let after-notice-refusal : tie.After-notice-refusal = search back in
     let start : tie.Start = search back in
     refused-call base _ _ _ _ _ _ _ _ _ _ _ (c .refused .ensures)
-    (after-notice-refusal .notice-refusal .ensures ∙ ap firstOf (faults-any-links _ _ [] _ _)
+    (after-notice-refusal .notice-refusal .ensures ∙ ap firstOf (faults-any _ _ _ _ _ _ _)
     ∙ refused-by-notice base _ _ _ _ _ (sym (start .pre))) (then1 .if1 .taken)
 
 open-map-requires : tie.Need-open-map-requires
@@ -39,7 +38,7 @@ open-map-requires c κs =
     let else1 : tie.Else1 = search back in
     let after-notice-refusal : tie.After-notice-refusal = search back in
     let start : tie.Start = search back in
-    sym (after-notice-refusal .notice-refusal .ensures ∙ ap firstOf (faults-any-links _ _ [] _ _)
+    sym (after-notice-refusal .notice-refusal .ensures ∙ ap firstOf (faults-any _ _ _ _ _ _ _)
     ∙ refused-by-notice base _ _ _ _ _ (sym (start .pre))) ∙ else1 .if1 .left
 
 returns-2 : tie.Need-returns-2
@@ -49,7 +48,7 @@ returns-2 c =
     let after-notice-refusal : tie.After-notice-refusal = search back in
     let start : tie.Start = search back in
     accepted-call base _ _ _ _ _ _ _ _ _ _
-    (sym (else1 .if1 .left) ∙ after-notice-refusal .notice-refusal .ensures ∙ ap firstOf (faults-any-links _ _ [] _ _)
+    (sym (else1 .if1 .left) ∙ after-notice-refusal .notice-refusal .ensures ∙ ap firstOf (faults-any _ _ _ _ _ _ _)
     ∙ refused-by-notice base _ _ _ _ _ (sym (start .pre))) (after-open-map .open-map .ensures)
 
 pub open-sound-spec : {M : Type 1} → statement M
