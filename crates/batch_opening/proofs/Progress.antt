@@ -6,18 +6,18 @@ use mathlib.Core.Option.{Option, some}
 use Prim.Native.Nat.{ℕ, suc, _-_, _≤_, _<_}
 use native.Mathlib.Omega.{arith}
 use lib.Dec.{eqb}
-use lib.ListN.{length, getD, take, drop}
-use Rattle.graph.specs.Opening.{noticeOf, openFaults}
+use lib.ListN.{length, getD}
+use Rattle.graph.specs.Opening.{openFaults}
 use Rattle.graph.specs.Updates.{updateFaults}
 use Rattle.lists.proofs.Members.{filter-out}
 use Rattle.graph.specs.Batch.{Entry, entryOf, accepts, firstFit}
 use Rattle.graph.proofs.Batches.{fit-some}
 use Rattle.words.specs.Bits.{bit, wordOf}
-use Rattle.map.specs.Memory.{Shape, IsShape, places, networkOf}
+use Rattle.map.specs.Memory.{Shape, IsShape, places, networkOf, yardNetwork}
 use Rattle.map.specs.Room.{Lent}
 use Rattle.notice.specs.Lines.{linesOf}
 use Rattle.batch.specs.Lines.{batchLimit, entriesOf}
-use Rattle.batch.specs.Steps.{waitingOf, fitOf, FitsFrame}
+use Rattle.batch.specs.Steps.{waitingOf, noticeAt, fitOf, FitsFrame}
 use Rattle.batch.specs.declared.Fit.{Fit}
 use Rattle.batch.specs.declared.Fit.the-variants.{Line as Found, Nothing}
 use Rattle.batch.proofs.Entries.{entry-number, waiting-without}
@@ -27,11 +27,11 @@ use Rattle.batch_opening.specs.Steps.{batchStanding}
 use Rattle.batch_opening.specs.declared.BatchProgress.{BatchProgress}
 use Rattle.batch_update.proofs.Turns.{meant, IsFree, opening-free, turns-out, turns-none, turns-some, turned}
 
--- the scan is lent no links, and finds what fits the map with any
-fit-any-links : (W : ℕ) (members l k : List ℕ) (es : List Entry) → firstFit (networkOf W members l) es ≡ firstFit (networkOf W members k) es
+-- the scan is lent no links and no yards, and finds what fits the map with any
+fit-any : (W : ℕ) (members yards links : List ℕ) (es : List Entry) → firstFit (networkOf W members []) es ≡ firstFit (yardNetwork W members yards links) es
 unfolding firstFit accepts updateFaults openFaults networkOf
-fit-any-links W members l k [] = refl
-fit-any-links W members l k (e ∷ es) = ap (λ (x : Option Entry). cond (accepts (networkOf W members l) (e .notice)) (some e) x) (fit-any-links W members l k es)
+fit-any W members yards links [] = refl
+fit-any W members yards links (e ∷ es) = ap (λ (x : Option Entry). cond (accepts (networkOf W members []) (e .notice)) (some e) x) (fit-any W members yards links es)
 
 -- where the scan says it found a notice
 pub fits-at : {r : Fit} {number n m : ℕ} → FitsFrame r m → r ≡ Found number n → (number < batchLimit) × (3 ≤ n) × (n ≤ m)
@@ -57,7 +57,7 @@ module _ (K : Shape) (shape : IsShape K) (input : List ℕ) {first : BatchStandi
 
   module _ (r : Fit) (frame : List ℕ) (fit : fitOf r frame ≡ firstFit (networkOf (K .words) (p .after .members) []) (waitingOf (p .taken) (entriesOf input))) where
     found : fitOf r frame ≡ firstFit (meant K (lentMemory (p .after) links B)) (waitingOf (p .taken) (entriesOf input))
-    found = fit ∙ fit-any-links (K .words) (p .after .members) [] links (waitingOf (p .taken) (entriesOf input))
+    found = fit ∙ fit-any (K .words) (p .after .members) (p .after .yards) links (waitingOf (p .taken) (entriesOf input))
 
     pub under-none : r ≡ Nothing → batchStanding p links B input ≡ turnsOn count K first
     unfolding fitOf
@@ -67,10 +67,10 @@ module _ (K : Shape) (shape : IsShape K) (input : List ℕ) {first : BatchStandi
     module _ {number n : ℕ} (e : r ≡ Found number n) (more : 0 < turns) (few : length (linesOf input) ≤ batchLimit)
         (codes : (x : Entry) → List·Memᴰ x (entriesOf input) → x .notice .code < places K)
         (p′ : BatchProgress) {links′ : List ℕ} {B′ : Lent}
-        (left : lentMemory (p′ .after) links′ B′ ≡ memoryLeft (openingOn K (lentMemory (p .after) links B) (noticeOf (getD frame 1 0) (take (n - 3) (drop 3 frame)))))
+        (left : lentMemory (p′ .after) links′ B′ ≡ memoryLeft (openingOn K (lentMemory (p .after) links B) (noticeAt frame n)))
         (marked : p′ .taken ≡ wordOf 64 (λ k. eqb k number || bit (p .taken) k)) where
       abbrev entry : Entry
-      entry = entryOf number (noticeOf (getD frame 1 0) (take (n - 3) (drop 3 frame)))
+      entry = entryOf number (noticeAt frame n)
 
       fits : firstFit (meant K (lentMemory (p .after) links B)) (waitingOf (p .taken) (entriesOf input)) ≡ some entry
       unfolding fitOf

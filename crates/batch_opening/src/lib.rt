@@ -1,13 +1,12 @@
-// Openings in a batch: of some notice lines the first that can be accepted is opened, again and again, until none can.
+// Openings in a batch, of depots and of yards: of some notice lines the first that can be accepted is opened, again and again, until none can.
 ghost use mathlib.Core.List.{[]};
 ghost use mathlib.Core.Path.{_≡_};
 ghost use mathlib.Core.Bool.{true, _&&_, _||_};
-ghost use Prim.Native.Nat.{_-_, _≤_, _<_};
+ghost use Prim.Native.Nat.{_≤_, _<_};
 ghost use lib.Dec.{eqb, leb};
-ghost use lib.ListN.{length, getD, take, drop};
+ghost use lib.ListN.{length};
 ghost use Rattle.lists.specs.Lists.{allb};
 ghost use Rattle.words.specs.Bits.{bit, wordOf};
-ghost use Rattle.graph.specs.Opening.{noticeOf};
 ghost use Rattle.graph.specs.Batch.{firstFit};
 ghost use Rattle.map.specs.Memory.{base, networkOf};
 ghost use Rattle.map.specs.Room.{sizes, longEnough};
@@ -16,7 +15,7 @@ ghost use Rattle.update.specs.Steps.{mapRefusal};
 ghost use Rattle.notice.specs.Lines.{linesOf};
 ghost use Rattle.notice.specs.Calls.{frameLimit};
 ghost use Rattle.batch.specs.Lines.{batchLimit, isOpening, entriesOf};
-ghost use Rattle.batch.specs.Steps.{waitingOf, fitOf, FitsFrame};
+ghost use Rattle.batch.specs.Steps.{waitingOf, noticeAt, fitOf, FitsFrame};
 ghost use Rattle.batch_update.specs.BatchCall.{batchRefusal, lentMemory, memoryLeft, openingOn, batchLeft, batchCall};
 ghost use Rattle.batch_update.specs.Steps.{turnsOn};
 ghost use Rattle.batch_opening.specs.Steps.{batchStanding, refusedBatch, batchBegun};
@@ -135,11 +134,11 @@ fn take_line(
     ensures { λ r.
         let before = lentMemory (progress .after) (now (links .entry)) (lentBefore pairs hops bounds skips even odd) in
         let after = lentMemory (r .after) (now (links .exit)) (lentAfter pairs hops bounds skips even odd) in
-        let notice = noticeOf (getD (now (frame .entry)) 1 0) (take (n - 3) (drop 3 (now (frame .entry)))) in
-        ⌜ (after ≡ memoryLeft (openingOn base before notice))
+        ⌜ (after ≡ memoryLeft (openingOn base before (noticeAt (now (frame .entry)) n)))
         × (r .taken ≡ wordOf 64 (λ k. eqb k number || bit (progress .taken) k)) ⌝ }
 {
     let rec = progress.after;
+    let yard = frame[0] == notice::YARD;
     let code = frame[1];
     let got = opening::open_sound(
         rec,
@@ -150,6 +149,7 @@ fn take_line(
         skips,
         even,
         odd,
+        yard,
         code,
         &frame[3..n],
     );

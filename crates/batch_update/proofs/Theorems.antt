@@ -194,7 +194,7 @@ represents : (K : Shape) (M : LentMemory) → IsFree K M → AreTrueIn K M → R
 unfolding networkOf
 represents K M free t =
     let passed = free-passed K M free in
-    let links : AreLinksSound (places K) (meant K M) (M .rec .number) = sound-links-iff (K .words) (M .rec .members) (M .links) (M .rec .number) .0 (passed .linked) in
+    let links : AreLinksSound (places K) (meant K M) (M .rec .number) = sound-links-iff (K .words) (M .rec .members) (M .rec .yards) (M .links) (M .rec .number) .0 (passed .linked) in
     let figures : AreFiguresSound (places K) (meant K M) (tableBit (K .words) (M .lent .pairs)) (M .rec .chain) (M .rec .count) =
     sound-figures-iff (places K) (meant K M) (tableBit (K .words) (M .lent .pairs)) (M .rec .chain) (M .rec .count) .0 (passed .stored refl) in
     record {
@@ -204,6 +204,7 @@ represents K M free t =
       chain = t .chain;
       pairs = λ u v l m. t .pairs u v;
       count = figures .counted;
+      yards = λ c l. refl;
     }
 
 pub batch-demand2 : (K : Shape) → IsShape K → BatchDemand2 K (batchCall K)

@@ -1,6 +1,7 @@
--- OPENINGS IN A BATCH on lent memory, whole: the answer and every place that the call leaves. It is written by the opening call itself
--- (`updateCall`): each accepted notice is opened on what the one before left, so that scratch is as the last accepted opening left it. Which notices
--- are accepted, in which order, and which lines are left over, is `batchOf` of the network. The code's contract is one equation with `batchCall`.
+-- OPENINGS IN A BATCH on lent memory, whole, of depots that deliver and of yards: the answer and every place that the call leaves. It is written by the
+-- opening call itself (`updateCall`): each accepted notice is opened on what the one before left, so that scratch is as the last accepted opening left
+-- it. Which notices are accepted, in which order, and which lines are left over, is `batchOf` of the network. The code's contract is one equation with
+-- `batchCall`.
 -- Assumes nothing.
 use mathlib.Core.Bool.{true, _&&_}
 use mathlib.Core.List.{List, [], _∷_, _++_}

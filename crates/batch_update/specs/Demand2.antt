@@ -1,4 +1,5 @@
--- DEMAND 2 (rule 11.2) FOR BATCHES, on any lent memory: on true stored figures the map afterwards is that of the network after the batch.
+-- DEMAND 2 (rule 11.2) FOR BATCHES, on any lent memory: on true stored figures the map afterwards, the record's yard set included, is that of the network
+-- after the batch.
 -- Assumes nothing.
 use mathlib.Core.Path.{_≡_}
 use mathlib.Core.List.{List, List·Memᴰ}

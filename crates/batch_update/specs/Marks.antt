@@ -1,5 +1,6 @@
 -- THE MARKS OF A BATCH are those of its last accepted opening, as if that were the call: scratch is what it left, and marks, number of searches, bound
--- and cover hold of it. A batch that accepts nothing leaves all as it was lent. `batch-marks` (proofs/Marks) proves it of `batchCall`.
+-- and the cover of delivering depots hold of it. A batch that accepts nothing leaves all as it was lent. `batch-marks` (proofs/Marks) proves it of
+-- `batchCall`.
 -- Assumes nothing.
 use mathlib.Core.Path.{_≡_}
 use mathlib.Core.List.{List, [], _∷_}

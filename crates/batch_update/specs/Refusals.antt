@@ -23,11 +23,11 @@ use Rattle.batch_update.specs.declared.BatchAnswer.the-variants.{Opened,
 abbrev pub IsOverfull : List ℕ → Type 0
 IsOverfull input = batchLimit < length (linesOf input)
 
--- 12, bare: no depot is open
+-- 12, bare: no depot is open, no yard either
 abbrev pub IsBare : Network → Type 0
 IsBare G = ((u : ℕ) × T (G .isOpen u)) → ⊥
 
--- 9, garbled: some line does not read as a frame that opens something
+-- 9, garbled: some line does not read as a frame that opens a depot or a yard
 abbrev pub IsGarbled : List ℕ → Type 0
 IsGarbled input = (l : List ℕ) × List·Memᴰ l (linesOf input) × (T (isOpening l) → ⊥)
 

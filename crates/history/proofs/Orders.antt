@@ -8,13 +8,14 @@ use Prim.Native.Nat.{ℕ, zero, suc, _≤_, max, min}
 use native.Mathlib.Nat.{min-eq-left, min-eq-right, max-eq-left, max-eq-right}
 use native.Mathlib.Decide.{decLe}
 use native.Mathlib.Omega.{arith}
-use lib.Dec.{eqb}
+use lib.Dec.{T, eqb}
 use lib.ListN.{length}
+use borrow.Author.Tests.{eqb-true, eq-eqb}
 use Rattle.lists.specs.Lists.{range, filterb, anyb, memb}
-use Rattle.lists.proofs.Tests.{same-test}
+use Rattle.lists.proofs.Tests.{t→true, true→t, clash, and-true, and-intro, same-test}
 use Rattle.lists.proofs.Members.{any-intro, any-elim}
 use Rattle.graph.specs.Network.{Network}
-use Rattle.graph.specs.Opening.{withDepot}
+use Rattle.graph.specs.Opening.{Notice, emptyNetwork, withDepot}
 use Rattle.graph.specs.Updates.{Update, opens, joins, toldAs, applied}
 use Rattle.graph.specs.Linking.{addLink}
 use Rattle.graph.specs.Batch.{Entry, Batch, firstFit, without, batchEnd, orEnd, batchBy, batchOf}
@@ -55,7 +56,7 @@ or-turn a b c d e = ap (λ (x : Bool). x || e) (ap₂ _||_ (and-comm b c) (and-c
 
 link-turned : (G : Network) (a b : ℕ) → addLink G b a ≡ addLink G a b
 unfolding addLink
-link-turned G a b = network-path refl (λ c. refl) (λ u v. or-turn (eqb u a) (eqb u b) (eqb v a) (eqb v b) (G .linked u v))
+link-turned G a b = network-path refl (λ c. refl) (λ c. refl) (λ u v. or-turn (eqb u a) (eqb u b) (eqb v a) (eqb v b) (G .linked u v))
 
 told-applied : (G : Network) (u : Update) → applied G u ≡ applied G (toldAs u)
 unfolding applied toldAs
@@ -87,11 +88,15 @@ plain-added K G (f ∷ fs) =
     ∙ ap (λ (N : Network). addAll N rest) (ask-added k G (f .ask))
     ∙ sym (added-append G (askAccepted k G (f .ask)) rest)
 
--- ---- its codes and links are those of any of them
+-- ---- its codes, yards and links are those of any of them
 
 newDepot : ℕ → Update → Bool
 newDepot v (opens o) = eqb v (o .code)
 newDepot v (joins a b) = false
+
+newYard : ℕ → Update → Bool
+newYard v (opens o) = o .yard && eqb v (o .code)
+newYard v (joins a b) = false
 
 newLink : ℕ → ℕ → Update → Bool
 newLink u v (opens o) = (eqb u (o .code) && memb v (o .neighbours)) || (eqb v (o .code) && memb u (o .neighbours))
@@ -113,6 +118,12 @@ added-open G [] v = or-false (G .isOpen v)
 added-open G (opens o ∷ os) v = added-open (applied G (opens o)) os v ∙ or-swap (eqb v (o .code)) (G .isOpen v) (anyb (newDepot v) os)
 added-open G (joins a b ∷ os) v = added-open (applied G (joins a b)) os v
 
+added-yards : (G : Network) (os : List Update) (v : ℕ) → addAll G os .isYard v ≡ (G .isYard v || anyb (newYard v) os)
+unfolding addAll applied withDepot addLink anyb newYard
+added-yards G [] v = or-false (G .isYard v)
+added-yards G (opens o ∷ os) v = added-yards (applied G (opens o)) os v ∙ or-swap (o .yard && eqb v (o .code)) (G .isYard v) (anyb (newYard v) os)
+added-yards G (joins a b ∷ os) v = added-yards (applied G (joins a b)) os v
+
 added-linked : (G : Network) (os : List Update) (u v : ℕ) → addAll G os .linked u v ≡ (G .linked u v || anyb (newLink u v) os)
 unfolding addAll applied withDepot addLink anyb newLink
 added-linked G [] u v = or-false (G .linked u v)
@@ -129,6 +140,32 @@ any-same p os qs h =
     (λ e. let x = any-elim p os e in any-intro p qs (h (x .0) .0 (x .1)) (x .2))
     (λ e. let x = any-elim p qs e in any-intro p os (h (x .0) .1 (x .1)) (x .2))
 
+-- ---- THE YARDS are the codes that were accepted as such
+
+pub plain-yards : (K : Shape) (fs : List Feed) (c : ℕ)
+    → T (plainRun K emptyNetwork fs .network .isYard c) ↔ ((o : Notice) × List·Memᴰ (opens o) (plainRun K emptyNetwork fs .accepted) × T (o .yard) × (o .code ≡ c))
+unfolding emptyNetwork newYard
+plain-yards K fs c = (λ t. found (any-elim (newYard c) os (sym is ∙ t→true _ t)), λ x. true→t (is ∙ any-intro (newYard c) os (x .1) (tells (x .0) (x .2) (x .3))))
+  where
+    os : List Update
+    os = plainRun K emptyNetwork fs .accepted
+
+    none-first : emptyNetwork .isYard c ≡ false
+    none-first = refl
+
+    is : plainRun K emptyNetwork fs .network .isYard c ≡ anyb (newYard c) os
+    is = ap (λ (N : Network). N .isYard c) (plain-added K emptyNetwork fs) ∙ added-yards emptyNetwork os c ∙ ap (λ (b : Bool). b || anyb (newYard c) os) none-first
+
+    tells : (o : Notice) → T (o .yard) → o .code ≡ c → newYard c (opens o) ≡ true
+    tells o y q = and-intro (t→true (o .yard) y) (eq-eqb c (o .code) (sym q))
+
+    found : (u : Update) × List·Memᴰ u os × (newYard c u ≡ true) → (o : Notice) × List·Memᴰ (opens o) os × T (o .yard) × (o .code ≡ c)
+    found x = by (x .0) (x .1) (x .2)
+      where
+        by : (u : Update) → List·Memᴰ u os → newYard c u ≡ true → (o : Notice) × List·Memᴰ (opens o) os × T (o .yard) × (o .code ≡ c)
+        by (opens o) m e = let p = and-true (o .yard) (eqb c (o .code)) e in (o, m, true→t (p .0), sym (eqb-true c (o .code) (p .1)))
+        by (joins a b) m e = absurd (clash e refl)
+
 -- ---- THE ORDER TELLS NOTHING
 
 -- the depots of both lists stand in rising order, so that their list follows from which are open
@@ -138,6 +175,7 @@ order-free K G fs gs f g h =
     network-path
     (f .depots ∙ ap (λ (p : ℕ → Bool). filterb p (range (places K))) (fun-ext same-open) ∙ sym (g .depots))
     same-open
+    same-yards
     same-linked
   where
     os : List Update
@@ -151,6 +189,12 @@ order-free K G fs gs f g h =
         ap (λ (N : Network). N .isOpen v) (plain-added K G fs)
         ∙ added-open G os v ∙ ap (λ (b : Bool). G .isOpen v || b) (any-same (newDepot v) os qs h) ∙ sym (added-open G qs v)
         ∙ ap (λ (N : Network). N .isOpen v) (sym (plain-added K G gs))
+
+    same-yards : (v : ℕ) → plainRun K G fs .network .isYard v ≡ plainRun K G gs .network .isYard v
+    same-yards v =
+        ap (λ (N : Network). N .isYard v) (plain-added K G fs)
+        ∙ added-yards G os v ∙ ap (λ (b : Bool). G .isYard v || b) (any-same (newYard v) os qs h) ∙ sym (added-yards G qs v)
+        ∙ ap (λ (N : Network). N .isYard v) (sym (plain-added K G gs))
 
     same-linked : (u v : ℕ) → plainRun K G fs .network .linked u v ≡ plainRun K G gs .network .linked u v
     same-linked u v =

@@ -1,13 +1,13 @@
 -- ONE CALL on the memory of a network: it is refused as the plain list refuses it, answers as the list answers, and leaves the memory of the
 -- network that the list then holds. Assumes nothing.
 use mathlib.Core.Path.{_≡_, refl, sym, ap, ap₂, _∙_, subst}
-use mathlib.Core.Bool.{true, not, _&&_}
+use mathlib.Core.Bool.{Bool, true, not, _&&_}
 use mathlib.Core.List.{List, _∷_}
 use Prim.Native.Nat.{ℕ, zero, suc, _≤_}
 use lib.Dec.{leb}
 use lib.ListN.{length}
 use Rattle.outcome.specs.Numbers.{shortBuffer}
-use Rattle.lists.specs.Lists.{firstOf}
+use Rattle.lists.specs.Lists.{overwrite, firstOf}
 use Rattle.lists.proofs.Tests.{and-true}
 use Rattle.lists.proofs.Buffers.{overwrite-all}
 use Rattle.lists.proofs.Fills.{overwrite-take}
@@ -87,10 +87,15 @@ module _ (K : Shape) (shape : IsShape K) (G : Network) (held : IsHeld K G) (c : 
       memory-path
       (lent-whole (tableWords K) (c .links) (M .links) (links-length K G) (tables-whole long .0))
       (lent-whole (tableWords K) (c .pairs) (M .pairs) (pairs-length K G) (tables-whole long .1))
-      (record-path (sym (overwrite-all (encodeRow (K .words) (G .isOpen)) (encodeRow (K .words) (G .isOpen)) refl)) refl refl refl)
+      (record-path (sym (overwrite-all (encodeRow (K .words) (G .isOpen)) (encodeRow (K .words) (G .isOpen)) refl)) refl refl refl
+      (sym (overwrite-all (encodeRow (K .words) (G .isYard)) (encodeRow (K .words) (G .isYard)) refl)))
 
   pub lent-says : longEnough K (lentSizes K c) ≡ true → Says K G (M .rec) L (B .pairs)
   lent-says long = subst (λ (A : Memory). Says K G (A .rec) (A .links) (A .pairs)) (sym (lent-written long)) (written-says K G held (mapIn N))
+
+  -- a row written over a row
+  row-over : (new old : ℕ → Bool) → overwrite (encodeRow (K .words) new) (encodeRow (K .words) old) ≡ encodeRow (K .words) new
+  row-over new old = overwrite-all (encodeRow (K .words) new) (encodeRow (K .words) old) (encode-row-length (K .words) new ∙ sym (encode-row-length (K .words) old))
 
   -- a new map stands where the old one stood
   restored-written : longEnough K (lentSizes K c) ≡ true → (H : Network) → restoredMap M c (writeMap K H (mapIn N)) ≡ memoryFor K H
@@ -100,7 +105,7 @@ module _ (K : Shape) (shape : IsShape K) (G : Network) (held : IsHeld K G) (c : 
       memory-path
       (restored-new (tableWords K) (c .links) (M .links) (encodeTable (K .words) (H .linked)) (links-length K G) (encode-table-length (K .words) (H .linked)) (whole .0))
       (restored-new (tableWords K) (c .pairs) (M .pairs) (encodeTable (K .words) (farthest H)) (pairs-length K G) (encode-table-length (K .words) (farthest H)) (whole .1))
-      (record-path (overwrite-all (encodeRow (K .words) (H .isOpen)) (encodeRow (K .words) (G .isOpen)) (encode-row-length (K .words) (H .isOpen) ∙ sym (encode-row-length (K .words) (G .isOpen)))) refl refl refl)
+      (record-path (row-over (H .isOpen) (G .isOpen)) refl refl refl (row-over (H .isYard) (G .isYard)))
 
   -- what a refused call leaves, the map as it was lent, comes back
   same-memory : memoryAfter M c N ≡ memoryFor K G

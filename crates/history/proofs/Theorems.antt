@@ -1,8 +1,12 @@
 -- DEMAND 3: the theorem. Assumes nothing.
 use mathlib.Core.Path.{_≡_, refl, sym, ap, _∙_, subst}
-use mathlib.Core.List.{List, [], _∷_, _++_, Memᴰ·append-left, Memᴰ·append-right, List·Memᴰ·head}
+use mathlib.Core.Logic.{_↔_}
+use mathlib.Core.Bool.{Bool}
+use mathlib.Core.List.{List, [], _∷_, _++_, List·Memᴰ, Memᴰ·append-left, Memᴰ·append-right, List·Memᴰ·head}
+use lib.Dec.{T}
 use Rattle.graph.specs.Network.{Network}
-use Rattle.graph.specs.Opening.{emptyNetwork}
+use Rattle.graph.specs.Opening.{Notice, emptyNetwork}
+use Rattle.graph.specs.Updates.{opens}
 use Rattle.graph.proofs.Theorems.{diameter-is}
 use Rattle.map.specs.Memory.{Shape, IsShape, base}
 use Rattle.map.proofs.Theorems.{base-shape}
@@ -15,7 +19,7 @@ use Rattle.batch_update.specs.Marks.{IsLeftBy}
 use Rattle.history.specs.History.{Call, lentTo, Program, rulesProgram, callLeft, runMemory, runAnswers, feedsOf}
 use Rattle.history.specs.Demand3.{OpensCodes, AreCalls, memoryAfterAll, plainAfterAll, lastUpdate, LeavesMarks, Demand3}
 use Rattle.history.proofs.Runs.{fed-snoc, call-marked, IsRun, run}
-use Rattle.history.proofs.Orders.{order-free}
+use Rattle.history.proofs.Orders.{plain-yards, order-free}
 
 -- ---- DEMAND 3
 
@@ -52,6 +56,10 @@ demand3 K shape = record {
   answers = λ cs calls. ap (λ (M : Memory). runAnswers (rulesProgram K) M cs) (empty-memory K shape) ∙ all-run K shape cs calls .answers;
   published = λ cs calls. diameter-is (plainAfterAll K cs .network) (all-run K shape cs calls .isHeld .net);
   figures = end-represents K shape;
+  yards = λ cs calls c l.
+      subst (λ (b : Bool). T b ↔ ((o : Notice) × List·Memᴰ (opens o) (plainAfterAll K cs .accepted) × T (o .yard) × (o .code ≡ c)))
+      (sym (end-represents K shape cs calls .yards c l))
+      (plain-yards K (feedsOf K cs) c);
   marks = last-marked K shape;
   order = λ cs ds c d h.
       memory-is K shape cs c

@@ -6,13 +6,15 @@ use mathlib.Core.Path.{_≡_}
 use mathlib.Core.Logic.{_↔_}
 use mathlib.Core.List.{List, [], _∷_, _++_, List·Memᴰ}
 use mathlib.Core.Option.{Option, none, some}
-use Prim.Native.Nat.{ℕ, zero, suc}
+use Prim.Native.Nat.{ℕ, zero, suc, _<_}
+use lib.Dec.{T}
 use lib.ListN.{length}
 use Rattle.graph.specs.Network.{IsDiameter, delivers}
 use Rattle.graph.specs.Chart.{diameter}
-use Rattle.graph.specs.Opening.{emptyNetwork}
-use Rattle.graph.specs.Updates.{Update}
-use Rattle.map.specs.Memory.{Shape}
+use Rattle.graph.specs.Opening.{Notice, emptyNetwork}
+use Rattle.graph.specs.Updates.{Update, opens}
+use Rattle.rows.specs.Rows.{rowBit}
+use Rattle.map.specs.Memory.{Shape, places}
 use Rattle.map.specs.Room.{sizesOf}
 use Rattle.update.specs.UpdateCall.{IsWithin}
 use Rattle.update.specs.Memory.{Memory, emptyMemory}
@@ -47,8 +49,8 @@ unfoldable pub lastUpdate : Shape → LentMemory → List ℕ → Ask → Option
 lastUpdate K N left (update u) = some (record { memory = N; update = u })
 lastUpdate K N left (batch lines) = lastOfBatch (batchRefusal K (N .rec) (N .links) (N .lent .pairs) (sizesOf (N .links) (N .lent)) (length left) lines) K N lines
 
--- the call c leaves, of the memory M, the marks of its last update (`IsLeftBy`): marks, number of searches, and after a shrink the cover of what it did
--- not search; the memory as it was lent where there is none
+-- the call c leaves, of the memory M, the marks of its last update (`IsLeftBy`): marks, number of searches, and after a shrink the cover of every
+-- delivering depot that it did not search; the memory as it was lent where there is none
 abbrev pub LeavesMarks : Shape → Program → List Call → Memory → Call → Type 0
 LeavesMarks K P cs M c =
     let N = lentTo M (c .lending) in
@@ -58,10 +60,13 @@ pub record Demand3 (K : Shape) (P : Program) : Type 0 where
   -- (A) each answer is the plain list's, whose longest chain is the published diameter
   pub answers : (cs : List Call) → AreCalls K cs → runAnswers P (emptyMemory K) cs ≡ plainAfterAll K cs .answers
   pub published : (cs : List Call) → AreCalls K cs → IsDiameter (plainAfterAll K cs .network) (delivers (plainAfterAll K cs .network)) (diameter (plainAfterAll K cs .network))
-  -- (B) the map is that of the network of what was accepted
+  -- (B) the map, the record's yard set included, is that of the network of what was accepted; the yard set has the codes that were accepted as yards
   pub figures : (cs : List Call) → AreCalls K cs → Represents K (memoryAfterAll K P cs) (plainAfterAll K cs .network)
+  pub yards : (cs : List Call) → AreCalls K cs → (c : ℕ) → c < places K
+      → T (rowBit (K .words) (memoryAfterAll K P cs .rec .yards) c) ↔ ((o : Notice) × List·Memᴰ (opens o) (plainAfterAll K cs .accepted) × T (o .yard) × (o .code ≡ c))
   -- (C) the marks of the last call
   pub marks : (cs : List Call) (c : Call) → AreCalls K (cs ++ (c ∷ [])) → LeavesMarks K P cs (memoryAfterAll K P cs) c
-  -- (D) arrival order: with the same accepted, two lists leave the same record, link table and pair table
+  -- (D) arrival order: with the same accepted, each opening with whether it is a yard's, two lists leave the same record, its yard set included, and the same
+  -- link table and pair table
   pub order : (cs ds : List Call) → AreCalls K cs → AreCalls K ds → ((o : Update) → List·Memᴰ o (plainAfterAll K cs .accepted) ↔ List·Memᴰ o (plainAfterAll K ds .accepted))
       → memoryAfterAll K P cs ≡ memoryAfterAll K P ds

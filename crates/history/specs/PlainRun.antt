@@ -1,4 +1,5 @@
--- THE PLAIN LIST (rules 9.1 to 9.3, 14.6) over a whole list of calls. It knows no words, no tables and no answers. Assumes nothing.
+-- THE PLAIN LIST (rules 9.1 to 9.3, 14.6) over a whole list of calls. It is fed which openings are yards, which is part of each notice, and keeps their set
+-- with the open codes and the links. It knows no words, no tables and no answers. Assumes nothing.
 use mathlib.Core.Bool.{Bool, not, _&&_}
 use mathlib.Core.List.{List, [], _∷_, _++_}
 use Prim.Native.Nat.{ℕ, zero, suc}

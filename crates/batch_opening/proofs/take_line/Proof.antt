@@ -30,8 +30,8 @@ pub take-line-spec : {M : Type 1} → statement M
 take-line-spec =
     tie.close
     (tie.spec
-    (λ c. search needs) (λ c. search needs) (λ c. search needs)  -- shared-slice-read-code, sub-open-sound, part-open-sound-start
-    (λ c. search needs) (λ c. search needs)  -- part-open-sound-end, open-sound-requires
+    (λ c. search needs) (λ c. search needs) (λ c. search needs)  -- shared-slice-read-yard, shared-slice-read-code, sub-open-sound
+    (λ c. search needs) (λ c. search needs) (λ c. search needs)  -- part-open-sound-start, part-open-sound-end, open-sound-requires
     with-bit-requires
     (λ c. search needs) (λ c. search needs) (λ c. search needs) (λ c. search needs)  -- same-length, same-length-2, same-length-3, same-length-4
     (λ c. search needs) (λ c. search needs) (λ c. search needs)  -- same-length-5, same-length-6, same-length-7
