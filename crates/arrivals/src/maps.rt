@@ -42,6 +42,7 @@ fn open(m: Map, code: u8, neighbours: &[u8]) -> Taken {
         &mut skips,
         &mut even,
         &mut odd,
+        false,
         code,
         neighbours,
     );

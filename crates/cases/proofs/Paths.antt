@@ -49,6 +49,11 @@ open-by : (k u : ℕ) → u < k → T (path k .isOpen u)
 unfolding path
 open-by k u l = true→t (lt-ltb u k l)
 
+-- none of them is a yard
+yardless : (k u : ℕ) → T (path k .isYard u) → ⊥
+unfolding path
+yardless k u y = y
+
 -- its depots are 0 to k - 1
 listed-is : (k u : ℕ) → path k .isOpen u ≡ memb u (path k .depots)
 unfolding path
@@ -76,6 +81,7 @@ path-sound : (k : ℕ) → IsSound (path k)
 path-sound k = record {
   listed = listed-is k;
   once = once-is k;
+  yards = λ u y. absurd (yardless k u y);
   ends = λ u v h. open-by k v (linked-is k u v h .1);
   loopless = λ u v h q. differ u v q (linked-is k u v h .2);
   symmetric = λ u v h. let x = linked-is k u v h in linked-by k v u (x .1) (x .0) (turn u v (x .2));

@@ -8,7 +8,7 @@ use lib.ListN.{length, take}
 use Rattle.lists.specs.Lists.{range, countb, mapl, overwrite}
 use Rattle.lists.proofs.Tests.{t→true, true→t}
 use Rattle.lists.proofs.Fills.{length-fill, overwrite-take}
-use Rattle.rows.specs.Rows.{encodeTable}
+use Rattle.rows.specs.Rows.{rowBit, encodeTable}
 use Rattle.graph.specs.Network.{Network}
 use Rattle.graph.specs.Distance.{vertices, unreached, connected}
 use Rattle.graph.specs.Chart.{chart, countPairs}
@@ -16,7 +16,7 @@ use Rattle.graph.specs.Rounds.{State, markOf, boundOf, reckon}
 use Rattle.graph.specs.Cases.{pairList, path}
 use Rattle.graph.proofs.Connected.{connected-iff}
 use Rattle.graph.proofs.Theorems.{reckoning-correct}
-use Rattle.map.specs.Memory.{base, mapNetwork}
+use Rattle.map.specs.Memory.{base, networkOf, mapNetwork}
 use Rattle.checks.specs.Sound.{soundLinks}
 use Rattle.map.specs.declared.Record.{Record}
 use Rattle.checks.proofs.Theorems.{sound-links-iff}
@@ -31,6 +31,7 @@ use Rattle.cases.specs.Results.{pairsIn, IsMapOf, Result, resultOf}
 use Rattle.cases.proofs.Listings.{pairs-open, count-open}
 use Rattle.cases.proofs.Paths.{path-held}
 use Rattle.graph.proofs.Delivers.{delivers-open}
+use Rattle.graph.proofs.Yards.{yards-connected}
 
 -- the result of the path's own reckoning
 unfoldable pub pathResult : ℕ → ℕ → Result
@@ -63,7 +64,7 @@ module _ (k number : ℕ) (low : k ≤ 256) (counts : number ≡ countb (path k 
 
   links-pass : soundLinks 256 (mapNetwork base rec links) (rec .number) ≡ true
   links-pass =
-      sound-links-iff 4 (rec .members) links (rec .number) .1
+      sound-links-iff 4 (rec .members) (rec .yards) links (rec .number) .1
       (rw (lent .network, lent .counted) (record { isSound = held .net .sound; counted = counts }))
 
   connected-pass : connected (mapNetwork base rec links) ≡ true
@@ -71,7 +72,9 @@ module _ (k number : ℕ) (low : k ≤ 256) (counts : number ≡ countb (path k 
 
   accepts : reckonRefusal base rec links (sizesOf links B) ≡ 0
   unfolding reckonRefusal
-  accepts = sym (refused-never base rec links [] false (lent .long) links-pass refl connected-pass)
+  accepts =
+      sym (refused-never base rec links [] false (lent .long) links-pass refl
+      (sym (yards-connected (rowBit 4 (rec .yards)) (networkOf 4 (rec .members) links)) ∙ connected-pass))
 
   -- ---- what it leaves
 
@@ -81,7 +84,7 @@ module _ (k number : ℕ) (low : k ≤ 256) (counts : number ≡ countb (path k 
       record {
         reckoned = record {
           answer = Searches (length (R .references));
-          after = record { members = rec .members; number = rec .number; chain = R .candidate; count = countPairs (range 256) (R .pairs) };
+          after = record { members = rec .members; number = rec .number; chain = R .candidate; count = countPairs (range 256) (R .pairs); yards = rec .yards };
         };
         lent = roundsLeave base G R B;
       }

@@ -17,7 +17,7 @@ use Rattle.graph.specs.Rounds.{reckon}
 use Rattle.graph.specs.Opening.{emptyNetwork}
 use Rattle.graph.specs.Updates.{Update, opens, joins}
 use Rattle.graph.specs.Cases as Graph
-use Rattle.map.specs.Memory.{base, networkOf}
+use Rattle.map.specs.Memory.{base, networkOf, yardNetwork, mapNetwork}
 use Rattle.map.specs.Empty.{emptyRefusal, emptyGiven, emptyCall}
 use Rattle.map.specs.declared.Record.{Record}
 use Rattle.map.specs.declared.Emptying.the-variants.{Done}
@@ -62,7 +62,9 @@ counted = (refl, refl, refl)
 
 -- ---- memory that means them
 
-path-written : (k : ℕ) → k ≤ 256 → (members links : List ℕ) → networkOf 4 (overwrite (encodeRow 4 (Graph.path k .isOpen)) members) (overwrite (encodeTable 4 (Graph.path k .linked)) links) ≡ Graph.path k
+path-written : (k : ℕ) → k ≤ 256 → (members yards links : List ℕ)
+    → yardNetwork 4 (overwrite (encodeRow 4 (Graph.path k .isOpen)) members) (overwrite (encodeRow 4 (Graph.path k .isYard)) yards) (overwrite (encodeTable 4 (Graph.path k .linked)) links)
+    ≡ Graph.path k
 path-written k low = network-read base (Graph.path k) (path-held k low)
 
 module _ (rec : Record) (links pairs : List ℕ) (l : 1024 ≤ length links) (p : 1024 ≤ length pairs) where
@@ -70,13 +72,14 @@ module _ (rec : Record) (links pairs : List ℕ) (l : 1024 ≤ length links) (p 
   unfolding emptyCall emptyGiven emptyRefusal firstOf
   emptied-done = rw (le-leb 1024 (length links) l, le-leb 1024 (length pairs) p)
 
-  emptied-path : (networkOf 4 (emptyCall base rec links pairs .after .members) (emptyCall base rec links pairs .links) ≡ Graph.path 0) × (emptyCall base rec links pairs .after .number ≡ 0)
+  emptied-path : (mapNetwork base (emptyCall base rec links pairs .after) (emptyCall base rec links pairs .links) ≡ Graph.path 0) × (emptyCall base rec links pairs .after .number ≡ 0)
   unfolding networkOf Graph.path
   emptied-path =
       let e = emptied-is-empty base rec links pairs emptied-done in (
         network-path
             (filter-ext _ (λ c. false) (range 256) (λ c m. e .closed c) ∙ filter-none (range 256))
             (λ c. e .closed c ∙ sym (none c))
+            (λ c. e .yardless c)
             (λ u v. e .unlinked u v ∙ sym (ap (λ (b : Bool). b && ltb v 0 && (eqb (suc u) v || eqb u (suc v))) (none u))),
         e .number,
       )

@@ -3,7 +3,9 @@
 -- (proofs/Rules) says it of `updateCall base`.
 -- Assumes nothing.
 use mathlib.Core.Path.{_≡_}
+use mathlib.Core.Bool.{false}
 use mathlib.Core.List.{List, [], _∷_}
+use Rattle.graph.specs.Opening.{noticeOf}
 use Rattle.graph.specs.Updates.{Update, opens}
 use Rattle.graph.specs.Cases.{AnswerLine}
 use Rattle.map.specs.Memory.{base}
@@ -14,13 +16,13 @@ use Rattle.cases.specs.Results.{LentUpdate, answersOf, updatesOf, AllLon
 -- the path of six, then depot 6 beside 1 and 4
 abbrev pub shrinkLines : List Update
 shrinkLines =
-    opens (record { code = 0; neighbours = [] })
-    ∷ opens (record { code = 1; neighbours = 0 ∷ [] })
-    ∷ opens (record { code = 2; neighbours = 1 ∷ [] })
-    ∷ opens (record { code = 3; neighbours = 2 ∷ [] })
-    ∷ opens (record { code = 4; neighbours = 3 ∷ [] })
-    ∷ opens (record { code = 5; neighbours = 4 ∷ [] })
-    ∷ opens (record { code = 6; neighbours = 1 ∷ 4 ∷ [] })
+    opens (noticeOf false 0 [])
+    ∷ opens (noticeOf false 1 (0 ∷ []))
+    ∷ opens (noticeOf false 2 (1 ∷ []))
+    ∷ opens (noticeOf false 3 (2 ∷ []))
+    ∷ opens (noticeOf false 4 (3 ∷ []))
+    ∷ opens (noticeOf false 5 (4 ∷ []))
+    ∷ opens (noticeOf false 6 (1 ∷ 4 ∷ []))
     ∷ []
 
 -- letter (75 K, 71 G, 83 S) and refusal, figures, searches; and the pairs

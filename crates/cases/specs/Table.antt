@@ -9,7 +9,7 @@ use lib.ListN.{length}
 use Rattle.lists.specs.Lists.{overwrite}
 use Rattle.rows.specs.Rows.{encodeRow, encodeTable}
 use Rattle.graph.specs.Cases.{path, AnswerLine, sevenLines}
-use Rattle.map.specs.Memory.{base, places, tableWords, networkOf}
+use Rattle.map.specs.Memory.{base, places, tableWords, yardNetwork, mapNetwork}
 use Rattle.map.specs.Empty.{EmptyLeft}
 use Rattle.map.specs.declared.Record.{Record}
 use Rattle.map.specs.declared.Emptying.the-variants.{Done}
@@ -93,11 +93,13 @@ pub record Cases (emptying : Record → List ℕ → List ℕ → EmptyLeft) (re
   pub single : (rec : Record) (links : List ℕ) (B : Lent) → IsMapOf (path 1) 1 rec links B → resultOf reckoning rec links B ≡ singleResult
   pub seven : (rec : Record) (links : List ℕ) (B : Lent) → IsMapOf (path 7) 7 rec links B → resultOf reckoning rec links B ≡ sevenResult
   -- there is such memory: a path's words over whatever stood there; for the empty map, what an emptying leaves
-  pub written : (k : ℕ) → k ≤ places base → (members links : List ℕ)
-      → networkOf (base .words) (overwrite (encodeRow (base .words) (path k .isOpen)) members) (overwrite (encodeTable (base .words) (path k .linked)) links) ≡ path k
+  pub written : (k : ℕ) → k ≤ places base → (members yards links : List ℕ)
+      → yardNetwork (base .words) (overwrite (encodeRow (base .words) (path k .isOpen)) members)
+      (overwrite (encodeRow (base .words) (path k .isYard)) yards) (overwrite (encodeTable (base .words) (path k .linked)) links)
+      ≡ path k
   pub emptied : (rec : Record) (links pairs : List ℕ) → tableWords base ≤ length links → tableWords base ≤ length pairs
       → (emptying rec links pairs .answer ≡ Done)
-      × (networkOf (base .words) (emptying rec links pairs .after .members) (emptying rec links pairs .links) ≡ path 0)
+      × (mapNetwork base (emptying rec links pairs .after) (emptying rec links pairs .links) ≡ path 0)
       × (emptying rec links pairs .after .number ≡ 0)
   -- opened from the empty map, each call lent the map as it stands after the one before, and any other memory that is long enough
   pub stream : (cs : List LentUpdate) → updatesOf cs ≡ sevenLines → AllLong cs → answersOf opening (emptyMemory base) cs ≡ sevenAnswers

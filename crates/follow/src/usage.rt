@@ -4,9 +4,9 @@ pub fn print() {
     io::write_all(1, b"Usage: follow < NOTICES > REPORTS\n\n");
     io::write_all(
         1,
-        b"Follows notices of depots that open and of links between them, and keeps the longest\n",
+        b"Follows notices of depots and yards that open and of links between them, and keeps the\n",
     );
-    io::write_all(1, b"chain of handovers.\n\n");
+    io::write_all(1, b"longest chain of handovers.\n\n");
     io::write_all(
         1,
         b"In: a notice a line, in upper-case hexadecimal digits without spaces. An opening is 01,\n",
@@ -17,9 +17,13 @@ pub fn print() {
     );
     io::write_all(
         1,
-        b"opens 5 beside 0, 2 and 4. A link is 02 and two codes: 020105 links 1 and 5, which\n",
+        b"opens 5 beside 0, 2 and 4. With 04 for 01 it opens a transit yard: chains run through\n",
     );
-    io::write_all(1, b"are open. At most 1,000,000 lines are read.\n\n");
+    io::write_all(
+        1,
+        b"it, and none ends there. A link is 02 and two codes: 020105 links 1 and 5, which are\n",
+    );
+    io::write_all(1, b"open. At most 1,000,000 lines are read.\n\n");
     io::write_all(
         1,
         b"Out: a report a line: line number; what happened; depots open; longest chain;\n",

@@ -45,7 +45,7 @@ pub fn begin(links: &mut [u64], pairs: &mut [u64]) -> Progress
 
 // ---- a line's answer
 
-// Answers a frame by its kind: the opening of a depot, or the link of two.
+// Answers a frame by its kind: the opening of a depot or a yard, or the link of two depots.
 fn answer_frame(
     rec: Record,
     links: &mut [u64],
@@ -64,8 +64,10 @@ fn answer_frame(
         let after = lentAfter pairs hops bounds skips even odd in
         ⌜ updateLeft r (now (links .exit)) after ≡ updateCall base rec (now (links .entry)) before (updateIn (now (frame .entry))) ⌝ }
 {
+    let kind = frame[0];
     let code = frame[1];
-    if frame[0] == notice::OPENING {
+    if notice::opens_depot(kind) {
+        let yard = kind == notice::YARD;
         return opening::open_sound(
             rec,
             links,
@@ -75,6 +77,7 @@ fn answer_frame(
             skips,
             even,
             odd,
+            yard,
             code,
             &frame[3..],
         );

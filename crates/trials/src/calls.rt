@@ -69,6 +69,7 @@ fn open_with(m: Lent, odd: &mut [u64], code: u8, near: &[u8]) -> Answer {
         &mut skips,
         &mut even,
         odd,
+        false,
         code,
         near,
     );
@@ -151,7 +152,7 @@ pub fn reckon(m: Lent) -> Answer {
     }
 }
 
-// A search of the code s.
+// A search of the code s. Without yards its depth is the eccentricity: else its word is 98.
 pub fn search(m: Lent, s: u8) -> Answer {
     let mut left = m;
     let links = m.links;
@@ -163,7 +164,7 @@ pub fn search(m: Lent, s: u8) -> Answer {
     left.even = even;
     left.odd = odd;
     match found {
-        Found::Reached(e) => answered(b'D', e, left),
+        Found::Reached(e, depth) => answered(if e == depth { b'D' } else { 98 }, e, left),
         Found::Refused(word) => answered(word, 0, left),
     }
 }
@@ -186,9 +187,14 @@ fn same_map(a: Lent, b: Lent) -> bool {
     let old_pairs = b.pairs;
     let old = b.rec;
     let old_members = old.members;
+    let yards = rec.yards;
+    let old_yards = old.yards;
     let linked = same_words(&links, &old_links, map::TABLE);
     let paired = same_words(&pairs, &old_pairs, map::TABLE);
-    let open = same_row(&members, &old_members);
+    let open = both(
+        same_row(&members, &old_members),
+        same_row(&yards, &old_yards),
+    );
     let figures = both(rec.chain == old.chain, rec.count == old.count);
     both(
         both(linked, paired),
@@ -245,6 +251,7 @@ fn hands_back(m: Lent, s: u8, sheet: &Sheet, row: usize, e: u16) -> bool {
     let mut odd = m.odd;
     let mut refusal = 99;
     let mut ecc = 0;
+    let mut depth = 0;
     let rows = search::search_rows(
         m.rec,
         &links,
@@ -253,10 +260,11 @@ fn hands_back(m: Lent, s: u8, sheet: &Sheet, row: usize, e: u16) -> bool {
         &mut odd,
         &mut refusal,
         &mut ecc,
+        &mut depth,
         s,
     );
     let farthest = plain_search::tables::layer_is(rows[0], sheet, row, e);
-    both(farthest, both(refusal == 0, ecc == e))
+    both(farthest, both(refusal == 0, both(ecc == e, depth == e)))
 }
 
 // Whether the last layer, read off the rows of a search, is that of the plain search.
@@ -286,15 +294,20 @@ pub fn is_found(got: Answer, s: u8, sheet: &Sheet) -> bool {
     both(both(reached, hopped), both(last, handed))
 }
 
-// Whether a map is that of the plain list, with the figures and farthest pairs of the plain search: every bit of the tables and the open set.
+// Whether a map is that of the plain list, with the figures and farthest pairs of the plain search: every bit of the tables and the open set, and no yard.
 pub fn is_true(m: Lent, sheet: &Sheet) -> bool {
     let links = m.links;
     let pairs = m.pairs;
     let rec = m.rec;
     let members = rec.members;
+    let yards = rec.yards;
+    let none = [0u64; map::WORDS];
     let linked = bits_are(&links, sheet, plain_search::LINKS, 65536);
     let paired = bits_are(&pairs, sheet, plain_search::PAIRS, 65536);
-    let open = bits_are(&members, sheet, plain_search::OPEN, 256);
+    let open = both(
+        bits_are(&members, sheet, plain_search::OPEN, 256),
+        same_row(&yards, &none),
+    );
     let number = rec.number == read(sheet, plain_search::FIGURES, plain_search::NUMBER);
     let chain = rec.chain == read(sheet, plain_search::FIGURES, plain_search::CHAIN);
     let count = rec.count == read(sheet, plain_search::FIGURES, plain_search::COUNT) as u32;

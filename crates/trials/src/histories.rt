@@ -31,6 +31,7 @@ fn empty() -> Lent {
         number: 9,
         chain: 9,
         count: 9,
+        yards: [9u64; map::WORDS],
     };
     let emptied = map::empty_map(spent, &mut links, &mut pairs);
     let rec = emptied.after;

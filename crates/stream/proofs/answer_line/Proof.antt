@@ -81,8 +81,8 @@ answer-line-spec =
     array-share-prefix-frame
     slice-aggregate-answer-frame
     answer-frame-requires
-    (λ c. search needs) (λ c. search needs)  -- enum-known-got-2, refused-requires
-    (λ c. search needs) (λ c. search needs) (λ c. search needs) (λ c. search needs)  -- same-length, same-length-2, same-length-3, same-length-4
-    (λ c. search needs) (λ c. search needs) (λ c. search needs)  -- same-length-5, same-length-6, same-length-7
+    (λ c. search needs) (λ c. search needs) (λ c. search needs) (λ c. search needs)  -- enum-known-got-2, refused-requires, same-length, same-length-2
+    (λ c. search needs) (λ c. search needs) (λ c. search needs) (λ c. search needs)  -- same-length-3, same-length-4, same-length-5, same-length-6
+    (λ c. search needs)  -- same-length-7
     returns
     returns-2)
