@@ -27,6 +27,7 @@ GROUPS = [
     ('reports on files', '', ['run-written', 'run-first']),
     ('the calls for C', 'c_maps c_updates c_streams', ['updated-words', 'batched-words']),
     ('the table of cases', '', ['cases-hold']),
+    ('what stands without yards', '', ['stands-as-before']),
 ]
 
 USE = re.compile(r'^\s*(?:ghost )?use (\S+?)(?:\.\{(.*)\}| as (\S+));?$')

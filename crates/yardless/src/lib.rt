@@ -1,0 +1,1 @@
+// Specifications and laws alone: what every call gave before there were yards (specs/Lib.antt).
