@@ -155,6 +155,45 @@ static void try_links(void)
     expect("no line of a batch", zorpedi_map_open_batch(&map, left, &count, line, sizeof line - 1) == ZORPEDI_GARBLED && count == 77);
 }
 
+/* A yard opens first; a depot, a yard and a depot behind it; a yard that is a shorter way. Each refusal leaves the number of searches. */
+static void try_yards(void)
+{
+    static const uint8_t line[] = "04070105\n";
+    const uint8_t one[] = {1}, two[] = {2}, three[] = {3}, both[] = {1, 4};
+    uint8_t frame[ZORPEDI_FRAME_SIZE], left[ZORPEDI_BATCH_SIZE], count = 77;
+    uint16_t searches = 77, eccentricity = 77, depth = 77, counts[ZORPEDI_CODES_SIZE];
+    uint64_t sum = 77, pairs = 77, quotient = 77, remainder = 77;
+    size_t length = 0, used = 0;
+    zorpedi_map_empty(&map);
+    zorpedi_opened opened = zorpedi_map_opened_yard(&map, 200, NULL, 0);
+    expect("a yard opens first", opened.answer == ZORPEDI_KEPT && opened.searches == 1);
+    expect("it is a yard", zorpedi_map_is_open(&map, 200) && zorpedi_map_is_yard(&map, 200) && !zorpedi_map_delivers(&map, 200));
+    expect("its place", map.record[ZORPEDI_YARDS + 3] == (uint64_t)1 << 8 && map.record[ZORPEDI_NUMBER] == 1);
+    zorpedi_map_empty(&map);
+    expect("no yard is left", map.record[ZORPEDI_YARDS + 3] == 0 && !zorpedi_map_is_yard(&map, 200));
+    zorpedi_map_opened(&map, 1, NULL, 0);
+    expect("taken", zorpedi_map_open_yard(&map, 1, NULL, 0, &searches) == ZORPEDI_TAKEN && searches == 77);
+    expect("lonely", zorpedi_map_open_yard(&map, 2, NULL, 0, &searches) == ZORPEDI_LONELY && searches == 77);
+    expect("unknown", zorpedi_map_open_yard(&map, 2, three, 1, &searches) == ZORPEDI_UNKNOWN && searches == 77);
+    expect("a refused yard by value", zorpedi_map_opened_yard(&map, 2, two, 1).searches == 0);
+    expect("a yard", zorpedi_map_open_yard(&map, 2, one, 1, &searches) == ZORPEDI_KEPT && searches == 1);
+    expect("and another", zorpedi_map_open_yard(&map, 3, two, 1, &searches) == ZORPEDI_KEPT);
+    expect("nobody to deliver to", map.record[ZORPEDI_CHAIN] == 0 && map.record[ZORPEDI_NUMBER] == 3);
+    expect("too few", zorpedi_map_summary(&map, counts, &sum, &pairs, &quotient, &remainder) == ZORPEDI_TOO_FEW && sum == 77);
+    expect("a search", zorpedi_map_search(&map, 1, &eccentricity, &depth) == ZORPEDI_DONE);
+    expect("its last layer is a yard", eccentricity == 0 && depth == 2 && zorpedi_row_has(zorpedi_map_last_layer(&map, depth), 3));
+    expect("a depot behind the yards", zorpedi_map_open(&map, 4, three, 1, &searches) == ZORPEDI_GREW);
+    expect("through them", map.record[ZORPEDI_CHAIN] == 3 && zorpedi_map_is_farthest(&map, 4, 1) && zorpedi_map_delivers(&map, 4));
+    expect("a shorter way", zorpedi_map_open_yard(&map, 5, both, 2, &searches) == ZORPEDI_SHRANK && searches == 5);
+    expect("by a yard", map.record[ZORPEDI_CHAIN] == 2 && map.record[ZORPEDI_PAIR_COUNT] == 1 && map.skips[5] == ZORPEDI_SEARCHED);
+    expect("a summary", zorpedi_map_summary(&map, counts, &sum, &pairs, &quotient, &remainder) == ZORPEDI_DONE);
+    expect("of two depots", sum == 2 && pairs == 1 && quotient == 2 && remainder == 0 && counts[2] == 2 && counts[1] == 0);
+    expect("its line", zorpedi_read_notice(frame, sizeof frame, &length, &used, line, sizeof line - 1) == ZORPEDI_DONE);
+    expect("a frame of four bytes", length == 4 && used == 9 && frame[0] == 4 && frame[1] == 7 && frame[2] == 1 && frame[3] == 5);
+    expect("a line of a batch", zorpedi_map_open_batch(&map, left, &count, line, sizeof line - 1) == ZORPEDI_DONE && count == 0);
+    expect("which opens a yard", zorpedi_map_is_yard(&map, 7) && map.record[ZORPEDI_NUMBER] == 6);
+}
+
 /* Whether the walk has each bit of the pair table once, in rising order, and then none. */
 static int walks_all(void)
 {
@@ -197,6 +236,7 @@ int main(void)
     try_summary();
     try_batches();
     try_links();
+    try_yards();
     try_openings();
     try_pairs();
     puts(differences == 0 ? "the helpers are as the header says" : "the helpers DIFFER from the header");

@@ -26,7 +26,7 @@ static void expect(const char *what, unsigned got, unsigned expected)
 
 int main(void)
 {
-    uint16_t searches = 0, eccentricity = 0;
+    uint16_t searches = 0, eccentricity = 0, depth = 0;
 
     zorpedi_map_empty(&map);
     zorpedi_map_open(&map, 0, NULL, 0, &searches);
@@ -47,11 +47,12 @@ int main(void)
     expect("farthest pairs", (unsigned)map.record[ZORPEDI_PAIR_COUNT], 1);
     expect("(0,6) is one", (unsigned)zorpedi_map_is_farthest(&map, 0, 6), 1);
 
-    expect("search refused", zorpedi_map_search(&map, 2, &eccentricity), ZORPEDI_DONE);
+    expect("search refused", zorpedi_map_search(&map, 2, &eccentricity, &depth), ZORPEDI_DONE);
     expect("eccentricity of 2", eccentricity, 4);
+    expect("depth of its last layer, there being no yard", depth, 4);
     expect("distance from 2 to 0", map.hops[0], 2);
-    expect("6 is in its last layer", (unsigned)zorpedi_row_has(zorpedi_map_last_layer(&map, eccentricity), 6), 1);
-    expect("search from a closed code refused", zorpedi_map_search(&map, 7, &eccentricity), ZORPEDI_ABSENT);
+    expect("6 is in its last layer", (unsigned)zorpedi_row_has(zorpedi_map_last_layer(&map, depth), 6), 1);
+    expect("search from a closed code refused", zorpedi_map_search(&map, 7, &eccentricity, &depth), ZORPEDI_ABSENT);
     expect("7 is open", (unsigned)zorpedi_map_is_open(&map, 7), 0);
 
     const uint8_t frame[] = {1, 5, 3, 0, 2, 4};

@@ -5,7 +5,7 @@ extern "C" {
     pub fn zorpedi_empty(record: *mut u64, _: usize, links: *mut u64, _: usize, pairs: *mut u64, _: usize) -> u8;
     pub fn zorpedi_search(
         record: *const u64, _: usize, links: *const u64, _: usize, hops: *mut u16, _: usize, even: *mut u64, _: usize,
-        odd: *mut u64, _: usize, eccentricity: *mut u16, code: u8,
+        odd: *mut u64, _: usize, eccentricity: *mut u16, depth: *mut u16, code: u8,
     ) -> u8;
     pub fn zorpedi_within(
         record: *const u64, _: usize, links: *const u64, _: usize, hops: *mut u16, _: usize, even: *mut u64, _: usize,
@@ -26,6 +26,11 @@ extern "C" {
         searches: *mut u16,
     ) -> u8;
     pub fn zorpedi_open(
+        record: *mut u64, _: usize, links: *mut u64, _: usize, pairs: *mut u64, _: usize, hops: *mut u16, _: usize,
+        bounds: *mut u16, _: usize, skips: *mut u16, _: usize, even: *mut u64, _: usize, odd: *mut u64, _: usize,
+        searches: *mut u16, code: u8, neighbours: *const u8, _: usize,
+    ) -> u8;
+    pub fn zorpedi_open_yard(
         record: *mut u64, _: usize, links: *mut u64, _: usize, pairs: *mut u64, _: usize, hops: *mut u16, _: usize,
         bounds: *mut u16, _: usize, skips: *mut u16, _: usize, even: *mut u64, _: usize, odd: *mut u64, _: usize,
         searches: *mut u16, code: u8, neighbours: *const u8, _: usize,

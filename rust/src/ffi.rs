@@ -23,7 +23,7 @@ pub fn empty(m: &mut Memory) -> u8 {
 
 pub fn search(m: &Memory, found: &mut Search, code: u8) -> u8 {
     let (r, l, h, e, o) = (&m.record, &m.links, &mut found.hops, &mut found.even, &mut found.odd);
-    // SAFETY: whole arrays of two structs, those that are written each borrowed once, and one number beside them.
+    // SAFETY: whole arrays of two structs, those that are written each borrowed once, and two numbers beside them.
     unsafe {
         c::zorpedi_search(
             r.as_ptr(),
@@ -37,6 +37,7 @@ pub fn search(m: &Memory, found: &mut Search, code: u8) -> u8 {
             o.as_mut_ptr(),
             o.len(),
             &mut found.eccentricity,
+            &mut found.depth,
             code,
         )
     }
@@ -44,7 +45,7 @@ pub fn search(m: &Memory, found: &mut Search, code: u8) -> u8 {
 
 /// The scratch of a search, which the calls on near depots and the summary leave behind.
 fn scratch() -> Search {
-    Search { eccentricity: 0, hops: [0; 256], even: [0; 4], odd: [0; 4] }
+    Search { eccentricity: 0, depth: 0, hops: [0; 256], even: [0; 4], odd: [0; 4] }
 }
 
 pub fn within(m: &Memory, codes: &mut [u8; 256], count: &mut u16, code: u8, k: u32) -> u8 {
@@ -152,6 +153,34 @@ pub fn open(m: &mut Memory, searches: &mut u16, code: u8, neighbours: &[u8]) -> 
     // SAFETY: whole arrays of one struct, each named once, and a number and a slice beside them.
     unsafe {
         c::zorpedi_open(
+            m.record.as_mut_ptr(),
+            m.record.len(),
+            m.links.as_mut_ptr(),
+            m.links.len(),
+            m.pairs.as_mut_ptr(),
+            m.pairs.len(),
+            m.hops.as_mut_ptr(),
+            m.hops.len(),
+            m.bounds.as_mut_ptr(),
+            m.bounds.len(),
+            m.skips.as_mut_ptr(),
+            m.skips.len(),
+            m.even.as_mut_ptr(),
+            m.even.len(),
+            m.odd.as_mut_ptr(),
+            m.odd.len(),
+            searches,
+            code,
+            neighbours.as_ptr(),
+            neighbours.len(),
+        )
+    }
+}
+
+pub fn open_yard(m: &mut Memory, searches: &mut u16, code: u8, neighbours: &[u8]) -> u8 {
+    // SAFETY: whole arrays of one struct, each named once, and a number and a slice beside them.
+    unsafe {
+        c::zorpedi_open_yard(
             m.record.as_mut_ptr(),
             m.record.len(),
             m.links.as_mut_ptr(),

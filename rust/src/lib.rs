@@ -1,7 +1,8 @@
 //! Zorpedi, the handover map, for Rust: safe types over `libzorpedi.a`, whose functions are proved to do what `include/zorpedi.h` says.
 //!
 //! A map holds depots and the links between them. It takes notices one by one, of depots that open and of links between open ones, and keeps
-//! the longest chain (the network's diameter) and the set of farthest pairs.
+//! the longest chain (the network's diameter) and the set of farthest pairs. A transit yard is an open depot that only hands parcels on, none being
+//! bound for it: chains run through it, and none begins or ends there.
 //!
 //! ```
 //! use zorpedi::{Change, Map};
@@ -21,6 +22,11 @@
 //! let linked = map.link(1, 4)?;
 //! assert_eq!(linked.change, Change::Kept);
 //! assert_eq!(map.farthest_pairs().collect::<Vec<_>>(), [(0, 3)]);
+//!
+//! map.open_yard(6, &[3])?;
+//! assert_eq!(map.chain(), 3);
+//! map.open(7, &[6])?;
+//! assert_eq!(map.farthest_pairs().collect::<Vec<_>>(), [(0, 7)]);
 //! # Ok::<(), zorpedi::Refusal>(())
 //! ```
 //!

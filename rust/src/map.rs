@@ -33,7 +33,7 @@ use std::fmt;
 #[derive(Clone, Copy, Debug, PartialEq, Eq, Hash)]
 #[non_exhaustive]
 pub enum Change {
-    /// The longest chain is greater than before; by a link it never is.
+    /// The longest chain is greater than before; by a yard or a link it never is.
     Grew,
     /// It is the same.
     Kept,
@@ -97,21 +97,21 @@ pub struct Nearest {
     pub distance: u16,
 }
 
-/// How far apart the depots of a map are, two by two, and how many have each eccentricity: see [`Map::summary`].
+/// How far apart the depots of a map are that deliver, two by two, and how many have each eccentricity: see [`Map::summary`].
 ///
 /// The mean distance is exact: `quotient` and `remainder / pairs`, or as one fraction [`Summary::mean`].
 #[derive(Clone, Copy, Debug, PartialEq, Eq, Hash)]
 #[non_exhaustive]
 pub struct Summary {
-    /// The sum of the distances of all pairs of depots, each pair once.
+    /// The sum of the distances of all pairs of depots that deliver, each pair once.
     pub sum: u64,
-    /// The number of pairs, of `n` depots `n (n - 1) / 2`.
+    /// The number of pairs, of `n` such depots `n (n - 1) / 2`.
     pub pairs: u64,
     /// The mean distance without its fraction: the sum divided by the pairs.
     pub quotient: u64,
     /// What is left of the sum, below the number of pairs.
     pub remainder: u64,
-    /// How many depots have each eccentricity, from 0 to 255.
+    /// How many of them have each eccentricity, from 0 to 255.
     pub counts: [u16; 256],
 }
 
@@ -151,7 +151,7 @@ impl Summary {
 #[derive(Clone, Copy, Debug, Default, PartialEq, Eq, Hash)]
 #[non_exhaustive]
 pub struct Record {
-    /// The open set: bit b of word w stands for code 64 w + b.
+    /// The open set, yards with it: bit b of word w stands for code 64 w + b.
     pub open: [u64; 4],
     /// The number of depots open.
     pub number: u16,
@@ -159,6 +159,8 @@ pub struct Record {
     pub chain: u16,
     /// The number of farthest pairs.
     pub pairs: u32,
+    /// The yard set, laid out as the open set.
+    pub yards: [u64; 4],
 }
 
 /// What the last opening, link or reckoning did with a depot. Further marks may come, so that a `match` needs an arm for them.
@@ -179,7 +181,7 @@ pub struct Record {
 pub enum Mark {
     /// The depot was searched.
     Searched {
-        /// Its eccentricity: the greatest distance to an open depot.
+        /// Its eccentricity: the greatest distance to a depot that delivers.
         eccentricity: u16,
     },
     /// The depot was skipped: its eccentricity is at most the bound, and that is below the longest chain.
@@ -196,7 +198,7 @@ pub enum Mark {
 /// All memory of one map, as the archive wants it lent.
 #[derive(Clone)]
 pub(crate) struct Memory {
-    pub record: [u64; 7],
+    pub record: [u64; 11],
     pub links: [u64; 1024],
     pub pairs: [u64; 1024],
     pub hops: [u16; 256],
@@ -274,9 +276,9 @@ impl Map {
     /// ```
     pub fn from_parts(record: Record, links: &[u64; 1024], pairs: &[u64; 1024]) -> Map {
         version::require();
-        let [a, b, c, d] = record.open;
+        let ([a, b, c, d], [e, f, g, h]) = (record.open, record.yards);
         let memory = Memory {
-            record: [a, b, c, d, record.number.into(), record.chain.into(), record.pairs.into()],
+            record: [a, b, c, d, record.number.into(), record.chain.into(), record.pairs.into(), e, f, g, h],
             links: *links,
             pairs: *pairs,
             hops: [FAR; 256],
@@ -303,7 +305,7 @@ impl Map {
         debug_assert_eq!(number, 0);
     }
 
-    /// Opens a depot beside its neighbours, which have to rise strictly. Chain and pairs are brought up to date.
+    /// Opens a depot that delivers beside its neighbours, which have to rise strictly. Chain and pairs are brought up to date.
     ///
     /// Refused with `Spoilt`, `Apart`, `Taken`, `Lonely`, `Unsorted` or `Unknown`; the first two only on a map made by `from_parts`.
     ///
@@ -327,7 +329,37 @@ impl Map {
         Opened::of(answer, searches)
     }
 
-    /// Links two open depots, whichever is named first. Chain and pairs are brought up to date; the chain stays or gets shorter.
+    /// Opens a transit yard beside its neighbours, which have to rise strictly. It is an open depot that only hands parcels on, none being bound for it, so that
+    /// it is the end of no farthest pair and never makes the chain grow; the chain may run through it, and may get shorter by it.
+    ///
+    /// Refused as [`Map::open`] is.
+    ///
+    /// ```
+    /// use zorpedi::{Change, Map};
+    ///
+    /// // A depot, two yards behind each other, and a depot behind them.
+    /// let mut map = Map::new();
+    /// map.open(0, &[])?;
+    /// map.open_yard(1, &[0])?;
+    /// let opened = map.open_yard(2, &[1])?;
+    /// assert_eq!((opened.change, map.chain()), (Change::Kept, 0));
+    /// map.open(3, &[2])?;
+    /// assert_eq!(map.chain(), 3);
+    /// assert_eq!(map.farthest_pairs().collect::<Vec<_>>(), [(0, 3)]);
+    ///
+    /// // A third yard is a shorter way.
+    /// let opened = map.open_yard(4, &[0, 3])?;
+    /// assert_eq!((opened.change, map.chain()), (Change::Shrank, 2));
+    /// assert_eq!(map.yard_codes().collect::<Vec<_>>(), [1, 2, 4]);
+    /// # Ok::<(), zorpedi::Refusal>(())
+    /// ```
+    pub fn open_yard(&mut self, code: u8, neighbours: &[u8]) -> Result<Opened, Refusal> {
+        let mut searches = 0;
+        let answer = ffi::open_yard(&mut self.memory, &mut searches, code, neighbours);
+        Opened::of(answer, searches)
+    }
+
+    /// Links two open depots, yards or not, whichever is named first. Chain and pairs are brought up to date; the chain stays or gets shorter.
     ///
     /// Refused with `Spoilt`, `Apart`, `Absent` (one of them is not open), `Itself` or `Linked`; the first two only on a map made by `from_parts`.
     ///
@@ -360,7 +392,8 @@ impl Map {
         Opened::of(answer, searches)
     }
 
-    /// Does what a notice says: opens its depot, as [`Map::open`] does, or links its two depots, as [`Map::link`] does.
+    /// Does what a notice says: opens its depot, as [`Map::open`] does, or its yard, as [`Map::open_yard`] does, or links its two depots, as [`Map::link`]
+    /// does.
     ///
     /// ```
     /// use zorpedi::{notice, Change, Map};
@@ -380,11 +413,12 @@ impl Map {
         match notice {
             Notice::Opening { code, neighbours } => self.open(*code, neighbours),
             Notice::Link { first, second } => self.link(*first, *second),
+            Notice::YardOpening { code, neighbours } => self.open_yard(*code, neighbours),
         }
     }
 
-    /// Opens the depots of up to 64 notice lines, which may come in any order: again and again the first line that can be opened by then is opened,
-    /// as [`Map::open`] opens it, until none can. Answers the numbers of the lines left over, from 0, rising. No order of
+    /// Opens the depots and yards of up to 64 notice lines, which may come in any order: again and again the first line that can be opened by then is
+    /// opened, as [`Map::open`] or [`Map::open_yard`] opens it, until none can. Answers the numbers of the lines left over, from 0, rising. No order of
     /// these lines opens a depot that is not open then. Each line ends with its 0A.
     ///
     /// Refused with `Spoilt`, `Apart`, `Overfull` (more than 64 lines), `Bare` (no depot is open yet) or, if any line is no notice of an opening,
@@ -414,7 +448,7 @@ impl Map {
         Ok(left[..usize::from(count)].to_vec())
     }
 
-    /// Searches from an open depot: its distance to every depot. The map is only read, and what is found has its own memory, so that several
+    /// Searches from an open depot, which may be a yard: its distance to every depot. The map is only read, and what is found has its own memory, so that several
     /// searches and the map can be looked at together, also a stream's map, and by several threads.
     ///
     /// Refused with `Spoilt` (the links), `Apart` or `Absent`; the first two only on a map made by `from_parts`.
@@ -429,15 +463,21 @@ impl Map {
     /// assert_eq!(end.distance(20), Some(1));
     /// assert_eq!(end.distance(40), None);
     /// assert_eq!(end.last_layer().collect::<Vec<_>>(), [30]);
+    ///
+    /// // Behind 30 a yard: nobody delivers to it, and it is the last layer all the same.
+    /// map.open_yard(40, &[30])?;
+    /// let end = map.search(10)?;
+    /// assert_eq!((end.eccentricity(), end.depth()), (2, 3));
+    /// assert_eq!(end.last_layer().collect::<Vec<_>>(), [40]);
     /// # Ok::<(), zorpedi::Refusal>(())
     /// ```
     pub fn search(&self, code: u8) -> Result<Search, Refusal> {
-        let mut found = Search { eccentricity: 0, hops: [FAR; 256], even: [0; 4], odd: [0; 4] };
+        let mut found = Search { eccentricity: 0, depth: 0, hops: [FAR; 256], even: [0; 4], odd: [0; 4] };
         Refusal::check(ffi::search(&self.memory, &mut found, code))?;
         Ok(found)
     }
 
-    /// The depots at most `handovers` handovers from an open depot, itself among them, rising. The map is only read.
+    /// The depots at most `handovers` handovers from an open depot, itself and yards among them, rising. The map is only read.
     ///
     /// Refused with `Spoilt` (the links), `Apart` or `Absent`; the first two only on a map made by `from_parts`.
     ///
@@ -461,7 +501,7 @@ impl Map {
     }
 
     /// Of a list of codes the open depot that is nearest to an open depot, the lowest code of several, with its distance. The list may have codes
-    /// more than once, closed ones and the depot itself. The map is only read.
+    /// more than once, closed ones, yards and the depot itself. The map is only read.
     ///
     /// Refused with `Spoilt` (the links), `Apart`, `Absent` or, if no depot of the list is open, `Nobody`; the first two only on a map made by
     /// `from_parts`.
@@ -486,10 +526,10 @@ impl Map {
         Ok(nearest)
     }
 
-    /// Sums the network up: the distances of all pairs of depots added, how many pairs there are, their mean, and how many depots have each
-    /// eccentricity. The map is only read.
+    /// Sums the network up: the distances of all pairs of depots that deliver added, how many pairs there are, their mean, and how many of these depots have
+    /// each eccentricity. The map is only read.
     ///
-    /// Refused with `Spoilt` (the links), `Apart` or, if fewer than two depots are open, `TooFew`; the first two only on a map made by
+    /// Refused with `Spoilt` (the links), `Apart` or, if fewer than two open depots deliver, `TooFew`; the first two only on a map made by
     /// `from_parts`.
     ///
     /// ```
@@ -516,7 +556,7 @@ impl Map {
         Ok(summed)
     }
 
-    /// Reckons chain and pairs afresh from the links, whatever they were, and answers how many depots were searched.
+    /// Reckons chain and pairs afresh from links and yards, whatever they were, and answers how many depots were searched.
     ///
     /// Refused with `Spoilt` (the links) or `Apart`, only on a map made by `from_parts`.
     ///
@@ -550,9 +590,9 @@ impl Map {
     /// # Ok::<(), zorpedi::Refusal>(())
     /// ```
     pub fn record(&self) -> Record {
-        let [a, b, c, d, number, chain, pairs] = self.memory.record;
+        let [a, b, c, d, number, chain, pairs, e, f, g, h] = self.memory.record;
         // Each word came from these widths, in `from_parts` or from the archive.
-        Record { open: [a, b, c, d], number: number as u16, chain: chain as u16, pairs: pairs as u32 }
+        Record { open: [a, b, c, d], number: number as u16, chain: chain as u16, pairs: pairs as u32, yards: [e, f, g, h] }
     }
 
     /// The link table: four words for each code, the set of codes that it is linked to, laid out as [`Record::open`].
@@ -577,7 +617,7 @@ impl Map {
         &self.memory.pairs
     }
 
-    /// The number of depots open.
+    /// The number of depots open, yards with them.
     ///
     /// ```
     /// assert_eq!(zorpedi::Map::new().depots(), 0);
@@ -586,7 +626,7 @@ impl Map {
         self.record().number
     }
 
-    /// The longest chain, the network's diameter: no two depots are more handovers apart.
+    /// The longest chain, the network's diameter: no two depots that deliver are more handovers apart.
     ///
     /// ```
     /// assert_eq!(zorpedi::Map::new().chain(), 0);
@@ -613,7 +653,35 @@ impl Map {
         has(&self.memory.record[..4], code)
     }
 
-    /// The codes of the open depots, rising.
+    /// Whether a code's depot is a transit yard.
+    ///
+    /// ```
+    /// let mut map = zorpedi::Map::new();
+    /// map.open_yard(200, &[])?;
+    /// map.open(100, &[200])?;
+    /// assert!(map.is_open(200) && map.is_yard(200));
+    /// assert!(map.is_open(100) && !map.is_yard(100));
+    /// # Ok::<(), zorpedi::Refusal>(())
+    /// ```
+    pub fn is_yard(&self, code: u8) -> bool {
+        has(&self.memory.record[7..], code)
+    }
+
+    /// The codes of the yards, rising.
+    ///
+    /// ```
+    /// let mut map = zorpedi::Map::new();
+    /// map.open_yard(200, &[])?;
+    /// map.open(150, &[200])?;
+    /// map.open_yard(100, &[200])?;
+    /// assert_eq!(map.yard_codes().collect::<Vec<_>>(), [100, 200]);
+    /// # Ok::<(), zorpedi::Refusal>(())
+    /// ```
+    pub fn yard_codes(&self) -> Codes<'_> {
+        codes(&self.memory.record[7..])
+    }
+
+    /// The codes of the open depots, yards with them, rising.
     ///
     /// ```
     /// let mut map = zorpedi::Map::new();
@@ -734,15 +802,21 @@ impl fmt::Debug for Map {
 #[derive(Clone, Debug, PartialEq, Eq)]
 pub struct Search {
     pub(crate) eccentricity: u16,
+    pub(crate) depth: u16,
     pub(crate) hops: [u16; 256],
     pub(crate) even: [u64; 4],
     pub(crate) odd: [u64; 4],
 }
 
 impl Search {
-    /// The greatest distance to an open depot.
+    /// The greatest distance to a depot that delivers, 0 if there is none.
     pub fn eccentricity(&self) -> u16 {
         self.eccentricity
+    }
+
+    /// The greatest distance to an open depot, a yard or not: how deep the last layer lies.
+    pub fn depth(&self) -> u16 {
+        self.depth
     }
 
     /// The distance to a depot, if it is open.
@@ -756,19 +830,19 @@ impl Search {
         &self.hops
     }
 
-    /// The depots at the greatest distance, rising.
+    /// The depots at the greatest distance, the depth, rising; yards are among them.
     pub fn last_layer(&self) -> Codes<'_> {
         codes(self.rows().0)
     }
 
-    /// The depots one step nearer, rising; none if the eccentricity is 0.
+    /// The depots one step nearer, rising; none if the depth is 0.
     pub fn layer_before(&self) -> Codes<'_> {
         codes(self.rows().1)
     }
 
-    /// The row of the last layer, which goes by the eccentricity's parity, and the other.
+    /// The row of the last layer, which goes by the depth's parity, and the other.
     fn rows(&self) -> (&[u64; 4], &[u64; 4]) {
-        match self.eccentricity % 2 {
+        match self.depth % 2 {
             0 => (&self.even, &self.odd),
             _ => (&self.odd, &self.even),
         }

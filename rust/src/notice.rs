@@ -1,5 +1,5 @@
 //! Notice lines: upper-case hexadecimal, ended by byte 0A. A line spells a frame, by its first byte, the kind: 01, an opening, then has code,
-//! neighbour count and neighbours; 02, a link, has two codes.
+//! neighbour count and neighbours; 02, a link, has two codes; 04, the opening of a yard, is laid out as 01.
 //!
 //! ```
 //! use zorpedi::notice::{self, Notice};
@@ -11,6 +11,9 @@
 //!
 //! let (notice, _) = notice::read(b"020105\n")?;
 //! assert_eq!(notice, Notice::Link { first: 1, second: 5 });
+//!
+//! let (notice, _) = notice::read(b"04070105\n")?;
+//! assert_eq!(notice, Notice::YardOpening { code: 7, neighbours: vec![5] });
 //! # Ok::<(), zorpedi::Refusal>(())
 //! ```
 use crate::ffi;
@@ -25,6 +28,7 @@ pub const LINE_LIMIT: usize = 517;
 /// The kinds of a frame: its first byte.
 const OPENING: u8 = 1;
 const LINK: u8 = 2;
+const YARD_OPENING: u8 = 4;
 
 /// A notice, by its kind; [`Map::apply`](crate::Map::apply) does what it says. Further kinds may come, so that a `match` needs an arm for them.
 ///
@@ -33,7 +37,7 @@ const LINK: u8 = 2;
 ///
 /// fn is_about(notice: &Notice, depot: u8) -> bool {
 ///     match notice {
-///         Notice::Opening { code, .. } => *code == depot,
+///         Notice::Opening { code, .. } | Notice::YardOpening { code, .. } => *code == depot,
 ///         Notice::Link { first, second } => [*first, *second].contains(&depot),
 ///         _ => false,
 ///     }
@@ -48,6 +52,7 @@ const LINK: u8 = 2;
 ///     match notice {
 ///         Notice::Opening { .. } => false,
 ///         Notice::Link { .. } => true,
+///         Notice::YardOpening { .. } => false,
 ///     }
 /// }
 /// ```
@@ -68,6 +73,13 @@ pub enum Notice {
         /// The other code.
         second: u8,
     },
+    /// Kind 04: a yard opens, as [`Map::open_yard`](crate::Map::open_yard) opens it.
+    YardOpening {
+        /// The code of the new yard.
+        code: u8,
+        /// Its neighbours, in the line's order; the opening judges it.
+        neighbours: Vec<u8>,
+    },
 }
 
 impl Notice {
@@ -78,15 +90,18 @@ impl Notice {
     /// use zorpedi::notice::{self, Notice};
     ///
     /// assert_eq!(Notice::Opening { code: 9, neighbours: vec![5] }.frame(), [1, 9, 1, 5]);
+    /// assert_eq!(Notice::YardOpening { code: 9, neighbours: vec![5] }.frame(), [4, 9, 1, 5]);
     /// assert_eq!(notice::write(&Notice::Link { first: 1, second: 5 }.frame())?, b"020105\n");
     /// assert!(notice::write(&Notice::Opening { code: 9, neighbours: vec![5; 256] }.frame()).is_err());
     /// # Ok::<(), zorpedi::Refusal>(())
     /// ```
     pub fn frame(&self) -> Vec<u8> {
+        // where the count is cut off it no longer fits the length
+        let opening = |kind, code, neighbours: &[u8]| [&[kind, code, neighbours.len() as u8], neighbours].concat();
         match self {
-            // where the count is cut off it no longer fits the length
-            Notice::Opening { code, neighbours } => [&[OPENING, *code, neighbours.len() as u8], &neighbours[..]].concat(),
+            Notice::Opening { code, neighbours } => opening(OPENING, *code, neighbours),
             Notice::Link { first, second } => vec![LINK, *first, *second],
+            Notice::YardOpening { code, neighbours } => opening(YARD_OPENING, *code, neighbours),
         }
     }
 
@@ -95,6 +110,7 @@ impl Notice {
         match *frame {
             [OPENING, code, _, ref neighbours @ ..] => Some(Notice::Opening { code, neighbours: neighbours.to_vec() }),
             [LINK, first, second] => Some(Notice::Link { first, second }),
+            [YARD_OPENING, code, _, ref neighbours @ ..] => Some(Notice::YardOpening { code, neighbours: neighbours.to_vec() }),
             _ => None,
         }
     }
@@ -125,7 +141,7 @@ pub fn read(input: &[u8]) -> Result<(Notice, usize), Refusal> {
 
 /// Writes the line of a frame, 0A included.
 ///
-/// Refused with `Garbled`: the kind is neither 01 nor 02, or the length is not that of its kind: 3 more than the neighbour count, or 3.
+/// Refused with `Garbled`: the kind is none of 01, 02 and 04, or the length is not that of its kind: 3 more than the neighbour count, or for a link 3.
 ///
 /// # Panics
 ///
@@ -136,6 +152,7 @@ pub fn read(input: &[u8]) -> Result<(Notice, usize), Refusal> {
 ///
 /// assert_eq!(notice::write(&[1, 0xA0, 1, 0x0F])?, b"01A0010F\n");
 /// assert_eq!(notice::write(&[2, 0, 0])?, b"020000\n");
+/// assert_eq!(notice::write(&[4, 7, 1, 5])?, b"04070105\n");
 /// assert_eq!(notice::write(&[2, 0, 0, 0]), Err(Refusal::Garbled));
 /// # Ok::<(), Refusal>(())
 /// ```

@@ -55,7 +55,7 @@ pub enum Refusal {
     Itself,
     /// 14: the depots to be linked are linked already.
     Linked,
-    /// 15: a summary, and fewer than two depots are open.
+    /// 15: a summary, and fewer than two open depots deliver.
     TooFew,
     /// Any other number, from an archive that is newer than this crate. Only the crate makes one, and [`Refusal::number`] gives the number.
     #[non_exhaustive]
@@ -174,7 +174,7 @@ impl Refusal {
             Refusal::Bare => "a batch, and no depot is open",
             Refusal::Itself => "a depot is to be linked with itself",
             Refusal::Linked => "the depots to be linked are linked already",
-            Refusal::TooFew => "a summary, and fewer than two depots are open",
+            Refusal::TooFew => "a summary, and fewer than two open depots deliver",
             Refusal::Other(_) => "the archive is newer than the crate, which has no word for it",
         }
     }

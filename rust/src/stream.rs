@@ -21,8 +21,8 @@ pub struct Fed {
     pub written: usize,
 }
 
-/// A stream of notice lines, openings and links, in pieces of any size: one report line comes out for each line that goes in. It starts from an empty map and
-/// answers 1,000,000 lines at most.
+/// A stream of notice lines, openings of depots and yards and links, in pieces of any size: one report line comes out for each line that goes in. It starts
+/// from an empty map and answers 1,000,000 lines at most.
 ///
 /// ```
 /// use zorpedi::Stream;

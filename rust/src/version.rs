@@ -31,9 +31,9 @@ impl Version {
     /// The version that this crate was written for.
     ///
     /// ```
-    /// assert_eq!(zorpedi::Version::WANTED.to_string(), "3.1");
+    /// assert_eq!(zorpedi::Version::WANTED.to_string(), "4.0");
     /// ```
-    pub const WANTED: Version = Version { major: 3, minor: 1 };
+    pub const WANTED: Version = Version { major: 4, minor: 0 };
 
     /// The version of the archive that is linked.
     ///

@@ -3,7 +3,7 @@ mod inputs;
 mod plain;
 mod process;
 
-use inputs::lines::{link_line, longest_line, notice_line, some_input};
+use inputs::lines::{link_line, longest_line, notice_line, some_input, yard_line};
 use inputs::{Dice, Growth, Shape, SHAPES};
 use plain::stream::output;
 use process::{assert_same, program, repository, written_and_said};
@@ -107,6 +107,27 @@ fn links() {
     );
 }
 
+/// A depot among yards, a chain through them, a yard that is a shorter way, and the refusals of a yard, which are a depot's.
+#[test]
+fn yards() {
+    gives(b"040000\n", "1 K 1 0 0 1\n");
+    gives(
+        b"04000101\n010000\n04010100\n04020101\n040100\n01030102\n0404020003\n04050103\n0405010\n040600\n0406020503\n0406010A\n01060105",
+        "1 R8 0 0 0 0\n2 K 1 0 0 1\n3 K 2 0 0 1\n4 K 3 0 0 1\n5 R5 3 0 0 0\n6 G 4 3 1 1\n7 S 5 2 1 5\n8 K 6 2 1 1\n9 R9 6 2 1 0\n\
+         10 R6 6 2 1 0\n11 R7 6 2 1 0\n12 R8 6 2 1 0\n13 R9 6 2 1 0\n",
+    );
+    // links of yards with each other, with a depot, and past them
+    gives(
+        b"010000\n04010100\n04020101\n04030102\n01040103\n020301\n020204\n020004\n020103\n020202\n",
+        "1 K 1 0 0 1\n2 K 2 0 0 1\n3 K 3 0 0 1\n4 K 4 0 0 1\n5 G 5 4 1 1\n6 S 5 3 1 5\n7 K 5 3 1 2\n8 S 5 1 1 5\n9 R14 5 1 1 0\n10 R13 5 1 1 0\n",
+    );
+    // 256 yards, and none of them delivers
+    let mut input = yard_line(0, &[]);
+    input.extend((1..=255).flat_map(|code| yard_line(code, &[code as u8 - 1])));
+    let reports: String = (1..=256).map(|number| format!("{number} K {number} 0 0 1\n")).collect();
+    gives(&input, &reports);
+}
+
 #[test]
 fn little_inputs() {
     gives(b"", "");
@@ -168,13 +189,13 @@ fn lines_of_megabytes() {
 /// way.
 fn many_lines(count: usize) -> Vec<u8> {
     let mut dice = Dice::new(30_000_000);
-    let growth = Growth::new(&mut dice, Shape::Shortcuts);
-    let refused = ["", "010", "020000", "02000001", "0105", "01FF0101FE", "0105020100", "0105FF", "0100\r", "01050105"];
+    let growth = Growth::new(&mut dice, Shape::Shortcuts).with_yards(&mut dice);
+    let refused = ["", "010", "020000", "02000001", "0105", "01FF0101FE", "0105020100", "0105FF", "0100\r", "01050105", "04050105"];
     let mut input = Vec::new();
     let mut opened = 0;
     for i in 0..count {
         if i % 2_500 == 7 && opened < 200 {
-            input.extend(notice_line(growth.order[opened], &growth.neighbours(&mut dice, opened, 200)));
+            input.extend(growth.line(&mut dice, opened, 200));
             opened += 1;
         } else if i % 10_000 == 5_003 {
             let open = &growth.order[..opened];
@@ -223,7 +244,7 @@ fn exactly_a_million_lines_and_one_less() {
     }
 }
 
-/// Histories that are somewhat valid, with refused and garbled lines between.
+/// Histories that are somewhat valid, with yards and links, and with refused and garbled lines between.
 #[test]
 fn many_inputs() {
     for seed in 0..300 {
@@ -238,9 +259,12 @@ fn growths_of_256_depots() {
     for (seed, shape) in SHAPES.into_iter().enumerate() {
         let mut dice = Dice::new(32_000_000 + seed as u64);
         let growth = Growth::new(&mut dice, shape);
-        let input: Vec<u8> = (0..256).flat_map(|i| notice_line(growth.order[i], &growth.neighbours(&mut dice, i, 256))).collect();
+        let input: Vec<u8> = (0..256).flat_map(|i| growth.line(&mut dice, i, 256)).collect();
         assert_eq!(output(&input).lines().filter(|line| !line.contains('R')).count(), 256);
         follow(&input);
+        // the same shape with yards
+        let growth = growth.with_yards(&mut dice);
+        follow(&(0..256).flat_map(|i| growth.line(&mut dice, i, 256)).collect::<Vec<u8>>());
     }
 }
 
@@ -250,7 +274,7 @@ fn links_of_256_depots() {
     for (seed, shape) in [Shape::Path, Shape::Heap].into_iter().enumerate() {
         let mut dice = Dice::new(34_000_000 + seed as u64);
         let growth = Growth::new(&mut dice, shape);
-        let mut input: Vec<u8> = (0..256).flat_map(|i| notice_line(growth.order[i], &growth.neighbours(&mut dice, i, 256))).collect();
+        let mut input: Vec<u8> = (0..256).flat_map(|i| growth.line(&mut dice, i, 256)).collect();
         for code in [0, 63, 64, 255] {
             let mut others: Vec<u8> = (0..=255).collect();
             dice.shuffle(&mut others);
@@ -428,7 +452,8 @@ fn usage() {
         let (written, said) = written_and_said(child);
         drop(open);
         assert!(written.starts_with("Usage: follow < NOTICES > REPORTS\n"), "{argument}: {written}");
-        for word in ["G ", "K ", "S ", "taken", "lonely", "unsorted", "unknown", "garbled", "020105", "absent", "itself", "linked", "1,000,000 lines"] {
+        let words = "G |K |S |taken|lonely|unsorted|unknown|garbled|020105|absent|itself|linked|yard|1,000,000 lines";
+        for word in words.split('|') {
             assert!(written.contains(word), "{word}");
         }
         assert_eq!(said, "");

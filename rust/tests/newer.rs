@@ -23,7 +23,7 @@ mod ffi {
     use std::cell::Cell;
 
     thread_local! {
-        pub static VERSION: Cell<u32> = const { Cell::new(3001) };
+        pub static VERSION: Cell<u32> = const { Cell::new(4000) };
         pub static ANSWER: Cell<u8> = const { Cell::new(0) };
         /// What a line reads as, where the answer is 0.
         pub static FRAME: Cell<&'static [u8]> = const { Cell::new(&[1, 0, 0]) };
@@ -76,6 +76,10 @@ mod ffi {
         ANSWER.get()
     }
 
+    pub fn open_yard(_: &mut Memory, _: &mut u16, _: u8, _: &[u8]) -> u8 {
+        ANSWER.get()
+    }
+
     pub fn link(_: &mut Memory, _: &mut u16, _: u8, _: u8) -> u8 {
         ANSWER.get()
     }
@@ -123,6 +127,7 @@ fn answers(number: u8) -> Vec<Option<Refusal>> {
     let (mut map, mut stream) = (Map::new(), Stream::new());
     vec![
         map.open(1, &[]).err(),
+        map.open_yard(1, &[]).err(),
         map.link(1, 2).err(),
         map.open_batch(b"").err(),
         map.search(1).err(),
@@ -144,13 +149,13 @@ fn numbers_without_a_name() {
         let expected = Refusal::from_number(number).unwrap_or(Refusal::Other(number));
         let said = answers(number);
         let is_letter = b"GKS".contains(&number);
-        assert_eq!(said[..2], vec![(!is_letter).then_some(expected); 2]);
-        assert_eq!(said[2..], vec![Some(expected); 10]);
+        assert_eq!(said[..3], vec![(!is_letter).then_some(expected); 3]);
+        assert_eq!(said[3..], vec![Some(expected); 10]);
         assert_eq!(expected.number(), number);
         assert_eq!(expected.word().is_empty(), number > 15);
         assert!(expected.to_string().contains(&format!("({number})")));
     }
-    assert_eq!(answers(0)[2..], vec![None; 10]);
+    assert_eq!(answers(0)[3..], vec![None; 10]);
     assert_eq!(Refusal::of(16).to_string(), "refused (16): the archive is newer than the crate, which has no word for it");
 }
 
@@ -159,6 +164,7 @@ fn the_letters_of_an_opening_or_a_link() {
     for (letter, change) in [(b'G', Change::Grew), (b'K', Change::Kept), (b'S', Change::Shrank)] {
         ffi::ANSWER.set(letter);
         assert_eq!(Map::new().open(0, &[]).map(|opened| opened.change), Ok(change));
+        assert_eq!(Map::new().open_yard(0, &[]).map(|opened| opened.change), Ok(change));
         assert_eq!(Map::new().link(0, 1).map(|linked| linked.change), Ok(change));
         assert_eq!(change.letter(), char::from(letter));
     }
@@ -169,11 +175,13 @@ fn the_letters_of_an_opening_or_a_link() {
 fn kinds_without_a_name() {
     let opening = Notice::Opening { code: 7, neighbours: vec![5, 3] };
     let link = Notice::Link { first: 9, second: 2 };
-    let kinds: [(&'static [u8], Result<Notice, Refusal>); 5] = [
+    let yard = Notice::YardOpening { code: 7, neighbours: vec![5, 3] };
+    let kinds: [(&'static [u8], Result<Notice, Refusal>); 6] = [
         (&[1, 7, 2, 5, 3], Ok(opening)),
         (&[2, 9, 2], Ok(link)),
+        (&[4, 7, 2, 5, 3], Ok(yard)),
         (&[3, 9], Err(Refusal::Garbled)),
-        (&[4, 7, 0], Err(Refusal::Garbled)),
+        (&[5, 7, 0], Err(Refusal::Garbled)),
         (&[0x11, 0, 7, 0, 0], Err(Refusal::Garbled)),
     ];
     ffi::ANSWER.set(0);
@@ -192,18 +200,20 @@ fn archives_of_other_versions() {
         [|| drop(Map::new()), || drop(Stream::new()), || drop(notice::read(b"010000\n")), || drop(notice::write(&[1, 0, 0]))];
     for (version, serves) in [
         (3000, false),
-        (3001, true),
-        (3002, true),
-        (3999, true),
+        (3001, false),
+        (3999, false),
+        (4000, true),
+        (4001, true),
+        (4999, true),
         (0, false),
         (1000, false),
         (1999, false),
         (2000, false),
         (2002, false),
         (2999, false),
-        (4000, false),
-        (4001, false),
-        (4003, false),
+        (5000, false),
+        (5001, false),
+        (5003, false),
         (u32::MAX, false),
     ] {
         ffi::VERSION.set(version);
@@ -212,8 +222,8 @@ fn archives_of_other_versions() {
             assert_eq!(catch_unwind(way).is_ok(), serves, "{version}");
         }
     }
-    ffi::VERSION.set(4003);
+    ffi::VERSION.set(5003);
     let said = catch_unwind(Map::new).expect_err("it does not serve");
     let text = said.downcast_ref::<String>().expect("a text");
-    assert_eq!(text, "libzorpedi.a has version 4.3, this crate was written for 3.1");
+    assert_eq!(text, "libzorpedi.a has version 5.3, this crate was written for 4.0");
 }

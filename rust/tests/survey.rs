@@ -4,7 +4,7 @@ mod inputs;
 mod plain;
 mod process;
 
-use inputs::lines::{notice_line, some_input};
+use inputs::lines::{notice_line, opening_line, some_input};
 use inputs::{Dice, Growth, Shape, SHAPES};
 use plain::stream::LINES;
 use plain::summary::Mean;
@@ -197,11 +197,28 @@ fn no_files() {
     gives::<&str>(&[], "0 0 0 0\n");
 }
 
-/// An empty file, one without a good line, and one with a single depot are refused, and add nothing.
+/// Two depots with two yards between them are three apart; a third yard beside both makes it two. Yards are neither summed up nor counted.
+#[test]
+fn files_with_yards() {
+    let between = "010000\n04010100\n04020101\n01030102\n";
+    gives(&[between.to_string(), format!("{between}0404020003\n"), PAIR.into()], "3 1 3 0\n2 1 2 0\n1 1 1 0\n6 3 2 0\n");
+    // the path of seven with a yard in its middle, and one whose last depot is a yard
+    let path = |yard: usize| -> Vec<u8> {
+        let beside = |code: usize| if code == 0 { vec![] } else { vec![code as u8 - 1] };
+        (0..7).flat_map(|code| opening_line(code == yard, code, &beside(code))).collect()
+    };
+    gives(&[path(3), path(6)], "44 15 2 14\n35 15 2 5\n79 30 2 19\n");
+    // a link of two yards
+    gives(&[format!("{between}04040102\n020104\n")], "3 1 3 0\n3 1 3 0\n");
+}
+
+/// An empty file, one without a good line, and one with a single depot are refused, and add nothing; so are yards, alone or with one depot among them.
 #[test]
 fn refused_maps() {
     gives(&["", "no notice\n", "010000\n"], "R15\nR15\nR15\n0 0 0 0\n");
     gives(&["", PAIR, "010000\n010000\n"], "R15\n1 1 1 0\nR15\n1 1 1 0\n");
+    let yards = "040000\n04010100\n04020101\n";
+    gives(&[yards.to_string(), format!("{yards}01030101\n"), PAIR.into()], "R15\nR15\n1 1 1 0\n1 1 1 0\n");
 }
 
 /// Lines that are refused are passed over; a last stretch without 0A is garbled, though it would have opened a depot.
@@ -286,14 +303,14 @@ fn a_file_of_megabytes() {
     let growth = Growth::new(&mut dice, Shape::Regional);
     let mut file = Vec::new();
     for i in 0..256 {
-        file.extend(notice_line(growth.order[i], &growth.neighbours(&mut dice, i, 256)));
+        file.extend(growth.line(&mut dice, i, 256));
         file.resize(file.len() + 9_999, b'0');
         file.push(0x0A);
     }
     assert!(survey(&[file]).contains(" 32640 "));
 }
 
-/// Histories that are somewhat valid, with links and with refused and garbled lines between; none to six of them.
+/// Histories that are somewhat valid, with yards and links and with refused and garbled lines between; none to six of them.
 #[test]
 fn many_files() {
     for seed in 0..60 {
@@ -308,14 +325,16 @@ fn many_files() {
     }
 }
 
-/// Every shape of 256 depots, in one run.
+/// Every shape of 256 depots, in one run, and the same with yards.
 #[test]
 fn growths_of_256_depots() {
     let mut dice = Dice::new(42_000_000);
     let mut files = Vec::new();
     for shape in SHAPES {
         let growth = Growth::new(&mut dice, shape);
-        files.push((0..256).flat_map(|i| notice_line(growth.order[i], &growth.neighbours(&mut dice, i, 256))).collect::<Vec<u8>>());
+        files.push((0..256).flat_map(|i| growth.line(&mut dice, i, 256)).collect::<Vec<u8>>());
+        let growth = growth.with_yards(&mut dice);
+        files.push((0..256).flat_map(|i| growth.line(&mut dice, i, 256)).collect());
     }
     assert_eq!(survey(&files).lines().filter(|line| line.contains(" 32640 ")).count(), SHAPES.len());
 }

@@ -77,6 +77,82 @@ fn links_in_three_ways() -> Result<(), Refusal> {
     Ok(())
 }
 
+/// A depot, two yards, a depot behind them and a yard that is a shorter way, with a batch before it and refused lines between: by the calls, by notices, and
+/// as a stream.
+#[test]
+fn yards_in_three_ways() -> Result<(), Refusal> {
+    let lines = ["010000\n", "04010100\n", "04020101\n", "010200\n", "01030102\n", "0404020003\n", "0401020003\n", "020204\n"];
+    let expected = "1 K 1 0 0 1\n2 K 2 0 0 1\n3 K 3 0 0 1\n4 R5 3 0 0 0\n5 G 4 3 1 1\n6 S 5 2 1 5\n7 R5 5 2 1 0\n8 K 5 2 1 2\n";
+    let mut map = Map::new();
+    let mut reports = String::new();
+    for (number, line) in (1..).zip(lines) {
+        let answer = notice::read(line.as_bytes()).and_then(|(notice, _)| {
+            assert_eq!(notice::write(&notice.frame())?, line.as_bytes());
+            map.apply(&notice)
+        });
+        reports += &report::line(number, answer, &map);
+    }
+    assert_eq!(reports, expected);
+
+    let mut stream = Stream::new();
+    let mut reports = Vec::new();
+    stream.push(lines.concat().as_bytes(), &mut reports)?;
+    assert_eq!(String::from_utf8_lossy(&reports), expected);
+    assert_eq!(stream.map(), &map);
+
+    let mut called = Map::new();
+    called.open(0, &[])?;
+    assert_eq!(called.open_batch(b"04020101\n04010100\n")?, []);
+    assert_eq!(called.open_yard(2, &[]), Err(Refusal::Taken));
+    assert_eq!(called.open(3, &[2])?.change, Change::Grew);
+    let Opened { change, searches, .. } = called.open_yard(4, &[0, 3])?;
+    assert_eq!((change, searches), (Change::Shrank, 5));
+    assert_eq!(called.mark(4), Mark::Searched { eccentricity: 1 });
+    called.link(4, 2)?;
+    assert_eq!(called, map);
+    assert_eq!(called.yard_codes().collect::<Vec<_>>(), [1, 2, 4]);
+    assert!(called.is_yard(4) && called.is_open(4) && !called.is_yard(3) && !called.is_yard(5));
+    Ok(())
+}
+
+/// A yard plays its part in what a map is: in its record, in whether two maps are equal, in searches and in the summary.
+#[test]
+fn what_a_map_with_yards_shows() -> Result<(), Refusal> {
+    let (mut yard, mut depot) = (path(60..65)?, path(60..65)?);
+    yard.open_yard(65, &[64])?;
+    depot.open(65, &[64])?;
+    assert_ne!(yard, depot);
+    assert_eq!((yard.links(), yard.record().open), (depot.links(), depot.record().open));
+    assert_eq!((yard.record().yards, depot.record().yards), ([0, 2, 0, 0], [0; 4]));
+    assert_eq!(((yard.depots(), yard.chain()), (depot.depots(), depot.chain())), ((6, 4), (6, 5)));
+    assert_eq!(yard.open_codes().collect::<Vec<_>>(), (60..66).collect::<Vec<_>>());
+
+    let search = yard.search(60)?;
+    assert_eq!((search.eccentricity(), search.depth(), search.distance(65)), (4, 5, Some(5)));
+    assert_eq!((search.last_layer().collect::<Vec<_>>(), search.layer_before().collect::<Vec<_>>()), (vec![65], vec![64]));
+    assert_eq!((yard.search(65)?.eccentricity(), yard.within(64, 1)?), (5, vec![63, 64, 65]));
+    // the path of five: 4 + 6 + 6 + 4 = 20 over 10 pairs
+    let summary = yard.summary()?;
+    assert_eq!((summary.sum, summary.pairs, summary.mean()), (20, 10, (2, 1)));
+    assert_eq!(summary.counts[..6], [0, 0, 1, 2, 2, 0]);
+
+    let mut again = Map::from_parts(yard.record(), yard.links(), yard.pairs());
+    assert_eq!(again, yard);
+    // a yard that is closed; a pair at a yard, which a reckoning repairs
+    let mut record = yard.record();
+    record.yards[0] |= 1;
+    assert_eq!(Map::from_parts(record, yard.links(), yard.pairs()).search(60), Err(Refusal::Spoilt));
+    let mut record = depot.record();
+    record.yards = yard.record().yards;
+    let mut pair = Map::from_parts(record, depot.links(), depot.pairs());
+    assert_eq!(pair.open(66, &[65]), Err(Refusal::Spoilt));
+    pair.reckon()?;
+    assert_eq!(pair, yard);
+    again.empty();
+    assert_eq!(again, Map::new());
+    Ok(())
+}
+
 /// The frames of notices that a program makes: they are written as lines that read as these notices, but for one with too many neighbours.
 #[test]
 fn notices_by_kind() -> Result<(), Refusal> {
@@ -86,15 +162,21 @@ fn notices_by_kind() -> Result<(), Refusal> {
         (Notice::Link { first: 1, second: 5 }, "020105\n"),
         (Notice::Link { first: 5, second: 1 }, "020501\n"),
         (Notice::Link { first: 255, second: 255 }, "02FFFF\n"),
+        (Notice::YardOpening { code: 5, neighbours: vec![0, 2, 4] }, "040503000204\n"),
+        (Notice::YardOpening { code: 0, neighbours: vec![] }, "040000\n"),
     ] {
         assert_eq!(notice::write(&notice.frame())?, line.as_bytes());
         assert_eq!(notice::read(line.as_bytes())?, (notice, line.len()));
     }
-    let longest = Notice::Opening { code: 255, neighbours: (0..=254).collect() };
-    assert_eq!(notice::read(&notice::write(&longest.frame())?)?, (longest, notice::LINE_LIMIT));
+    let (code, all) = (255, (0..=254).collect::<Vec<u8>>());
+    for longest in [Notice::Opening { code, neighbours: all.clone() }, Notice::YardOpening { code, neighbours: all.clone() }] {
+        assert_eq!(notice::read(&notice::write(&longest.frame())?)?, (longest, notice::LINE_LIMIT));
+    }
     for count in [256, 257, 511, 512] {
-        let more = Notice::Opening { code: 255, neighbours: vec![7; count] };
-        assert_eq!(notice::write(&more.frame()), Err(Refusal::Garbled));
+        let neighbours = vec![7; count];
+        for more in [Notice::Opening { code, neighbours: neighbours.clone() }, Notice::YardOpening { code, neighbours }] {
+            assert_eq!(notice::write(&more.frame()), Err(Refusal::Garbled));
+        }
     }
     Ok(())
 }

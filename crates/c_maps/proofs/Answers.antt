@@ -3,12 +3,12 @@ use mathlib.Core.Path.{_≡_, refl, sym, ap, _∙_}
 use mathlib.Core.Bool.{Bool, not}
 use mathlib.Core.List.{List, [], _∷_}
 use Prim.Native.Nat.{ℕ, zero, suc, _≤_, _<_}
-use lib.ListN.{length, getD, take}
+use lib.ListN.{length, getD}
 use borrow.Author.Tests.{lt-ltb, le-ltb}
 use Rattle.lists.specs.Lists.{overwrite, firstOf}
 use Rattle.graph.specs.Distance.{connected}
 use Rattle.map.specs.Room.{Tables, Lent, sizesOf, longEnough}
-use Rattle.map.specs.Memory.{base, networkOf}
+use Rattle.map.specs.Memory.{base}
 use Rattle.map.specs.Empty.{EmptyLeft, emptyLeft, emptyRefusal, emptyGiven, emptyCall}
 use Rattle.map.specs.declared.Record.{Record}
 use Rattle.map.specs.declared.Emptied.{Emptied}
@@ -22,7 +22,7 @@ use Rattle.reckon.specs.declared.Reckoning.the-variants.{Searches, Refused as N
 use Rattle.reckon.proofs.Reckons.{granted-tests}
 use Rattle.c_values.specs.Words.{recordWords, recordOf, wordsOf, clampedOf}
 use Rattle.c_maps.specs.Outs.{EmptyOut, emptiedOut, emptyFrom, emptyOut, SearchOut, searchedOut, searchFrom, searchOut, ReckonOut, reckonedOut, reckonFrom, reckonOut}
-use Rattle.c_values.proofs.Clamps.{links-clamp, links-first-clamp, number-fits}
+use Rattle.c_values.proofs.Clamps.{networkIn, links-clamp, links-first-clamp, number-fits}
 use Rattle.lent_map.specs.Faults.{lentFaults, lentRefusal}
 
 -- ---- emptying
@@ -62,11 +62,11 @@ module _ (l links pairs : List ℕ) where
 
 -- ---- the search
 
-module _ (l links : List ℕ) (B : Tables) (old code : ℕ) where
+module _ (l links : List ℕ) (B : Tables) (old oldDepth code : ℕ) where
   abbrev found : SearchLeft → SearchOut
-  found x = searchFrom (x .answer) (x .lent) old
+  found x = searchFrom (x .answer) (x .lent) old oldDepth
 
-  pub search-short : length l < recordWords → searchedOut 1 old B ≡ searchOut l links B old code
+  pub search-short : length l < recordWords → searchedOut 1 old oldDepth B ≡ searchOut l links B old oldDepth code
   unfolding searchOut
   search-short e = rw (lt-ltb (length l) recordWords e)
 
@@ -75,27 +75,27 @@ module _ (l links : List ℕ) (B : Tables) (old code : ℕ) where
   unfolding searchCall searchGiven searchRefusal clampedOf recordOf
   search-clamp =
       go _ _ (links-first-clamp l links (longEnough base (searchSizes base (length links) (length (B .hops)) (length (B .even)) (length (B .odd))))
-      ((not (networkOf 4 (take 4 l) links .isOpen code), 4) ∷ []))
+      ((not (networkIn l links .isOpen code), 4) ∷ []))
     where
       go : (j k : ℕ) → j ≡ k → searchGiven j base (clampedOf l) links B code ≡ searchGiven k base (recordOf l) links B code
       go j zero e = ap (λ (x : ℕ). searchGiven x base (clampedOf l) links B code) e
       go j (suc k) e = ap (λ (x : ℕ). searchGiven x base (clampedOf l) links B code) e
 
-  search-whole : recordWords ≤ length l → found (searchCall base (recordOf l) links B code) ≡ searchOut l links B old code
+  search-whole : recordWords ≤ length l → found (searchCall base (recordOf l) links B code) ≡ searchOut l links B old oldDepth code
   unfolding searchOut
   search-whole h = rw (le-ltb (length l) recordWords h)
 
   module _ (h : recordWords ≤ length l) {rec : Record} (read : rec ≡ clampedOf l) (got : Found) {B′ : Tables} (left : searchLeft got B′ ≡ searchCall base rec links B code) where
-    called-search : found (searchLeft got B′) ≡ searchOut l links B old code
+    called-search : found (searchLeft got B′) ≡ searchOut l links B old oldDepth code
     called-search = ap found (left ∙ ap (λ (x : Record). searchCall base x links B code) read ∙ search-clamp) ∙ search-whole h
 
-    pub search-done : {e : ℕ} → got ≡ Reached e → searchedOut 0 e B′ ≡ searchOut l links B old code
+    pub search-done : {e d : ℕ} → got ≡ Reached e d → searchedOut 0 e d B′ ≡ searchOut l links B old oldDepth code
     unfolding searchFrom
-    search-done q = sym (ap (λ (x : Found). searchFrom x B′ old) q) ∙ called-search
+    search-done q = sym (ap (λ (x : Found). searchFrom x B′ old oldDepth) q) ∙ called-search
 
-    pub search-refused : {k : ℕ} → got ≡ NoSearch k → searchedOut k old B′ ≡ searchOut l links B old code
+    pub search-refused : {k : ℕ} → got ≡ NoSearch k → searchedOut k old oldDepth B′ ≡ searchOut l links B old oldDepth code
     unfolding searchFrom
-    search-refused q = sym (ap (λ (x : Found). searchFrom x B′ old) q) ∙ called-search
+    search-refused q = sym (ap (λ (x : Found). searchFrom x B′ old oldDepth) q) ∙ called-search
 
 -- ---- the whole reckoning
 
@@ -110,15 +110,15 @@ module _ (l links : List ℕ) (B : Lent) (old : ℕ) where
   refusal-clamp : reckonRefusal base (clampedOf l) links (sizesOf links B) ≡ reckonRefusal base (recordOf l) links (sizesOf links B)
   unfolding reckonRefusal lentRefusal lentFaults clampedOf recordOf
   refusal-clamp =
-      ap (λ (t : Bool). firstOf ((not (longEnough base (sizesOf links B)), 1) ∷ (not t, 2) ∷ (not (connected (networkOf 4 (take 4 l) links)), 3) ∷ []))
-      (links-clamp (take 4 l) links (getD l 4 0))
+      ap (λ (t : Bool). firstOf ((not (longEnough base (sizesOf links B)), 1) ∷ (not t, 2) ∷ (not (connected (networkIn l links)), 3) ∷ []))
+      (links-clamp (networkIn l links) (getD l 4 0))
 
   reckon-clamp : reckoned (reckonCall base (clampedOf l) links B) ≡ reckoned (reckonCall base (recordOf l) links B)
   unfolding reckonCall reckonGiven reckonFrom figuredBy wordsOf clampedOf recordOf
   reckon-clamp = ap (λ (k : ℕ). reckoned (reckonGiven k base (clampedOf l) links B)) refusal-clamp ∙ go (reckonRefusal base (recordOf l) links (sizesOf links B)) refl
     where
       go : (k : ℕ) → reckonRefusal base (recordOf l) links (sizesOf links B) ≡ k → reckoned (reckonGiven k base (clampedOf l) links B) ≡ reckoned (reckonGiven k base (recordOf l) links B)
-      go zero e = rw (number-fits (take 4 l) links (getD l 4 0) (granted-tests base (recordOf l) links (sizesOf links B) e .0))
+      go zero e = rw (number-fits (networkIn l links) (getD l 4 0) (granted-tests base (recordOf l) links (sizesOf links B) e .0))
       go (suc k) e = refl
 
   reckon-whole : recordWords ≤ length l → reckoned (reckonCall base (recordOf l) links B) ≡ reckonOut l links B old

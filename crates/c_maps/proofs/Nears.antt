@@ -4,11 +4,11 @@ use mathlib.Core.Bool.{not, _&&_}
 use mathlib.Core.List.{List, [], _∷_}
 use Prim.Native.Nat.{ℕ, zero, suc, _≤_, _<_}
 use lib.Dec.{leb}
-use lib.ListN.{length, take}
+use lib.ListN.{length}
 use borrow.Author.Tests.{lt-ltb, le-ltb}
 use Rattle.lists.specs.Lists.{anyb}
 use Rattle.map.specs.Room.{Tables, longEnough}
-use Rattle.map.specs.Memory.{base, places, networkOf}
+use Rattle.map.specs.Memory.{base, places}
 use Rattle.map.specs.declared.Record.{Record}
 use Rattle.search.specs.SearchCall.{searchSizes}
 use Rattle.nearby.specs.WithinCall.{withinRefusal, WithinLeft, withinLeft, withinGiven, withinCall}
@@ -18,7 +18,7 @@ use Rattle.nearby.specs.declared.Listing.the-variants.{Listed, Refused as NoLis
 use Rattle.nearby.specs.declared.Closest.{Closest}
 use Rattle.nearby.specs.declared.Closest.the-variants.{At, Refused as NoChoice}
 use Rattle.c_values.specs.Words.{recordWords, recordOf, clampedOf}
-use Rattle.c_values.proofs.Clamps.{links-first-clamp}
+use Rattle.c_values.proofs.Clamps.{networkIn, links-first-clamp}
 use Rattle.c_maps.specs.Nears.{ListedOut, listedOut, withinFrom, withinOut, ChosenOut, chosenOut, closestFrom, nearestOut}
 
 -- ---- the depots within k handovers
@@ -37,7 +37,7 @@ module _ (l links : List ℕ) (B : Tables) (codes : List ℕ) (old code k : ℕ)
   within-clamp-out =
       go _ _ (links-first-clamp l links
       (longEnough base (searchSizes base (length links) (length (B .hops)) (length (B .even)) (length (B .odd))) && leb (places base) (length codes))
-      ((not (networkOf 4 (take 4 l) links .isOpen code), 4) ∷ []))
+      ((not (networkIn l links .isOpen code), 4) ∷ []))
     where
       go : (i j : ℕ) → i ≡ j → withinGiven i base (clampedOf l) links B codes code k ≡ withinGiven j base (recordOf l) links B codes code k
       go i zero e = ap (λ (x : ℕ). withinGiven x base (clampedOf l) links B codes code k) e
@@ -74,7 +74,7 @@ module _ (l links : List ℕ) (B : Tables) (old oldDistance code : ℕ) (listed 
   unfolding nearestCall nearestGiven nearestRefusal clampedOf recordOf
   nearest-clamp-out =
       go _ _ (links-first-clamp l links (longEnough base (searchSizes base (length links) (length (B .hops)) (length (B .even)) (length (B .odd))))
-      ((not (networkOf 4 (take 4 l) links .isOpen code), 4) ∷ (not (anyb (networkOf 4 (take 4 l) links .isOpen) listed), 10) ∷ []))
+      ((not (networkIn l links .isOpen code), 4) ∷ (not (anyb (networkIn l links .isOpen) listed), 10) ∷ []))
     where
       go : (i j : ℕ) → i ≡ j → nearestGiven i base (clampedOf l) links B code listed ≡ nearestGiven j base (recordOf l) links B code listed
       go i zero e = ap (λ (x : ℕ). nearestGiven x base (clampedOf l) links B code listed) e

@@ -4,20 +4,20 @@ use mathlib.Core.Bool.{_&&_}
 use mathlib.Core.List.{List, [], _∷_}
 use Prim.Native.Nat.{ℕ, zero, suc, _≤_, _<_}
 use lib.Dec.{leb, ltb}
-use lib.ListN.{length, take}
+use lib.ListN.{length}
 use borrow.Author.Tests.{lt-ltb, le-ltb}
 use Rattle.lists.specs.Lists.{countb}
 use Rattle.graph.specs.Network.{delivers}
 use Rattle.graph.specs.Distance.{vertices}
 use Rattle.map.specs.Room.{Tables, longEnough}
-use Rattle.map.specs.Memory.{base, places, networkOf}
+use Rattle.map.specs.Memory.{base, places}
 use Rattle.map.specs.declared.Record.{Record}
 use Rattle.search.specs.SearchCall.{searchSizes}
 use Rattle.summary.specs.SummaryCall.{summaryRefusal, SummaryLeft, summaryLeft, summaryGiven, summaryCall}
 use Rattle.summary.specs.declared.Summing.{Summing}
 use Rattle.summary.specs.declared.Summing.the-variants.{Summed, Refused}
 use Rattle.c_values.specs.Words.{recordWords, recordOf, clampedOf}
-use Rattle.c_values.proofs.Clamps.{links-first-clamp}
+use Rattle.c_values.proofs.Clamps.{networkIn, links-first-clamp}
 use Rattle.c_maps.specs.Summaries.{FourNumbers, fourNumbers, SummaryOut, summedOut, summaryFrom, summaryOut}
 
 module _ (l links : List ℕ) (B : Tables) (counts : List ℕ) (old : FourNumbers) where
@@ -34,7 +34,7 @@ module _ (l links : List ℕ) (B : Tables) (counts : List ℕ) (old : FourNumber
   summary-clamp-out =
       go _ _ (links-first-clamp l links
       (longEnough base (searchSizes base (length links) (length (B .hops)) (length (B .even)) (length (B .odd))) && leb (places base) (length counts))
-      ((ltb (countb (delivers (networkOf 4 (take 4 l) links)) (vertices (networkOf 4 (take 4 l) links))) 2, 15) ∷ []))
+      ((ltb (countb (delivers (networkIn l links)) (vertices (networkIn l links))) 2, 15) ∷ []))
     where
       go : (i j : ℕ) → i ≡ j → summaryGiven i base (clampedOf l) links B counts ≡ summaryGiven j base (recordOf l) links B counts
       go i zero e = ap (λ (x : ℕ). summaryGiven x base (clampedOf l) links B counts) e

@@ -31,7 +31,7 @@ pub record EmptyOut : Type 0 where
 abbrev pub emptiedOut : ℕ → List ℕ → List ℕ → List ℕ → EmptyOut
 emptiedOut r words links pairs = record { refusal = r; words = words; links = links; pairs = pairs }
 
--- the number for each case of the answer, and the record's words: the new record over the first seven, or the old words
+-- the number for each case of the answer, and the record's words: the new record over the first eleven, or the old words
 unfoldable pub emptyFrom : Emptying → EmptyLeft → List ℕ → EmptyOut
 emptyFrom Done x words = emptiedOut 0 (overwrite (wordsOf (x .after)) words) (x .links) (x .pairs)
 emptyFrom (NoEmptying k) x words = emptiedOut k words (x .links) (x .pairs)
@@ -46,20 +46,21 @@ emptyOut words links pairs =
 pub record SearchOut : Type 0 where
   pub refusal : ℕ
   pub eccentricity : ℕ
+  pub depth : ℕ
   pub lent : Tables
 
-abbrev pub searchedOut : ℕ → ℕ → Tables → SearchOut
-searchedOut r e B = record { refusal = r; eccentricity = e; lent = B }
+abbrev pub searchedOut : ℕ → ℕ → ℕ → Tables → SearchOut
+searchedOut r e d B = record { refusal = r; eccentricity = e; depth = d; lent = B }
 
--- the number for each case of the answer, and the lent number: the eccentricity, or what stood there
-unfoldable pub searchFrom : Found → Tables → ℕ → SearchOut
-searchFrom (Reached e) B old = searchedOut 0 e B
-searchFrom (NoSearch k) B old = searchedOut k old B
+-- the number for each case of the answer, and the lent numbers: the eccentricity, and the distance of the last layer; or what stood there
+unfoldable pub searchFrom : Found → Tables → ℕ → ℕ → SearchOut
+searchFrom (Reached e d) B oldEccentricity oldDepth = searchedOut 0 e d B
+searchFrom (NoSearch k) B oldEccentricity oldDepth = searchedOut k oldEccentricity oldDepth B
 
-unfoldable pub searchOut : List ℕ → List ℕ → Tables → ℕ → ℕ → SearchOut
-searchOut words links B old code =
+unfoldable pub searchOut : List ℕ → List ℕ → Tables → ℕ → ℕ → ℕ → SearchOut
+searchOut words links B oldEccentricity oldDepth code =
     let x = searchCall base (recordOf words) links B code in
-    cond (ltb (length words) recordWords) (searchedOut shortBuffer old B) (searchFrom (x .answer) (x .lent) old)
+    cond (ltb (length words) recordWords) (searchedOut shortBuffer oldEccentricity oldDepth B) (searchFrom (x .answer) (x .lent) oldEccentricity oldDepth)
 
 -- ---- the whole reckoning
 

@@ -3,11 +3,11 @@ use Prim.Native.Nat.{ℕ, _+_, _*_}
 
 -- rises where a program that was built with the header before would no longer do the same: arguments, sizes, numbers or promises changed
 abbrev pub majorVersion : ℕ
-majorVersion = 3
+majorVersion = 4
 
 -- rises where something was added and all that was there stayed; 0 again with a new major number
 abbrev pub minorVersion : ℕ
-minorVersion = 1
+minorVersion = 0
 
 -- both as one number
 abbrev pub interfaceVersion : ℕ

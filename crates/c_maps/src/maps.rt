@@ -29,7 +29,8 @@ pub extern "C" fn zorpedi_empty(words: &mut [u64], links: &mut [u64], pairs: &mu
     }
 }
 
-// The search from a depot. 0, and its eccentricity; or 1 (short), 2 (spoilt), 3 (apart), 4 (absent).
+// The search from a depot. 0, its eccentricity, which is to depots that deliver, and its depth, the distance of the last layer, which is of all open
+// depots; or 1 (short), 2 (spoilt), 3 (apart), 4 (absent).
 #[no_mangle]
 pub extern "C" fn zorpedi_search(
     words: &[u64],
@@ -38,13 +39,14 @@ pub extern "C" fn zorpedi_search(
     even: &mut [u64],
     odd: &mut [u64],
     eccentricity: &mut u16,
+    depth: &mut u16,
     code: u8,
 ) -> u8
     ensures { λ r.
         let before = tablesBefore hops even odd in
         let after = tablesAfter hops even odd in
-        ⌜ searchedOut r (now (eccentricity .exit)) after
-        ≡ searchOut (now (words .entry)) (now (links .entry)) before (now (eccentricity .entry)) code ⌝ }
+        ⌜ searchedOut r (now (eccentricity .exit)) (now (depth .exit)) after
+        ≡ searchOut (now (words .entry)) (now (links .entry)) before (now (eccentricity .entry)) (now (depth .entry)) code ⌝ }
 {
     if words.len() < c_values::RECORD_WORDS {
         return outcome::SHORT;
@@ -52,8 +54,9 @@ pub extern "C" fn zorpedi_search(
     let rec = c_values::record_of(words);
     let found = search::search_from(rec, links, hops, even, odd, code);
     match found {
-        Found::Reached(e) => {
+        Found::Reached(e, d) => {
             *eccentricity = e;
+            *depth = d;
             0
         }
         Found::Refused(k) => k,

@@ -7,5 +7,5 @@ ghost use Rattle.c_maps.specs.Version.{interfaceVersion};
 pub extern "C" fn zorpedi_version() -> u32
     ensures { λ r. ⌜ r ≡ interfaceVersion ⌝ }
 {
-    3001
+    4000
 }

@@ -4,13 +4,13 @@ use mathlib.Core.Bool.{Bool, not, _&&_}
 use mathlib.Core.List.{List, _∷_}
 use Prim.Native.Nat.{ℕ, zero, suc, _≤_, _<_}
 use lib.Dec.{leb}
-use lib.ListN.{length, getD, take}
+use lib.ListN.{length, getD}
 use borrow.Author.Tests.{lt-ltb, le-ltb}
 use Rattle.lists.specs.Lists.{overwrite, firstOf}
 use Rattle.graph.specs.Distance.{vertices, connected}
 use Rattle.rows.specs.Rows.{tableBit}
 use Rattle.map.specs.Room.{Lent, sizesOf, longEnough}
-use Rattle.map.specs.Memory.{base, networkOf}
+use Rattle.map.specs.Memory.{base}
 use Rattle.map.specs.declared.Record.{Record}
 use Rattle.lent_map.specs.Faults.{lentFaults}
 use Rattle.batch.specs.Lines.{batchLimit, batchFaults}
@@ -19,7 +19,7 @@ use Rattle.batch_update.specs.declared.Batched.{Batched}
 use Rattle.batch_update.specs.declared.BatchAnswer.the-variants.{Opened, Refused as NoBatch}
 use Rattle.batch_update.proofs.Refuses.{granted}
 use Rattle.c_values.specs.Words.{recordWords, recordOf, wordsOf, clampedOf}
-use Rattle.c_values.proofs.Clamps.{links-clamp, figures-clamp, clamped-is}
+use Rattle.c_values.proofs.Clamps.{networkIn, links-clamp, figures-clamp, clamped-is}
 use Rattle.c_updates.specs.BatchOuts.{BatchOut, batchedOut, batchFrom, batchOut}
 
 module _ (l links : List ℕ) (B : Lent) (left : List ℕ) (old : ℕ) (lines : List ℕ) where
@@ -37,15 +37,15 @@ module _ (l links : List ℕ) (B : Lent) (left : List ℕ) (old : ℕ) (lines : 
   batch-refusal-clamp : first (clampedOf l) ≡ first (recordOf l)
   unfolding batchRefusal lentFaults clampedOf recordOf
   batch-refusal-clamp =
-      let G = networkOf 4 (take 4 l) links in
+      let G = networkIn l links in
       ap₂
       (λ (t u : Bool). firstOf
       ((not (leb batchLimit (length left) && longEnough base (sizesOf links B)), 1)
       ∷ (not (t && u), 2)
       ∷ (not (connected G), 3)
       ∷ batchFaults (length (vertices G)) lines))
-      (links-clamp (take 4 l) links (getD l 4 0))
-      (figures-clamp (take 4 l) links (tableBit 4 (B .pairs)) (getD l 5 0) (getD l 6 0))
+      (links-clamp (networkIn l links) (getD l 4 0))
+      (figures-clamp (networkIn l links) (tableBit 4 (B .pairs)) (getD l 5 0) (getD l 6 0))
 
   -- an accepted batch read the record that was lent
   batch-read : first (recordOf l) ≡ 0 → clampedOf l ≡ recordOf l

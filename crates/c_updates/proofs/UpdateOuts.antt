@@ -3,7 +3,7 @@ use mathlib.Core.Path.{_≡_, refl, sym, ap, ap₂, _∙_}
 use mathlib.Core.Bool.{Bool, not, _&&_}
 use mathlib.Core.List.{List, _∷_}
 use Prim.Native.Nat.{ℕ, zero, suc, _≤_, _<_}
-use lib.ListN.{length, getD, take}
+use lib.ListN.{length, getD}
 use borrow.Author.Tests.{lt-ltb, le-ltb, not-false}
 use Rattle.lists.specs.Lists.{overwrite, firstOf}
 use Rattle.lists.proofs.Tests.{and-true}
@@ -12,7 +12,7 @@ use Rattle.graph.specs.Distance.{connected}
 use Rattle.graph.specs.Updates.{Update, updateFaults}
 use Rattle.rows.specs.Rows.{tableBit}
 use Rattle.map.specs.Room.{Lent, sizesOf, longEnough}
-use Rattle.map.specs.Memory.{base, networkOf}
+use Rattle.map.specs.Memory.{base}
 use Rattle.checks.specs.Sound.{soundLinks, soundFigures}
 use Rattle.map.specs.declared.Record.{Record}
 use Rattle.outcome.specs.Outcome.{letterOf}
@@ -22,7 +22,7 @@ use Rattle.update.specs.UpdateCall.{UpdateLeft, updateLeft, updateRefusal, upda
 use Rattle.update.specs.declared.Returned.{Returned}
 use Rattle.c_values.specs.Words.{recordWords, recordOf, wordsOf, clampedOf}
 use Rattle.c_updates.specs.UpdateOuts.{Handed, handed, handedBy, UpdateOut, updatedOut, updateFrom, updateOut}
-use Rattle.c_values.proofs.Clamps.{links-clamp, figures-clamp, number-fits, figures-fit}
+use Rattle.c_values.proofs.Clamps.{networkIn, links-clamp, figures-clamp, number-fits, figures-fit}
 use Rattle.lent_map.specs.Faults.{lentFaults}
 
 -- ---- what is handed over
@@ -54,22 +54,22 @@ module _ (l links : List ℕ) (B : Lent) (o : Update) (old : ℕ) where
       (λ (t u : Bool). firstOf
       ((not (longEnough base (sizesOf links B)), 1)
       ∷ (not (t && u), 2)
-      ∷ (not (connected (networkOf 4 (take 4 l) links)), 3)
-      ∷ updateFaults (networkOf 4 (take 4 l) links) o))
-      (links-clamp (take 4 l) links (getD l 4 0))
-      (figures-clamp (take 4 l) links (tableBit 4 (B .pairs)) (getD l 5 0) (getD l 6 0))
+      ∷ (not (connected (networkIn l links)), 3)
+      ∷ updateFaults (networkIn l links) o))
+      (links-clamp (networkIn l links) (getD l 4 0))
+      (figures-clamp (networkIn l links) (tableBit 4 (B .pairs)) (getD l 5 0) (getD l 6 0))
 
   -- an accepted update read the record that was lent
   read-whole : updateRefusal base (recordOf l) links (B .pairs) (sizesOf links B) o ≡ 0 → clampedOf l ≡ recordOf l
   unfolding updateRefusal lentFaults clampedOf recordOf
   read-whole e =
-      let N = networkOf 4 (take 4 l) links in
+      let N = networkIn l links in
       let P = tableBit 4 (B .pairs) in
       let a = first-zero (not (longEnough base (sizesOf links B))) 0 _ e in
       let b = first-zero (not (soundLinks 256 N (getD l 4 0) && soundFigures 256 N P (getD l 5 0) (getD l 6 0))) 1 _ (a .1) in
       let c = and-true (soundLinks 256 N (getD l 4 0)) (soundFigures 256 N P (getD l 5 0) (getD l 6 0)) (not-false _ (b .0)) in
-      let f = figures-fit (take 4 l) links P (getD l 5 0) (getD l 6 0) (c .1) in
-      rw (number-fits (take 4 l) links (getD l 4 0) (c .0), f .0, f .1)
+      let f = figures-fit N P (getD l 5 0) (getD l 6 0) (c .1) in
+      rw (number-fits N (getD l 4 0) (c .0), f .0, f .1)
 
   refuse : (k : ℕ) → gives (updateGiven (suc k) base (clampedOf l) links B o) ≡ gives (updateGiven (suc k) base (recordOf l) links B o)
   unfolding updateGiven handedBy

@@ -25,7 +25,7 @@ pub record BatchOut : Type 0 where
 abbrev pub batchedOut : ℕ → List ℕ → ℕ → List ℕ → Lent → List ℕ → BatchOut
 batchedOut r words n links B left = record { refusal = r; words = words; count = n; links = links; lent = B; left = left }
 
--- the number for each case of the answer; the record's words and the lent number: the new record over the first seven and how many lines are left
+-- the number for each case of the answer; the record's words and the lent number: the new record over the first eleven and how many lines are left
 -- over, or what stood there
 unfoldable pub batchFrom : BatchAnswer → BatchLeft → List ℕ → ℕ → BatchOut
 batchFrom (Opened n) x words old = batchedOut 0 (overwrite (wordsOf (x .memory .rec)) words) n (x .memory .links) (x .memory .lent) (x .left)

@@ -1,5 +1,6 @@
-// The calls that open a depot and that link two.
+// The calls that open a depot or a yard and that link two.
 ghost use mathlib.Core.Path.{_≡_};
+ghost use mathlib.Core.Bool.{true, false};
 ghost use Prim.Native.Nat.{_≤_};
 ghost use lib.ListN.{length};
 ghost use Rattle.map.specs.Slices.{lentBefore, lentAfter};
@@ -29,7 +30,49 @@ fn hand_over(words: &mut [u64], searches: &mut u16, got: Returned) -> u8
     }
 }
 
-// The opening of a depot. 71 (G, grew), 75 (K, kept) or 83 (S, shrank), and the number of searches; or the number of the refusal.
+// The opening of a depot, or of a yard.
+fn open_depot(
+    words: &mut [u64],
+    links: &mut [u64],
+    pairs: &mut [u64],
+    hops: &mut [u16],
+    bounds: &mut [u16],
+    skips: &mut [u16],
+    even: &mut [u64],
+    odd: &mut [u64],
+    searches: &mut u16,
+    yard: bool,
+    code: u8,
+    neighbours: &[u8],
+) -> u8
+    ensures { λ r.
+        let before = lentBefore pairs hops bounds skips even odd in
+        let after = lentAfter pairs hops bounds skips even odd in
+        let asked = opens (noticeOf yard code (now (neighbours .entry))) in
+        ⌜ updatedOut r (now (words .exit)) (now (searches .exit)) (now (links .exit)) after
+        ≡ updateOut (now (words .entry)) (now (links .entry)) before asked (now (searches .entry)) ⌝ }
+{
+    if words.len() < c_values::RECORD_WORDS {
+        return outcome::SHORT;
+    }
+    let rec = c_values::record_of(&*words);
+    let got = opening::open_step(
+        rec,
+        links,
+        pairs,
+        hops,
+        bounds,
+        skips,
+        even,
+        odd,
+        yard,
+        code,
+        neighbours,
+    );
+    hand_over(words, searches, got)
+}
+
+// The opening of a depot that delivers. 71 (G, grew), 75 (K, kept) or 83 (S, shrank), and the number of searches; or the number of the refusal.
 #[no_mangle]
 pub extern "C" fn zorpedi_open(
     words: &mut [u64],
@@ -47,16 +90,12 @@ pub extern "C" fn zorpedi_open(
     ensures { λ r.
         let before = lentBefore pairs hops bounds skips even odd in
         let after = lentAfter pairs hops bounds skips even odd in
-        let asked = opens (noticeOf code (now (neighbours .entry))) in
+        let asked = opens (noticeOf false code (now (neighbours .entry))) in
         ⌜ updatedOut r (now (words .exit)) (now (searches .exit)) (now (links .exit)) after
         ≡ updateOut (now (words .entry)) (now (links .entry)) before asked (now (searches .entry)) ⌝ }
 {
-    if words.len() < c_values::RECORD_WORDS {
-        return outcome::SHORT;
-    }
-    let rec = c_values::record_of(&*words);
-    let got = opening::open_step(
-        rec,
+    open_depot(
+        words,
         links,
         pairs,
         hops,
@@ -64,10 +103,49 @@ pub extern "C" fn zorpedi_open(
         skips,
         even,
         odd,
+        searches,
+        false,
         code,
         neighbours,
-    );
-    hand_over(words, searches, got)
+    )
+}
+
+// The opening of a yard, which makes no chain grow. 75 (K, kept) or 83 (S, shrank), and the number of searches; or the number of the refusal.
+#[no_mangle]
+pub extern "C" fn zorpedi_open_yard(
+    words: &mut [u64],
+    links: &mut [u64],
+    pairs: &mut [u64],
+    hops: &mut [u16],
+    bounds: &mut [u16],
+    skips: &mut [u16],
+    even: &mut [u64],
+    odd: &mut [u64],
+    searches: &mut u16,
+    code: u8,
+    neighbours: &[u8],
+) -> u8
+    ensures { λ r.
+        let before = lentBefore pairs hops bounds skips even odd in
+        let after = lentAfter pairs hops bounds skips even odd in
+        let asked = opens (noticeOf true code (now (neighbours .entry))) in
+        ⌜ updatedOut r (now (words .exit)) (now (searches .exit)) (now (links .exit)) after
+        ≡ updateOut (now (words .entry)) (now (links .entry)) before asked (now (searches .entry)) ⌝ }
+{
+    open_depot(
+        words,
+        links,
+        pairs,
+        hops,
+        bounds,
+        skips,
+        even,
+        odd,
+        searches,
+        true,
+        code,
+        neighbours,
+    )
 }
 
 // The link of two open depots. 75 (K, kept) or 83 (S, shrank), and the number of searches; or the number of the refusal.

@@ -1,4 +1,4 @@
--- The record in seven words.
+-- The record in eleven words.
 pub mod Words
 -- Figures that are too large for the record's fields.
 pub mod Clamps

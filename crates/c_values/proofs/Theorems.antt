@@ -1,10 +1,11 @@
 -- THEOREMS: an answer's number names its outcome; what is written into the record's words is what is read from them. Assumes nothing.
-use mathlib.Core.Path.{_≡_, refl}
+use mathlib.Core.Path.{_≡_, refl, ap}
 use mathlib.Core.List.{List, [], _∷_, _++_}
 use Prim.Native.Nat.{ℕ, _<_}
 use native.Mathlib.Nat.{lt-irrefl}
 use native.Mathlib.Omega.{arith}
 use lib.ListN.{length, getD, take, drop}
+use lib.Seq.{take-at}
 use borrow.Author.Tests.{ne-eqb}
 use Rattle.lists.specs.Lists.{overwrite}
 use Rattle.map.specs.declared.Record.{Record}
@@ -30,15 +31,18 @@ outcome-of-refusal k l = rw (ne-eqb k 71 (λ e. lt-irrefl 0 (omega (arith, l, e)
 -- ---- the record's words
 
 -- WRITTEN IS READ
-pub words-read : (rec : Record) (l : List ℕ) → length (rec .members) ≡ 4 → recordOf (overwrite (wordsOf rec) l) ≡ rec
+pub words-read : (rec : Record) (l : List ℕ) → length (rec .members) ≡ 4 → length (rec .yards) ≡ 4 → recordOf (overwrite (wordsOf rec) l) ≡ rec
 unfolding recordOf wordsOf overwrite
-words-read rec l e = go (rec .members) e
+words-read rec l e f = go (rec .members) e
   where
     go : (members : List ℕ) → length members ≡ 4
-        → let w = members ++ (rec .number ∷ rec .chain ∷ rec .count ∷ []) in
+        → let w = members ++ (rec .number ∷ rec .chain ∷ rec .count ∷ rec .yards) in
         let t = w ++ drop (length w) l in
-        _≡_ {A = Record} (record { members = take 4 t; number = getD t 4 0; chain = getD t 5 0; count = getD t 6 0 }) (record { members = members; number = rec .number; chain = rec .chain; count = rec .count })
-    go (a ∷ b ∷ c ∷ d ∷ []) e = refl
+        _≡_ {A = Record} (record { members = take 4 t; number = getD t 4 0; chain = getD t 5 0; count = getD t 6 0; yards = take 4 (drop 7 t) })
+        (record { members = members; number = rec .number; chain = rec .chain; count = rec .count; yards = rec .yards })
+    go (a ∷ b ∷ c ∷ d ∷ []) e =
+        ap (λ (y : List ℕ). record { members = a ∷ b ∷ c ∷ d ∷ []; number = rec .number; chain = rec .chain; count = rec .count; yards = y })
+        (take-at (rec .yards) _ 4 f)
     go [] e = absurd (lt-irrefl 0 (omega (arith, e)))
     go (a ∷ []) e = absurd (lt-irrefl 0 (omega (arith, e)))
     go (a ∷ b ∷ []) e = absurd (lt-irrefl 0 (omega (arith, e)))

@@ -1,12 +1,13 @@
--- THE RECORD AS SEVEN LENT WORDS: the open set (four words), the number open, the longest chain, the pair count. Assumes nothing.
-use mathlib.Core.List.{List, [], _∷_, _++_}
-use Prim.Native.Nat.{ℕ, _+_, min}
-use lib.ListN.{getD, take}
+-- THE RECORD AS ELEVEN LENT WORDS: the open set (four words), the number open, the longest chain, the pair count, and the yard set (four words).
+-- Assumes nothing.
+use mathlib.Core.List.{List, _∷_, _++_}
+use Prim.Native.Nat.{ℕ, _+_, _*_, min}
+use lib.ListN.{getD, take, drop}
 use Rattle.map.specs.Memory.{base}
 use Rattle.map.specs.declared.Record.{Record}
 
 abbrev pub recordWords : ℕ
-recordWords = base .words + 3
+recordWords = 2 * base .words + 3
 
 unfoldable pub recordOf : List ℕ → Record
 recordOf words = record {
@@ -14,10 +15,11 @@ recordOf words = record {
   number = getD words (base .words) 0;
   chain = getD words (base .words + 1) 0;
   count = getD words (base .words + 2) 0;
+  yards = take (base .words) (drop (base .words + 3) words);
 }
 
 unfoldable pub wordsOf : Record → List ℕ
-wordsOf rec = rec .members ++ (rec .number ∷ rec .chain ∷ rec .count ∷ [])
+wordsOf rec = rec .members ++ (rec .number ∷ rec .chain ∷ rec .count ∷ rec .yards)
 
 -- ---- a step of the code: nobody has to believe it
 
@@ -35,4 +37,5 @@ clampedOf words = record {
   number = min (getD words (base .words) 0) most16;
   chain = min (getD words (base .words + 1) 0) most16;
   count = min (getD words (base .words + 2) 0) most32;
+  yards = take (base .words) (drop (base .words + 3) words);
 }

@@ -1,7 +1,8 @@
-// What the calls for other languages share: the record as seven lent words, the outcome of an answer's number, the refusal of a stream's step.
+// What the calls for other languages share: the record as eleven lent words, the outcome of an answer's number, the refusal of a stream's step.
 ghost use mathlib.Core.Path.{_≡_};
-ghost use Prim.Native.Nat.{_≤_, _<_, min};
-ghost use lib.ListN.{length, set};
+ghost use mathlib.Core.List.{_++_};
+ghost use Prim.Native.Nat.{_+_, _≤_, _<_, min};
+ghost use lib.ListN.{length, set, take, drop};
 ghost use Rattle.lists.specs.Lists.{overwrite};
 ghost use Rattle.map.specs.Memory.{base};
 ghost use Rattle.map.specs.Room.{sizes};
@@ -14,15 +15,17 @@ use outcome::Outcome;
 
 // ---- the record
 
-// the words that a record is lent for C: its open set, then number open, chain and pair count; in specifications `recordWords`
-pub const RECORD_WORDS: usize = map::WORDS + 3;
+// the words that a record is lent for C: its open set, then number open, chain and pair count, then its yard set; in specifications `recordWords`
+pub const RECORD_WORDS: usize = 2 * map::WORDS + 3;
 
-// where the figures stand, behind the open set; in specifications `base .words`, and one and two past it
+// where the figures stand, behind the open set, and the yard set behind these; in specifications `base .words`, and one, two and three past it
 const NUMBER_WORD: usize = map::WORDS;
 
 const CHAIN_WORD: usize = map::WORDS + 1;
 
 const COUNT_WORD: usize = map::WORDS + 2;
+
+const YARDS_WORD: usize = map::WORDS + 3;
 
 // the largest numbers of 16 and of 32 bits; in specifications `most16`, `most32`
 const MOST_16: u16 = 65535;
@@ -49,16 +52,27 @@ fn at_32_bits(x: u64) -> u32
     x as u32
 }
 
-// The record in seven lent words. Figures that are too large for it stay too large for any map, so that they are found spoilt.
+// The row of four words from a place on.
+fn row_at(words: &[u64], at: usize) -> [u64; map::WORDS]
+    requires { ⌜ at + base .words ≤ length (now words) ⌝ }
+    ensures { λ r. ⌜ r ≡ take (base .words) (drop at (now (words .entry))) ⌝ }
+{
+    [words[at], words[at + 1], words[at + 2], words[at + 3]]
+}
+
+// The record in eleven lent words. Figures that are too large for it stay too large for any map, so that they are found spoilt.
 pub fn record_of(words: &[u64]) -> Record
     requires { ⌜ recordWords ≤ length (now words) ⌝ }
     ensures { λ r. ⌜ r ≡ clampedOf (now (words .entry)) ⌝ }
 {
+    let members = row_at(words, 0);
+    let yards = row_at(words, YARDS_WORD);
     Record {
-        members: [words[0], words[1], words[2], words[3]],
+        members: members,
         number: at_16_bits(words[NUMBER_WORD]),
         chain: at_16_bits(words[CHAIN_WORD]),
         count: at_32_bits(words[COUNT_WORD]),
+        yards: yards,
     }
 }
 
@@ -70,27 +84,29 @@ fn put_word(words: &mut [u64], i: usize, x: u64)
     words[i] = x;
 }
 
-// Puts the open set into the first four words.
-fn put_members(words: &mut [u64], members: &[u64])
-    requires { ⌜ (recordWords ≤ length (now words)) × (length (now members) ≡ base .words) ⌝ }
-    ensures { λ r. ⌜ now (words .exit) ≡ overwrite (now (members .entry)) (now (words .entry)) ⌝ }
+// Puts a row into the four words from a place on; the others stay.
+fn put_row(words: &mut [u64], at: usize, row: &[u64])
+    requires { ⌜ (at + base .words ≤ length (now words)) × (length (now row) ≡ base .words) ⌝ }
+    ensures { λ r. let before = now (words .entry) in ⌜ now (words .exit) ≡ overwrite (take at before ++ now (row .entry)) before ⌝ }
 {
-    put_word(words, 0, members[0]);
-    put_word(words, 1, members[1]);
-    put_word(words, 2, members[2]);
-    put_word(words, 3, members[3]);
+    put_word(words, at, row[0]);
+    put_word(words, at + 1, row[1]);
+    put_word(words, at + 2, row[2]);
+    put_word(words, at + 3, row[3]);
 }
 
-// Puts a record into seven lent words; words past them stay.
+// Puts a record into eleven lent words; words past them stay.
 pub fn put_record(words: &mut [u64], rec: Record)
     requires { ⌜ recordWords ≤ length (now words) ⌝ }
     ensures { λ r. ⌜ now (words .exit) ≡ overwrite (wordsOf rec) (now (words .entry)) ⌝ }
 {
     let members = rec.members;
-    put_members(words, &members);
+    put_row(words, 0, &members);
     put_word(words, NUMBER_WORD, rec.number as u64);
     put_word(words, CHAIN_WORD, rec.chain as u64);
     put_word(words, COUNT_WORD, rec.count as u64);
+    let yards = rec.yards;
+    put_row(words, YARDS_WORD, &yards);
 }
 
 // ---- an answer's number

@@ -1,9 +1,9 @@
 //! Openings in a batch: lines in any order, two notices for one code, lines that cannot be opened, garbled lines, too many lines or none; on true maps,
 //! false figures, damaged maps and memory of no map.
-use crate::both::{empty, open, open_batch, reckon};
+use crate::both::{empty, open, open_batch, open_yard, reckon};
 use crate::expected::{network, store_map};
 use crate::inputs::growths::some_size;
-use crate::inputs::lines::{longest_line, notice_line};
+use crate::inputs::lines::{longest_line, notice_line, opening_line, yard_line};
 use crate::inputs::{Dice, Growth, SHAPES};
 use crate::lent::{Lent, SIZES};
 use crate::maps::{any_figures, any_memory, damage, true_map, DAMAGES};
@@ -58,6 +58,10 @@ fn garbled_lines() -> Vec<Vec<u8>> {
         "01010100\r\n",
         " 01010100\n",
         "01 010100\n",
+        "04010200\n",
+        "040101\n",
+        "03010100\n",
+        "05010100\n",
     ];
     texts.iter().map(|text| text.as_bytes().to_vec()).chain([overlong]).collect()
 }
@@ -116,6 +120,30 @@ fn the_first_of_two_notices_for_a_code() {
     let lines = [notice_line(9, &[30]), notice_line(20, &[0]), notice_line(9, &[20])];
     assert_eq!((open_batch(&mut m, &lines.concat()), left(&m)), (0, &[0][..]));
     assert!(are_linked(&m, 9, 20));
+}
+
+/// The same of a yard: whichever notice for 9 can be accepted first says whether it is one. Yards open beside depots and depots beside yards, and a chain of
+/// them that comes in reverse order is opened whole.
+#[test]
+fn yards_in_a_batch() {
+    for (first, third) in [(true, false), (false, true)] {
+        let lines = [opening_line(first, 9, &[20]), yard_line(20, &[0]), opening_line(third, 9, &[0])];
+        let mut m = path(24_250_000, &[0]);
+        assert_eq!((open_batch(&mut m, &lines.concat()), left(&m)), (0, &[2][..]));
+        assert_eq!(network(&m).yards, if first { BTreeSet::from([9, 20]) } else { BTreeSet::from([20]) });
+        assert_eq!(m.record.data[4..7], if first { [3, 0, 0] } else { [3, 2, 1] });
+    }
+    let lines: Vec<Vec<u8>> = (1..=64).rev().map(|i| opening_line(i % 2 == 1, 3 * i, &[3 * (i - 1) as u8])).collect();
+    let mut m = path(24_260_000, &[0]);
+    assert_eq!((open_batch(&mut m, &lines.concat()), m.left_count), (0, 0));
+    assert_eq!(m.record.data[4..7], [65, 64, 1]);
+    assert_eq!(network(&m).yards, (1..=64).step_by(2).map(|i| 3 * i).collect());
+    // a yard is refused as a depot is: taken, lonely, unsorted, unknown
+    let lines = [yard_line(0, &[3]), yard_line(200, &[]), yard_line(200, &[3, 0]), yard_line(200, &[200]), notice_line(3, &[0])];
+    assert_eq!((open_batch(&mut m, &lines.concat()), m.left_count), (0, 5));
+    // one yard that is open bears a batch
+    assert_eq!((empty(&mut m), open_yard(&mut m, 7, &[])), (0, b'K'));
+    assert_eq!((open_batch(&mut m, &notice_line(8, &[7])), m.left_count, m.record.data[4]), (0, 0, 2));
 }
 
 /// A line for each way to be refused, and none of them stands in the way of the others: taken, lonely, unsorted, unknown, itself, twice the same.
@@ -192,7 +220,7 @@ fn the_largest_set_of_any_order() {
         let lines: Vec<Vec<u8>> = (0..5)
             .map(|_| {
                 let some: BTreeSet<u8> = (0..1 + dice.below(2)).map(|_| dice.pick(&[3, 140, 7, 70, 200])).collect();
-                notice_line(dice.pick(&[7, 70, 200]), &some.into_iter().collect::<Vec<u8>>())
+                opening_line(dice.once_in(3), dice.pick(&[7, 70, 200]), &some.into_iter().collect::<Vec<u8>>())
             })
             .collect();
         assert_eq!(open_batch(&mut m, &lines.concat()), 0);
@@ -201,7 +229,7 @@ fn the_largest_set_of_any_order() {
             let mut map = Map { figures: network_before.figures(), network: network_before.clone() };
             for i in order {
                 let (frame, _) = frame_of(&lines[i]).expect("a notice");
-                let _ = map.open(frame[1], &frame[3..]);
+                let _ = map.open_frame(&frame);
             }
             assert!(map.network.open.is_subset(&reached));
             smaller += usize::from(map.network.open.len() < reached.len());
@@ -357,7 +385,7 @@ fn some_notices(dice: &mut Dice, open: &BTreeSet<usize>, size: usize) -> Vec<Vec
             3 | 4 => beside = BTreeSet::from_iter(beside.into_iter().chain([dice.byte()])).into_iter().collect(),
             _ => {}
         }
-        lines.push(notice_line(code.into(), &beside));
+        lines.push(opening_line(dice.once_in(4), code.into(), &beside));
         known.push(code);
     }
     if !dice.once_in(5) {
@@ -391,7 +419,7 @@ fn some_batch(dice: &mut Dice, open: &BTreeSet<usize>) -> Vec<u8> {
 fn opened_by_one_pass(map: &Map, lines: &[u8]) -> usize {
     let mut map = map.clone();
     let frames = lines.split_inclusive(|&b| b == 0x0A).filter_map(frame_of);
-    frames.filter(|(frame, _)| map.open(frame[1], &frame[3..]).is_ok()).count()
+    frames.filter(|(frame, _)| map.open_frame(frame).is_ok()).count()
 }
 
 /// A few batches one after the other, each on what the one before left; true figures stay true.
@@ -437,7 +465,7 @@ fn on_false_but_sound_figures() {
         let mut dice = Dice::new(27_000_000 + seed);
         let shape = dice.pick(&SHAPES);
         let size = some_size(&mut dice).min(if seed % 10 == 0 { 256 } else { 40 });
-        let grown = Growth::new(&mut dice, shape).network(&mut dice, size);
+        let grown = Growth::some(&mut dice, shape).network(&mut dice, size);
         let mut m = any_memory(&mut dice);
         store_map(&mut m, &Map { figures: any_figures(&mut dice, &grown), network: grown });
         against += run_batches(&mut dice, &mut m, false, &mut tally);

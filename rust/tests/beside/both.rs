@@ -50,6 +50,20 @@ pub fn open(m: &mut Lent, code: u8, neighbours: &[u8]) -> u8 {
     beside("open", m, |m| expected::open(m, code), |m| raw::open(m, code))
 }
 
+pub fn open_yard(m: &mut Lent, code: u8, neighbours: &[u8]) -> u8 {
+    m.input = Buffer::new(neighbours.to_vec());
+    beside("open_yard", m, |m| expected::open_yard(m, code), |m| raw::open_yard(m, code))
+}
+
+/// Opens a yard, or a depot that delivers.
+pub fn open_as(m: &mut Lent, is_yard: bool, code: u8, neighbours: &[u8]) -> u8 {
+    if is_yard {
+        open_yard(m, code, neighbours)
+    } else {
+        open(m, code, neighbours)
+    }
+}
+
 pub fn link(m: &mut Lent, first: u8, second: u8) -> u8 {
     beside("link", m, |m| expected::link(m, first, second), |m| raw::link(m, first, second))
 }

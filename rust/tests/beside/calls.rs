@@ -1,5 +1,5 @@
 //! The calls on a map, by chance: lists of openings, true and false figures, damaged maps, any memory. Links are tried more closely in links.rs.
-use crate::both::{empty, link, open, open_batch, reckon, search, summary};
+use crate::both::{empty, link, open, open_as, open_batch, open_yard, reckon, search, summary};
 use crate::expected::{network, store_map};
 use crate::inputs::growths::some_size;
 use crate::inputs::{Dice, Growth, SHAPES};
@@ -55,11 +55,11 @@ fn some_notice(dice: &mut Dice, open: &BTreeSet<usize>) -> (u8, Vec<u8>) {
     (code, list)
 }
 
-/// One list of openings from the empty map, some of its calls refused, some buffers short now and then.
+/// One list of openings from the empty map, with yards or without, some of its calls refused, some buffers short now and then.
 fn run_list(seed: u64, size: usize, tally: &mut Tally) {
     let mut dice = Dice::new(seed);
     let shape = dice.pick(&SHAPES);
-    let growth = Growth::new(&mut dice, shape);
+    let growth = Growth::some(&mut dice, shape);
     let mut m = any_memory(&mut dice);
     assert_eq!(empty(&mut m), 0);
     let mut next = 0;
@@ -72,16 +72,17 @@ fn run_list(seed: u64, size: usize, tally: &mut Tally) {
             next += 1;
             (growth.order[next - 1] as u8, growth.neighbours(&mut dice, next - 1, size))
         };
+        let is_yard = growth.yards.contains(&code.into());
         if dice.once_in(20) {
             let mut short = m.clone();
             let which = dice.below(8);
             let lent = dice.below(SIZES[which]);
             short.set_lent(which, lent);
-            assert_eq!(open(&mut short, code, &neighbours), 1);
+            assert_eq!(open_as(&mut short, is_yard, code, &neighbours), 1);
             tally.count(1);
         }
         let chain = m.record.data[5];
-        let answer = open(&mut m, code, &neighbours);
+        let answer = open_as(&mut m, is_yard, code, &neighbours);
         tally.count(answer);
         if b"GKS".contains(&answer) && (size <= 40 || dice.once_in(8)) {
             assert_opened(&m, chain, code, answer);
@@ -146,14 +147,14 @@ fn openings_on_false_but_sound_figures() {
         let mut dice = Dice::new(2_000_000 + seed);
         let shape = dice.pick(&SHAPES);
         let size = some_size(&mut dice).min(if seed % 10 == 0 { 256 } else { 40 });
-        let grown = Growth::new(&mut dice, shape).network(&mut dice, size);
+        let grown = Growth::some(&mut dice, shape).network(&mut dice, size);
         let mut m = any_memory(&mut dice);
         store_map(&mut m, &Map { figures: any_figures(&mut dice, &grown), network: grown });
         // what it leaves is sound again, so the next opening goes on from it
         for _ in 0..3 {
             let open_set = network(&m).open;
             let (code, neighbours) = some_notice(&mut dice, &open_set);
-            tally.count(open(&mut m, code, &neighbours));
+            tally.count(open_as(&mut m, dice.once_in(2), code, &neighbours));
         }
     }
     tally.assert_all(&[5, 6, 7, 8, b'G', b'K', b'S'], 50);
@@ -174,7 +175,7 @@ fn damaged_maps() {
                 damage(&mut dice, &mut m, &network, other);
             }
             let (code, neighbours) = some_notice(&mut dice, &network.open);
-            opened.count(open(&mut m.clone(), code, &neighbours));
+            opened.count(open_as(&mut m.clone(), dice.once_in(2), code, &neighbours));
             searched.count(search(&mut m.clone(), dice.byte()));
             reckoned.count(reckon(&mut m.clone()));
             assert_eq!(empty(&mut m), 0);
@@ -191,7 +192,7 @@ fn memory_of_no_map() {
     for seed in 0..200 {
         let mut dice = Dice::new(4_000_000 + seed);
         let mut m = any_memory(&mut dice);
-        assert_eq!(open(&mut m, 1, &[2, 3]), 2);
+        assert_eq!((open(&mut m, 1, &[2, 3]), open_yard(&mut m, 1, &[2, 3])), (2, 2));
         assert_eq!(link(&mut m, 1, 2), 2);
         assert_eq!(search(&mut m, 1), 2);
         assert_eq!(reckon(&mut m), 2);
@@ -215,7 +216,7 @@ fn short_and_long_buffers() {
                 }
                 m.set_lent(which, lent);
                 let (code, neighbours) = some_notice(&mut dice, &network.open);
-                let opened = open(&mut m.clone(), code, &neighbours);
+                let opened = open_as(&mut m.clone(), dice.once_in(2), code, &neighbours);
                 assert_eq!(opened == 1, lent < size);
                 let linked = link(&mut m.clone(), code, dice.byte());
                 assert_eq!(linked == 1, lent < size);
@@ -250,6 +251,7 @@ fn several_short_buffers() {
         }
         let (code, neighbours) = some_notice(&mut dice, &network.open);
         open(&mut m.clone(), code, &neighbours);
+        open_yard(&mut m.clone(), code, &neighbours);
         link(&mut m.clone(), code, dice.byte());
         open_batch(&mut m.clone(), b"");
         search(&mut m.clone(), code);

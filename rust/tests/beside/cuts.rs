@@ -143,6 +143,22 @@ fn links() {
     );
 }
 
+/// A depot among yards, a chain through them, a yard that shortens it, links of yards; and the refusals of a yard, which are a depot's.
+#[test]
+fn yards() {
+    given(
+        b"0400020201\n04000101\n040000\n040000\n010000\n040100\n04010100\n01020101\n04030102\n0104010\n040401\n01040103\n0405020204\n020103\n\
+          020105\n020101\n01060105",
+        "1 R7 0 0 0 0\n2 R8 0 0 0 0\n3 K 1 0 0 1\n4 R5 1 0 0 0\n5 R5 1 0 0 0\n6 R6 1 0 0 0\n7 K 2 0 0 1\n8 K 3 0 0 1\n9 K 4 0 0 1\n\
+         10 R9 4 0 0 0\n11 R9 4 0 0 0\n12 G 5 2 1 1\n13 K 6 2 1 1\n14 K 6 2 1 2\n15 K 6 2 1 2\n16 R13 6 2 1 0\n17 R9 6 2 1 0\n",
+    );
+    // the path 0-1-2-3-4 of depots, which a yard closes to a ring, and a depot that is linked to the yard
+    given(
+        b"010000\n01010100\n01020101\n01030102\n01040103\n0405020004\n01060105\n020206\n",
+        "1 K 1 0 0 1\n2 G 2 1 1 1\n3 G 3 2 1 1\n4 G 4 3 1 1\n5 G 5 4 1 1\n6 S 6 3 2 6\n7 G 7 4 1 1\n8 S 7 3 2 7\n",
+    );
+}
+
 /// Some bytes, the digit 0 many times, and other bytes.
 fn around(before: &str, times: usize, after: &str) -> Vec<u8> {
     format!("{before}{}{after}", "0".repeat(times)).into_bytes()

@@ -2,8 +2,8 @@
 //! has to answer.
 use crate::lent::{Buffer, Lent};
 use crate::plain::lines::{frame_of, is_frame, line_of, report_of, Fields};
-use crate::plain::network::{are_sound_figures, eccentricity, layer, Distances};
-use crate::plain::opening::{reckoning, Status, Work};
+use crate::plain::network::{are_sound_figures, depth, layer, Distances};
+use crate::plain::opening::{reckoning, Opened, Status, Work};
 use crate::plain::summary::Mean;
 use crate::plain::words::{bits_of_table, row_of_codes, table_of_bits};
 use crate::plain::{stream, Figures, Map, Network};
@@ -12,10 +12,14 @@ pub const CLOSED: u16 = 65_535;
 pub const SEARCHED: u16 = 256;
 pub const OTHER: u16 = 257;
 
+/// The words of the record, and the first of the yard set, which is the last four of them.
+pub const RECORD: usize = 11;
+pub const YARDS: usize = 7;
+
 // ---- what stands in the memory
 
 pub fn network(m: &Lent) -> Network {
-    Network::of(&m.record.data[..4], &m.links.data)
+    Network::of(&m.record.data[..4], &m.record.data[YARDS..RECORD], &m.links.data)
 }
 
 /// The figures that are stored, true or false.
@@ -27,10 +31,11 @@ fn map(m: &Lent) -> Map {
     Map { network: network(m), figures: figures(m) }
 }
 
-/// Writes open set, number open, link table, chain, pair count and pair table.
+/// Writes open set, number open, yard set, link table, chain, pair count and pair table.
 pub fn store_map(m: &mut Lent, map: &Map) {
     m.record.data[..4].copy_from_slice(&row_of_codes(&map.network.open));
     m.record.data[4] = map.network.open.len() as u64;
+    m.record.data[YARDS..RECORD].copy_from_slice(&row_of_codes(&map.network.yards));
     m.links.data[..1024].copy_from_slice(&table_of_bits(map.network.bits()));
     store_figures(m, &map.figures);
 }
@@ -42,15 +47,15 @@ pub fn store_figures(m: &mut Lent, figures: &Figures) {
     m.pairs.data[..1024].copy_from_slice(&table_of_bits(figures.pairs.iter().copied()));
 }
 
-/// Writes what a search leaves in hop table and layer rows (rules 3.1 and 3.2).
+/// Writes what a search leaves in hop table and layer rows (rules 3.1 and 3.2): yards are in them, so that the last layer's row goes by its depth.
 fn store_search(m: &mut Lent, distances: &Distances) {
     for code in 0..256 {
         m.hops.data[code] = distances[code].map_or(CLOSED, |d| d as u16);
     }
-    let e = eccentricity(distances);
-    let last = row_of_codes(&layer(distances, e));
-    let before = if e == 0 { [0; 4] } else { row_of_codes(&layer(distances, e - 1)) };
-    let (even, odd) = if e % 2 == 0 { (last, before) } else { (before, last) };
+    let depth = depth(distances);
+    let last = row_of_codes(&layer(distances, depth));
+    let before = if depth == 0 { [0; 4] } else { row_of_codes(&layer(distances, depth - 1)) };
+    let (even, odd) = if depth % 2 == 0 { (last, before) } else { (before, last) };
     m.even.data[..4].copy_from_slice(&even);
     m.odd.data[..4].copy_from_slice(&odd);
 }
@@ -83,7 +88,7 @@ fn is_short<T>(buffer: &Buffer<T>, size: usize) -> bool {
 }
 
 fn is_map_short(m: &Lent) -> bool {
-    is_short(&m.record, 7)
+    is_short(&m.record, RECORD)
         || is_short(&m.links, 1024)
         || is_short(&m.pairs, 1024)
         || is_short(&m.hops, 256)
@@ -109,7 +114,7 @@ fn links_refusal(m: &Lent) -> u8 {
 fn map_refusal(m: &Lent) -> u8 {
     let refusal = links_refusal(m);
     let (record, pairs) = (&m.record.data, bits_of_table(&m.pairs.data));
-    if refusal != 2 && !are_sound_figures(&network(m).open, &pairs, record[5], record[6]) {
+    if refusal != 2 && !are_sound_figures(&network(m), &pairs, record[5], record[6]) {
         return 2;
     }
     refusal
@@ -118,17 +123,17 @@ fn map_refusal(m: &Lent) -> u8 {
 // ---- the calls on a map
 
 pub fn empty(m: &mut Lent) -> u8 {
-    if is_short(&m.record, 7) || is_short(&m.links, 1024) || is_short(&m.pairs, 1024) {
+    if is_short(&m.record, RECORD) || is_short(&m.links, 1024) || is_short(&m.pairs, 1024) {
         return 1;
     }
-    m.record.data[..7].fill(0);
+    m.record.data[..RECORD].fill(0);
     m.links.data[..1024].fill(0);
     m.pairs.data[..1024].fill(0);
     0
 }
 
 fn is_search_short(m: &Lent) -> bool {
-    is_short(&m.record, 7) || is_short(&m.links, 1024) || is_short(&m.hops, 256) || is_short(&m.even, 4) || is_short(&m.odd, 4)
+    is_short(&m.record, RECORD) || is_short(&m.links, 1024) || is_short(&m.hops, 256) || is_short(&m.even, 4) || is_short(&m.odd, 4)
 }
 
 /// 1 to 4 of a call that searches from a depot.
@@ -147,9 +152,11 @@ pub fn search(m: &mut Lent, code: u8) -> u8 {
     if refusal != 0 {
         return refusal;
     }
-    let distances = network(m).distances(code.into());
+    let network = network(m);
+    let distances = network.distances(code.into());
     store_search(m, &distances);
-    m.eccentricity = eccentricity(&distances) as u16;
+    m.eccentricity = network.eccentricity(&distances) as u16;
+    m.depth = depth(&distances) as u16;
     0
 }
 
@@ -185,7 +192,7 @@ pub fn nearest(m: &mut Lent, code: u8) -> u8 {
     }
 }
 
-/// The searches go by rising code, so that hop table and layer rows are those from the highest.
+/// The searches go by rising code, so that hop table and layer rows are those from the highest that delivers.
 pub fn summary(m: &mut Lent) -> u8 {
     if is_search_short(m) || is_short(&m.counts, 256) {
         return 1;
@@ -195,8 +202,8 @@ pub fn summary(m: &mut Lent) -> u8 {
         return refusal;
     }
     let network = network(m);
-    match (network.summary(), network.open.last()) {
-        (Some(summary), Some(&highest)) => {
+    match (network.summary(), network.delivering().last()) {
+        (Some(summary), Some(highest)) => {
             store_search(m, &network.distances(highest));
             m.counts.data[..256].copy_from_slice(&summary.counts);
             let Mean { sum, pairs, quotient, remainder } = summary.mean;
@@ -223,26 +230,21 @@ pub fn reckon(m: &mut Lent) -> u8 {
 }
 
 pub fn open(m: &mut Lent, code: u8) -> u8 {
-    if is_map_short(m) {
-        return 1;
-    }
-    let refusal = map_refusal(m);
-    if refusal != 0 {
-        return refusal;
-    }
-    let mut map = map(m);
-    match map.open(code, &m.input()) {
-        Err(refusal) => refusal,
-        Ok(opened) => {
-            store_map(m, &map);
-            store_work(m, &opened.work);
-            m.searches = searches(m);
-            opened.letter
-        }
-    }
+    let neighbours = m.input();
+    change(m, |map| map.open(code, &neighbours))
+}
+
+pub fn open_yard(m: &mut Lent, code: u8) -> u8 {
+    let neighbours = m.input();
+    change(m, |map| map.open_yard(code, &neighbours))
 }
 
 pub fn link(m: &mut Lent, first: u8, second: u8) -> u8 {
+    change(m, |map| map.link(first, second))
+}
+
+/// An opening or a link: what every such call refuses first, and what an accepted one leaves.
+fn change(m: &mut Lent, call: impl FnOnce(&mut Map) -> Result<Opened, u8>) -> u8 {
     if is_map_short(m) {
         return 1;
     }
@@ -251,13 +253,13 @@ pub fn link(m: &mut Lent, first: u8, second: u8) -> u8 {
         return refusal;
     }
     let mut map = map(m);
-    match map.link(first, second) {
+    match call(&mut map) {
         Err(refusal) => refusal,
-        Ok(linked) => {
+        Ok(changed) => {
             store_map(m, &map);
-            store_work(m, &linked.work);
+            store_work(m, &changed.work);
             m.searches = searches(m);
-            linked.letter
+            changed.letter
         }
     }
 }

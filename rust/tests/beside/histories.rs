@@ -1,8 +1,8 @@
 //! Histories of openings: a network of a shape grows depot by depot, and before each opening come calls that are bent so that they are refused. In some
-//! the depots open in batches too, whose lines are shuffled.
-use crate::both::{empty, open, open_batch, reckon};
+//! the depots open in batches too, whose lines are shuffled; in some there are yards among them.
+use crate::both::{empty, open_as, open_batch, reckon};
 use crate::expected::{network, store_figures};
-use crate::inputs::lines::notice_line;
+use crate::inputs::lines::{notice_line, opening_line};
 use crate::inputs::{Dice, Growth, Shape};
 use crate::lent::{Lent, SIZES};
 use crate::maps::any_memory;
@@ -50,6 +50,7 @@ const BENDS: [Bend; 18] = [
 ];
 
 struct Notice {
+    is_yard: bool,
     code: u8,
     neighbours: Vec<u8>,
     short: Option<usize>,
@@ -67,11 +68,11 @@ impl Bend {
         }
     }
 
-    /// The notice of a code beside some neighbours, bent; `taken` is open, `closed` is not.
-    fn of(self, code: u8, neighbours: &[u8], taken: u8, closed: u8) -> Notice {
+    /// The notice of a code, a yard's or not, beside some neighbours, bent; `taken` is open, `closed` is not.
+    fn of(self, is_yard: bool, code: u8, neighbours: &[u8], taken: u8, closed: u8) -> Notice {
         let joined = |v: u8| BTreeSet::from_iter(neighbours.iter().copied().chain([v])).into_iter().collect::<Vec<u8>>();
         let repeated = |list: &[u8]| [list, &list[..list.len().min(1)]].concat();
-        let plain = Notice { code, neighbours: neighbours.to_vec(), short: None };
+        let plain = Notice { is_yard, code, neighbours: neighbours.to_vec(), short: None };
         match self {
             Bend::Taken => Notice { code: taken, ..plain },
             Bend::Lonely => Notice { neighbours: Vec::new(), ..plain },
@@ -118,10 +119,10 @@ impl History {
         let Some(doubt) = self.doubt.filter(|doubt| self.calls % doubt.every == 0) else {
             return;
         };
-        let open = network(&self.m).open;
+        let network = network(&self.m);
         let mut figures = Figures { chain: doubt.chain, ..Figures::default() };
-        for &u in &open {
-            figures.pairs.extend(open.range(u + 1..).filter(|_| self.dice.below(100) < doubt.percent).map(|&v| (u, v)));
+        for u in network.delivering() {
+            figures.pairs.extend(network.delivering().filter(|&v| u < v && self.dice.below(100) < doubt.percent).map(|v| (u, v)));
         }
         store_figures(&mut self.m, &figures);
     }
@@ -132,11 +133,11 @@ impl History {
         self.calls += 1;
         let before = self.m.record.data[5];
         let answer = match notice.short {
-            None => open(&mut self.m, notice.code, &notice.neighbours),
+            None => open_as(&mut self.m, notice.is_yard, notice.code, &notice.neighbours),
             Some(which) => {
                 let mut short = self.m.clone();
                 short.set_lent(which, SIZES[which] - 1);
-                open(&mut short, notice.code, &notice.neighbours)
+                open_as(&mut short, notice.is_yard, notice.code, &notice.neighbours)
             }
         };
         self.tally.count(answer);
@@ -151,20 +152,28 @@ impl History {
         for i in 0..size {
             let code = growth.order[i] as u8;
             let open = network(&self.m).open;
-            let mut neighbours = growth.neighbours(&mut self.dice, i, size);
-            neighbours.retain(|&v| open.contains(&v.into()));
+            let next = self.next(growth, i, size);
             let closed = growth.order.get(i + 1).map_or(code, |&next| next as u8);
             for _ in 0..bends {
                 let bend = BENDS[self.bent % BENDS.len()];
                 self.bent += 1;
-                let answer = self.call(&bend.of(code, &neighbours, growth.order[0] as u8, closed));
-                // the first opening takes any of these, and no neighbours cannot be unsorted
-                let is_void = open.is_empty() || matches!(bend, Bend::Unsorted) && neighbours.is_empty();
+                // every second one is a yard's; the first opening takes any of these, and no neighbours cannot be unsorted
+                let is_yard = if open.is_empty() { next.is_yard } else { self.bent % 2 == 0 };
+                let answer = self.call(&bend.of(is_yard, code, &next.neighbours, growth.order[0] as u8, closed));
+                let is_void = open.is_empty() || matches!(bend, Bend::Unsorted) && next.neighbours.is_empty();
                 assert!(is_void || answer == bend.refusal(), "{bend:?}: {answer}");
             }
-            self.call(&Notice { code, neighbours, short: None });
+            self.call(&next);
         }
         self
+    }
+
+    /// The notice of the depot that opens as number i, beside those of its neighbours that are open.
+    fn next(&mut self, growth: &Growth, i: usize, size: usize) -> Notice {
+        let (code, open) = (growth.order[i], network(&self.m).open);
+        let mut neighbours = growth.neighbours(&mut self.dice, i, size);
+        neighbours.retain(|&v| open.contains(&v.into()));
+        Notice { is_yard: growth.yards.contains(&code), code: code as u8, neighbours, short: None }
     }
 }
 
@@ -193,12 +202,13 @@ impl History {
             let mut neighbours = growth.neighbours(&mut self.dice, i, size);
             neighbours.retain(|&v| known.contains(&v.into()));
             known.insert(code);
-            lines.push(notice_line(code, &neighbours));
+            let is_yard = growth.yards.contains(&code);
+            lines.push(opening_line(is_yard, code, &neighbours));
             if self.dice.once_in(2) {
-                let bent = BENDS[self.bent % BENDS.len()].of(code as u8, &neighbours, growth.order[0] as u8, closed);
+                let bent = BENDS[self.bent % BENDS.len()].of(is_yard, code as u8, &neighbours, growth.order[0] as u8, closed);
                 self.bent += 1;
                 // a frame has at most 255 neighbours
-                lines.push(notice_line(bent.code.into(), &bent.neighbours[..bent.neighbours.len().min(255)]));
+                lines.push(opening_line(is_yard, bent.code.into(), &bent.neighbours[..bent.neighbours.len().min(255)]));
             }
         }
         self.dice.shuffle(&mut lines);
@@ -209,14 +219,13 @@ impl History {
     /// the dice have them. Before a batch come others that are refused.
     fn grow_mixed(mut self, growth: &Growth, size: usize) -> History {
         self.batch(&[notice_line(growth.order[0], &[])], 12);
-        self.call(&Notice { code: growth.order[0] as u8, neighbours: Vec::new(), short: None });
+        let first = self.next(growth, 0, size);
+        self.call(&first);
         let mut i = 1;
         while i < size {
             if self.dice.once_in(3) {
-                let open = network(&self.m).open;
-                let mut neighbours = growth.neighbours(&mut self.dice, i, size);
-                neighbours.retain(|&v| open.contains(&v.into()));
-                self.call(&Notice { code: growth.order[i] as u8, neighbours, short: None });
+                let next = self.next(growth, i, size);
+                self.call(&next);
                 i += 1;
                 continue;
             }
@@ -273,6 +282,30 @@ fn forty_depots_all_linked_or_at_random() {
     forty(Shape::Random(30)).assert_all(b"GKS", 1);
 }
 
+/// Eight histories of 40 depots, of which some are yards.
+fn forty_with_yards(shape: Shape) -> Tally {
+    let mut tally = Tally::new();
+    for way in 0..8 {
+        let mut history = History::begun(19_500_000 + way as u64, None);
+        let growth = Growth::spread(&mut history.dice, shape, way, 29 * way + 5).with_yards(&mut history.dice);
+        let history = history.grow(&growth, 40, 3);
+        assert_eq!(history.calls, 160);
+        tally.add(&history.tally);
+    }
+    tally.assert_all(&[1, 5, 6, 7, 8], 20);
+    tally
+}
+
+#[test]
+fn forty_depots_and_yards() {
+    for shape in [Shape::Path, Shape::Star, Shape::Grid, Shape::Heap, Shape::Random(0), Shape::Whole, Shape::Loose(6)] {
+        forty_with_yards(shape).assert_all(b"GK", 4);
+    }
+    for shape in [Shape::Ring, Shape::Trail(12), Shape::Random(4), Shape::Regional] {
+        forty_with_yards(shape).assert_all(b"GKS", 1);
+    }
+}
+
 /// Many of these depots are lonely, and stay closed.
 #[test]
 fn forty_depots_that_are_often_lonely() {
@@ -312,6 +345,19 @@ fn all_depots_at_random() {
     mixed(Shape::Random(20), b"GKS");
 }
 
+/// 256 depots, of which every eighth is a yard, or every second.
+#[test]
+fn all_depots_and_yards() {
+    for (shape, every) in [(Shape::Trail(1), 8), (Shape::Random(1), 2), (Shape::Regional, 8), (Shape::Grid, 2)] {
+        let mut history = History::begun(20_500_000, None);
+        let mut growth = Growth::spread(&mut history.dice, shape, 2, 77);
+        growth.yards = (0..256).step_by(every).collect();
+        let history = history.grow(&growth, 256, 1);
+        history.tally.assert_all(b"GK", 1);
+        assert_eq!((history.calls, history.m.record.data[4], network(&history.m).yards), (512, 256, growth.yards));
+    }
+}
+
 #[test]
 fn all_depots_in_a_path() {
     let record = all_depots(Shape::Path, 0).m.record.data;
@@ -328,7 +374,7 @@ fn all_depots_linked() {
 fn in_batches(shape: Shape, size: usize, letters: &[u8]) {
     let mut tally = Tally::new();
     for way in 0..4 {
-        let mut history = History::begun(23_000_000 + way as u64, None);
+        let mut history = History::begun(23_100_000 + way as u64, None);
         let growth = Growth::spread(&mut history.dice, shape, way, 29 * way + 5);
         let history = history.grow_mixed(&growth, size);
         assert!(history.m.record.data[4] as usize <= size);
@@ -360,6 +406,24 @@ fn batches_up_to_all_depots() {
     in_batches(Shape::Path, 256, b"GK");
 }
 
+/// Openings and batches of depots and yards.
+#[test]
+fn batches_of_depots_and_yards() {
+    for shape in [Shape::Path, Shape::Ring, Shape::Trail(12), Shape::Grid, Shape::Heap, Shape::Random(3), Shape::Loose(4)] {
+        let mut tally = Tally::new();
+        for way in 0..4 {
+            let mut history = History::begun(23_700_000 + way as u64, None);
+            let growth = Growth::spread(&mut history.dice, shape, way, 29 * way + 5).with_yards(&mut history.dice);
+            let history = history.grow_mixed(&growth, 90);
+            let open = network(&history.m).open;
+            assert_eq!(network(&history.m).yards, &growth.yards & &open);
+            tally.add(&history.tally);
+        }
+        tally.assert_all(&[0, 9, 11, 12], 4);
+        tally.assert_all(b"K", 1);
+    }
+}
+
 /// Openings and batches on figures that are made false before every second call.
 #[test]
 fn batches_on_figures_made_false_between() {
@@ -369,21 +433,23 @@ fn batches_on_figures_made_false_between() {
             let doubt = Doubt { every: 2, chain: k, percent: 7 * k };
             let mut history = History::begun(23_500_000 + k as u64, Some(doubt));
             let growth = Growth::spread(&mut history.dice, shape, k, 31 * k);
+            let growth = if k % 2 == 0 { growth } else { growth.with_yards(&mut history.dice) };
             tally.add(&history.grow_mixed(&growth, 40).tally);
         }
         tally.assert_all(&[0, 9, 11], 8);
     }
 }
 
-/// Histories of 30 depots whose figures are made false before every third call.
+/// Histories of 30 depots whose figures are made false before every third call, the later ones with yards.
 #[test]
 fn figures_made_false_between() {
     for shape in [Shape::Path, Shape::Ring, Shape::Trail(15), Shape::Random(5)] {
         let mut tally = Tally::new();
-        for k in 0..8 {
-            let doubt = Doubt { every: 3, chain: k, percent: 7 * k };
+        for k in 0..16 {
+            let doubt = Doubt { every: 3, chain: k % 8, percent: 7 * (k % 8) };
             let mut history = History::begun(21_000_000 + k as u64, Some(doubt));
             let growth = Growth::spread(&mut history.dice, shape, k, 31 * k);
+            let growth = if k < 8 { growth } else { growth.with_yards(&mut history.dice) };
             let history = history.grow(&growth, 30, 1);
             assert_eq!(history.calls, 60);
             tally.add(&history.tally);

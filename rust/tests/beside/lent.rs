@@ -38,6 +38,7 @@ pub struct Lent {
     /// What a call is lent to read: neighbours, a list of codes, an input, a frame, a piece, the lines of a batch.
     pub input: Buffer<u8>,
     pub eccentricity: u16,
+    pub depth: u16,
     pub searches: u16,
     pub count: u16,
     pub found: u8,
@@ -55,7 +56,7 @@ pub struct Lent {
 }
 
 /// The named size of each buffer, in the order of `set_lent`.
-pub const SIZES: [usize; 14] = [7, 1024, 1024, 256, 256, 256, 4, 4, 258, 517, 48, 256, 64, 256];
+pub const SIZES: [usize; 14] = [11, 1024, 1024, 256, 256, 256, 4, 4, 258, 517, 48, 256, 64, 256];
 
 impl Lent {
     /// Lends `size` elements of buffer `which`; there have to be that many.
@@ -108,6 +109,7 @@ impl Lent {
             .or_else(|| first("counts", &self.counts, &other.counts))
             .or_else(|| first("input", &self.input, &other.input))
             .or_else(|| number("eccentricity", self.eccentricity.into(), other.eccentricity.into()))
+            .or_else(|| number("depth", self.depth.into(), other.depth.into()))
             .or_else(|| number("searches", self.searches.into(), other.searches.into()))
             .or_else(|| number("count", self.count.into(), other.count.into()))
             .or_else(|| number("found", self.found.into(), other.found.into()))

@@ -72,7 +72,7 @@ fn every_part_of_the_longest_line() {
 fn faults_by_name() {
     let mut m = any_memory(&mut Dice::new(8_200_000));
     let zeros = [b'0'; 700];
-    let faults: [(&str, &[u8]); 22] = [
+    let faults: [(&str, &[u8]); 27] = [
         ("lower case", b"01ab00\n"),
         ("another letter", b"01G500\n"),
         ("a space between", b"01 0500\n"),
@@ -83,6 +83,11 @@ fn faults_by_name() {
         ("the count below the neighbours", b"0105010001\n"),
         ("kind 0", b"000500\n"),
         ("kind 3", b"030500\n"),
+        ("kind 5", b"050500\n"),
+        ("kind 40", b"400500\n"),
+        ("a yard without a count", b"0405\n"),
+        ("a yard whose count is above the neighbours", b"04050200\n"),
+        ("a yard whose count is below the neighbours", b"0405010001\n"),
         ("a link with a count", b"02010500\n"),
         ("a link with a third code", b"02010506\n"),
         ("a link of one code", b"0201\n"),
@@ -104,13 +109,15 @@ fn faults_by_name() {
 #[test]
 fn lines_with_others_behind_them() {
     let mut m = any_memory(&mut Dice::new(8_300_000));
-    let lines: [(&[u8], usize, usize); 6] = [
+    let lines: [(&[u8], usize, usize); 8] = [
         (b"010500\n", 3, 7),
         (b"010500\n010503000204\n", 3, 7),
         (b"01FF02FFFE\n\n\nxyz", 5, 11),
         (b"010503000204\n", 6, 13),
         (b"020105\n", 3, 7),
         (b"02FF00\n020105\n", 3, 7),
+        (b"040503000204\n040500\n", 6, 13),
+        (b"040500\n", 3, 7),
     ];
     for (input, length, used) in lines {
         assert_eq!((read(&mut m, input), m.length, m.used), (0, length, used));
@@ -132,15 +139,16 @@ fn with_every_byte_in_every_place(line: &[u8]) -> u32 {
     tally.times(0)
 }
 
-/// The line of rule 7.2, and that of a link: only other digits, and a neighbour count that is right, read.
+/// The line of rule 7.2, that of a yard and that of a link: only other digits, and a neighbour count that is right, read.
 #[test]
 fn every_character_in_every_place() {
-    // sixteen digits for the two of the code and the six of the neighbours, one for each other place
-    assert_eq!(with_every_byte_in_every_place(b"010503000204\n"), 8 * 16 + 5);
+    // sixteen digits for the two of the code and the six of the neighbours, two for the kind, which may be 1 or 4, one for each other place
+    assert_eq!(with_every_byte_in_every_place(b"010503000204\n"), 8 * 16 + 2 + 4);
+    assert_eq!(with_every_byte_in_every_place(b"040503000204\n"), 8 * 16 + 2 + 4);
     // sixteen for the four of the codes
     assert_eq!(with_every_byte_in_every_place(b"020105\n"), 4 * 16 + 3);
-    // the opening 010100 is as long as a link: the kind may be either digit, the count only the one
-    assert_eq!(with_every_byte_in_every_place(b"010100\n"), 2 * 16 + 6);
+    // the opening 010100 is as long as a link: the kind may be any of three digits, the count only the one
+    assert_eq!(with_every_byte_in_every_place(b"010100\n"), 2 * 16 + 3 + 4);
 }
 
 #[test]
@@ -175,18 +183,20 @@ fn write_and_read(frame: &[u8], tally: &mut Tally) {
 fn frames_of_every_count() {
     let mut tally = Tally::new();
     for count in 0..256 {
-        let frame = [&[1, (7 * count) as u8, count as u8][..], &filled(count, count)].concat();
-        write_and_read(&frame, &mut tally);
+        for kind in [1, 4] {
+            let frame = [&[kind, (7 * count) as u8, count as u8][..], &filled(count, count)].concat();
+            write_and_read(&frame, &mut tally);
+        }
     }
     tally.assert_only(&[0]);
 }
 
-/// Frames of 0 to 299 bytes: of the kinds 0 to 3, with the count 5, and with one that fits modulo 256.
+/// Frames of 0 to 299 bytes: of the kinds 0 to 5, with the count 5, and with one that fits modulo 256.
 #[test]
 fn frames_of_every_length() {
     let mut tally = Tally::new();
     for length in 0..300 {
-        for (kind, count) in [(0, 5), (1, 5), (2, 5), (3, 5), (1, length + 253), (2, length + 253)] {
+        for (kind, count) in (0..6).map(|kind| (kind, 5)).chain([1, 2, 4].map(|kind| (kind, length + 253))) {
             let mut frame = filled(length, length);
             for (place, byte) in [(0, kind), (2, count)] {
                 if let Some(there) = frame.get_mut(place) {
@@ -196,8 +206,8 @@ fn frames_of_every_length() {
             write_and_read(&frame, &mut tally);
         }
     }
-    // of kind 1 the 256 lengths from 3 on that fit their count, and 8 bytes with the count 5; of kind 2 three bytes, twice
-    assert_eq!((tally.times(0), tally.times(9)), (259, 1_800 - 259));
+    // of kinds 1 and 4 the 256 lengths from 3 on that fit their count, and 8 bytes with the count 5; of kind 2 three bytes, twice
+    assert_eq!((tally.times(0), tally.times(9)), (516, 2_700 - 516));
 }
 
 #[test]

@@ -1,9 +1,9 @@
 //! Links between two open depots: on every network of up to five depots and on others by chance, with true figures and with false but sound ones, between
 //! openings and batches, as calls and as lines; and cases worked by hand. What a link leaves is held to a search from every depot as well.
-use crate::both::{self, empty, feed, open, open_batch, read, reckon, write};
+use crate::both::{self, empty, feed, open, open_as, open_batch, read, reckon, write};
 use crate::expected::{network, store_figures, store_map};
 use crate::inputs::growths::some_size;
-use crate::inputs::lines::{link_line, notice_line};
+use crate::inputs::lines::{link_line, notice_line, opening_line};
 use crate::inputs::{Dice, Growth, SHAPES};
 use crate::lent::{Buffer, Lent, SIZES};
 use crate::maps::{any_figures, any_memory, damage, true_map, DAMAGES};
@@ -78,26 +78,72 @@ fn every_link_of_up_to_five_depots() {
     println!("{} kept, {} shrank", tally.times(b'K'), tally.times(b'S'));
 }
 
+/// The network with every choice of yards among its depots.
+fn with_yards(network: Network) -> impl Iterator<Item = Network> {
+    let codes: Vec<usize> = network.open.iter().copied().collect();
+    (0..1 << codes.len()).map(move |bits: usize| {
+        let yards = (0..codes.len()).filter(|i| bits >> i & 1 == 1).map(|i| codes[i]).collect();
+        Network { yards, ..network.clone() }
+    })
+}
+
+/// With every choice of yards, of which there may be none.
+#[test]
+fn every_link_of_up_to_four_depots_and_yards() {
+    let mut m = any_memory(&mut Dice::new(26_050_000));
+    let mut tally = Tally::new();
+    for network in (0..=4).flat_map(networks).flat_map(with_yards) {
+        store_map(&mut m, &Map { figures: network.figures(), network: network.clone() });
+        for &(u, v) in &all_pairs(network.open.len()) {
+            let mut next = m.clone();
+            let answer = link(&mut next, u as u8, v as u8);
+            assert_eq!(answer == 14, network.are_linked(u, v));
+            if answer != 14 {
+                assert_linked(&next, m.record.data[5], u as u8, v as u8, answer);
+            }
+            tally.count(answer);
+        }
+    }
+    tally.assert_only(&[14, b'K', b'S']);
+    println!("{} kept, {} shrank", tally.times(b'K'), tally.times(b'S'));
+}
+
 /// Every set of pairs and every chain of a few and the greatest: the empty set and 0 among them.
+fn every_link_on_false_figures(m: &mut Lent, network: &Network, tally: &mut Tally) {
+    let all = all_pairs(network.open.len());
+    let ends: Vec<(usize, usize)> = all.iter().copied().filter(|&(u, v)| network.delivers(u) && network.delivers(v)).collect();
+    store_map(m, &Map { network: network.clone(), figures: Figures::default() });
+    for pairs in sets_of(&ends) {
+        for chain in [0, 1, 2, 3, 4, 5, 255] {
+            store_figures(m, &Figures { chain, pairs: pairs.clone() });
+            for &(u, v) in all.iter().filter(|&&(u, v)| !network.are_linked(u, v)) {
+                let mut next = m.clone();
+                let letter = link(&mut next, u as u8, v as u8);
+                assert_linked_falsely(&next, m, u as u8, v as u8, letter);
+                assert!(chain != 0 || letter == b'K');
+                tally.count(letter);
+            }
+        }
+    }
+}
+
 #[test]
 fn every_link_of_up_to_four_depots_on_false_figures() {
     let mut m = any_memory(&mut Dice::new(26_100_000));
     let mut tally = Tally::new();
     for network in (3..=4).flat_map(networks) {
-        let all = all_pairs(network.open.len());
-        store_map(&mut m, &Map { network: network.clone(), figures: Figures::default() });
-        for pairs in sets_of(&all) {
-            for chain in [0, 1, 2, 3, 4, 5, 255] {
-                store_figures(&mut m, &Figures { chain, pairs: pairs.clone() });
-                for &(u, v) in all.iter().filter(|&&(u, v)| !network.are_linked(u, v)) {
-                    let mut next = m.clone();
-                    let letter = link(&mut next, u as u8, v as u8);
-                    assert_linked_falsely(&next, &m, u as u8, v as u8, letter);
-                    assert!(chain != 0 || letter == b'K');
-                    tally.count(letter);
-                }
-            }
-        }
+        every_link_on_false_figures(&mut m, &network, &mut tally);
+    }
+    tally.assert_only(b"KS");
+    println!("{} kept, {} shrank", tally.times(b'K'), tally.times(b'S'));
+}
+
+#[test]
+fn every_link_of_three_depots_and_some_of_four_with_yards_on_false_figures() {
+    let mut m = any_memory(&mut Dice::new(26_150_000));
+    let mut tally = Tally::new();
+    for network in networks(3).into_iter().chain(networks(4).into_iter().step_by(3)).flat_map(with_yards) {
+        every_link_on_false_figures(&mut m, &network, &mut tally);
     }
     tally.assert_only(b"KS");
     println!("{} kept, {} shrank", tally.times(b'K'), tally.times(b'S'));
@@ -137,7 +183,7 @@ fn some_opening(dice: &mut Dice, growth: &Growth, next: usize, size: usize) -> (
     }
 }
 
-/// Openings, batches and links in turns, refused ones among them, from the empty map. Each call takes what the one before left.
+/// Openings of depots and yards, batches and links in turns, refused ones among them, from the empty map. Each call takes what the one before left.
 #[test]
 fn histories_with_links() {
     let (mut links, mut openings) = (Tally::new(), Tally::new());
@@ -145,7 +191,7 @@ fn histories_with_links() {
         let mut dice = Dice::new(26_200_000 + seed);
         let size = if seed % 40 == 0 { 256 } else { 4 + dice.below(40) };
         let shape = dice.pick(&SHAPES);
-        let growth = Growth::new(&mut dice, shape);
+        let growth = Growth::some(&mut dice, shape);
         let mut m = any_memory(&mut dice);
         assert_eq!(empty(&mut m), 0);
         let mut next = 0;
@@ -160,10 +206,11 @@ fn histories_with_links() {
                 continue;
             }
             let (code, neighbours) = some_opening(&mut dice, &growth, next, size);
+            let is_yard = growth.yards.contains(&code.into());
             if next > 0 && dice.once_in(6) {
-                assert_eq!(open_batch(&mut m, &notice_line(code.into(), &neighbours)), 0);
+                assert_eq!(open_batch(&mut m, &opening_line(is_yard, code.into(), &neighbours)), 0);
             } else {
-                openings.count(open(&mut m, code, &neighbours));
+                openings.count(open_as(&mut m, is_yard, code, &neighbours));
             }
             next += usize::from(network(&m).open.len() > next);
         }
@@ -184,7 +231,7 @@ fn histories_from_false_figures() {
     for seed in 0..300 {
         let mut dice = Dice::new(26_250_000 + seed);
         let shape = dice.pick(&SHAPES);
-        let growth = Growth::new(&mut dice, shape);
+        let growth = Growth::some(&mut dice, shape);
         let (begun, size) = (2 + dice.below(20), 40);
         let mut m = any_memory(&mut dice);
         let grown = growth.network(&mut dice, begun);
@@ -201,7 +248,7 @@ fn histories_from_false_figures() {
             }
             tally.count(answer);
             let (code, neighbours) = (growth.order[next] as u8, growth.neighbours(&mut dice, next, size));
-            open(&mut m, code, &neighbours);
+            open_as(&mut m, growth.yards.contains(&code.into()), code, &neighbours);
         }
     }
     tally.assert_only(&[1, 4, 13, 14, b'K', b'S']);
@@ -266,7 +313,7 @@ fn links_on_false_but_sound_figures() {
         let mut dice = Dice::new(26_400_000 + seed);
         let shape = dice.pick(&SHAPES);
         let size = some_size(&mut dice).min(if seed % 10 == 0 { 256 } else { 40 });
-        let grown = Growth::new(&mut dice, shape).network(&mut dice, size);
+        let grown = Growth::some(&mut dice, shape).network(&mut dice, size);
         let mut m = any_memory(&mut dice);
         store_map(&mut m, &Map { figures: any_figures(&mut dice, &grown), network: grown });
         // what it leaves is sound again, so the next link goes on from it
@@ -506,7 +553,7 @@ fn begun(dice: &mut Dice, room: usize) -> Lent {
     m
 }
 
-/// Openings and links as calls and as the lines of a stream: the maps, the marks and the last search are the same.
+/// Openings of depots and yards and links, as calls and as the lines of a stream: the maps, the marks and the last search are the same.
 #[test]
 fn calls_and_lines() {
     let mut tally = Tally::new();
@@ -514,13 +561,14 @@ fn calls_and_lines() {
         let mut dice = Dice::new(26_820_000 + seed);
         let size = 3 + dice.below(30);
         let shape = dice.pick(&SHAPES);
-        let growth = Growth::new(&mut dice, shape);
+        let growth = Growth::some(&mut dice, shape);
         let mut fed = begun(&mut dice, 100);
         let mut called = fed.clone();
         for i in 0..size {
             let (code, neighbours) = (growth.order[i], growth.neighbours(&mut dice, i, size));
-            open(&mut called, code as u8, &neighbours);
-            assert_eq!(feed(&mut fed, &notice_line(code, &neighbours)), 0);
+            let is_yard = growth.yards.contains(&code);
+            open_as(&mut called, is_yard, code as u8, &neighbours);
+            assert_eq!(feed(&mut fed, &opening_line(is_yard, code, &neighbours)), 0);
             while dice.once_in(2) {
                 let (first, second) = some_ends(&mut dice, &network(&called).open);
                 let answer = both::link(&mut called, first, second);

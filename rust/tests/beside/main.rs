@@ -27,3 +27,4 @@ mod sizes;
 mod streams;
 mod summaries;
 mod worked;
+mod yards;

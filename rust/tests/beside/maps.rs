@@ -1,5 +1,5 @@
 //! Maps to try: memory to lend, true and false figures, and ways to damage it.
-use crate::expected::store_map;
+use crate::expected::{store_map, YARDS};
 use crate::inputs::growths::some_size;
 use crate::inputs::{Dice, Growth, SHAPES};
 use crate::lent::{Buffer, Lent};
@@ -16,7 +16,7 @@ fn halves(dice: &mut Dice, n: usize) -> Vec<u16> {
 /// Every buffer with a few elements past its named size, lent or not, and something in each place.
 pub fn any_memory(dice: &mut Dice) -> Lent {
     let mut lent = Lent {
-        record: Buffer::new(words(dice, 7 + 3)),
+        record: Buffer::new(words(dice, 11 + 3)),
         links: Buffer::new(words(dice, 1024 + 5)),
         pairs: Buffer::new(words(dice, 1024 + 5)),
         hops: Buffer::new(halves(dice, 256 + 5)),
@@ -32,6 +32,7 @@ pub fn any_memory(dice: &mut Dice) -> Lent {
         counts: Buffer::new(halves(dice, 256 + 5)),
         input: Buffer::new(Vec::new()),
         eccentricity: dice.word() as u16,
+        depth: dice.word() as u16,
         searches: dice.word() as u16,
         count: dice.word() as u16,
         found: dice.byte(),
@@ -54,11 +55,11 @@ pub fn any_memory(dice: &mut Dice) -> Lent {
     lent
 }
 
-/// A sound map with true figures.
+/// A sound map with true figures, with yards or without.
 pub fn true_map(dice: &mut Dice) -> (Lent, Network) {
     let shape = dice.pick(&SHAPES);
     let size = some_size(dice);
-    let network = Growth::new(dice, shape).network(dice, size);
+    let network = Growth::some(dice, shape).network(dice, size);
     let mut lent = any_memory(dice);
     store_map(&mut lent, &Map { figures: network.figures(), network: network.clone() });
     (lent, network)
@@ -66,7 +67,7 @@ pub fn true_map(dice: &mut Dice) -> (Lent, Network) {
 
 /// Sound figures that need not be true.
 pub fn any_figures(dice: &mut Dice, network: &Network) -> Figures {
-    let open: Vec<usize> = network.open.iter().copied().collect();
+    let ends: Vec<usize> = network.delivering().collect();
     let mut figures = if dice.once_in(2) { network.figures() } else { Figures::default() };
     if dice.once_in(2) {
         figures.chain = match dice.below(4) {
@@ -77,9 +78,9 @@ pub fn any_figures(dice: &mut Dice, network: &Network) -> Figures {
         }
         .min(255);
     }
-    if open.len() >= 2 {
+    if ends.len() >= 2 {
         for _ in 0..dice.below(8) {
-            let (u, v) = (dice.pick(&open), dice.pick(&open));
+            let (u, v) = (dice.pick(&ends), dice.pick(&ends));
             if u < v {
                 figures.pairs.insert((u, v));
             }
@@ -96,7 +97,7 @@ pub fn flip(table: &mut [u64], u: usize, v: usize) {
 }
 
 /// The ways to damage a map. Most spoil it; some part it; a few leave it as it is.
-pub const DAMAGES: usize = 17;
+pub const DAMAGES: usize = 20;
 
 pub fn damage(dice: &mut Dice, lent: &mut Lent, network: &Network, way: usize) {
     let open: Vec<usize> = network.open.iter().copied().collect();
@@ -154,6 +155,15 @@ pub fn damage(dice: &mut Dice, lent: &mut Lent, network: &Network, way: usize) {
         // chain
         15 => record[5] = dice.pick(&[256, 257, 65_535]),
         16 => record[5] = record[5].wrapping_add(huge),
+        // the yard set: a closed yard, any yard, a pair at a yard that is counted
+        17 if !closed.is_empty() => record[YARDS + some_closed / 64] |= 1 << (some_closed % 64),
+        18 => record[YARDS + any / 64] ^= 1 << (any % 64),
+        19 => {
+            let (u, v) = (some_open.min(any), some_open.max(any));
+            flip(pairs, u, v);
+            record[6] = record[6].wrapping_add(1);
+            record[YARDS + some_open / 64] |= 1 << (some_open % 64);
+        }
         _ => {}
     }
 }

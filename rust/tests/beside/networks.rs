@@ -9,10 +9,13 @@ use crate::truth::assert_reckoned;
 
 const SIZES: [usize; 13] = [0, 1, 2, 3, 7, 16, 64, 65, 100, 150, 200, 255, 256];
 
-/// A network of a shape, whose codes are spread in one of four ways; the figures are false and no longer sound.
-fn try_network(shape: Shape, which: usize, searched: &mut Tally, reckoned: &mut Tally) {
+/// A network of a shape, whose codes are spread in one of four ways, with yards or without; the figures are false and no longer sound.
+fn try_network(shape: Shape, which: usize, has_yards: bool, searched: &mut Tally, reckoned: &mut Tally) {
     let mut dice = Dice::new(15_000_000 + which as u64);
-    let (size, growth) = (SIZES[which], Growth::spread(&mut dice, shape, which, 29 * which));
+    let (size, mut growth) = (SIZES[which], Growth::spread(&mut dice, shape, which, 29 * which));
+    if has_yards {
+        growth = growth.with_yards(&mut dice);
+    }
     let mut m = any_memory(&mut dice);
     store_map(&mut m, &Map { network: growth.network(&mut dice, size), figures: Figures::default() });
     (m.record.data[5], m.record.data[6]) = (999, 5);
@@ -32,7 +35,8 @@ fn try_network(shape: Shape, which: usize, searched: &mut Tally, reckoned: &mut 
 fn try_shape(shape: Shape) -> (Tally, Tally) {
     let (mut searched, mut reckoned) = (Tally::new(), Tally::new());
     for which in 0..SIZES.len() {
-        try_network(shape, which, &mut searched, &mut reckoned);
+        try_network(shape, which, false, &mut searched, &mut reckoned);
+        try_network(shape, which, true, &mut searched, &mut reckoned);
     }
     (searched, reckoned)
 }

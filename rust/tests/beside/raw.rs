@@ -23,7 +23,7 @@ pub fn search(m: &mut Lent, code: u8) -> u8 {
     unsafe {
         c::zorpedi_search(
             m.record.pointer(), m.record.lent, m.links.pointer(), m.links.lent, m.hops.pointer(), m.hops.lent,
-            m.even.pointer(), m.even.lent, m.odd.pointer(), m.odd.lent, &mut m.eccentricity, code,
+            m.even.pointer(), m.even.lent, m.odd.pointer(), m.odd.lent, &mut m.eccentricity, &mut m.depth, code,
         )
     }
 }
@@ -75,6 +75,18 @@ pub fn reckon(m: &mut Lent) -> u8 {
 pub fn open(m: &mut Lent, code: u8) -> u8 {
     unsafe {
         c::zorpedi_open(
+            m.record.pointer(), m.record.lent, m.links.pointer(), m.links.lent, m.pairs.pointer(), m.pairs.lent,
+            m.hops.pointer(), m.hops.lent, m.bounds.pointer(), m.bounds.lent, m.skips.pointer(), m.skips.lent,
+            m.even.pointer(), m.even.lent, m.odd.pointer(), m.odd.lent, &mut m.searches, code,
+            m.input.pointer(), m.input.lent,
+        )
+    }
+}
+
+#[rustfmt::skip]
+pub fn open_yard(m: &mut Lent, code: u8) -> u8 {
+    unsafe {
+        c::zorpedi_open_yard(
             m.record.pointer(), m.record.lent, m.links.pointer(), m.links.lent, m.pairs.pointer(), m.pairs.lent,
             m.hops.pointer(), m.hops.lent, m.bounds.pointer(), m.bounds.lent, m.skips.pointer(), m.skips.lent,
             m.even.pointer(), m.even.lent, m.odd.pointer(), m.odd.lent, &mut m.searches, code,

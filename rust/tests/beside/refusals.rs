@@ -1,9 +1,10 @@
 //! Faults one by one, on a grid of 100 depots of the codes 0 to 99: each call is held to the refusal that has to come, and to changing nothing.
-use crate::both::{empty, feed, finish, link, open, open_batch, reckon, search};
-use crate::expected::store_map;
+use crate::both::{empty, feed, finish, link, nearest, open, open_batch, open_yard, reckon, search, summary, within};
+use crate::expected::{store_map, YARDS};
 use crate::inputs::{Dice, Growth, Shape};
 use crate::lent::Lent;
 use crate::maps::{any_memory, flip};
+use crate::plain::words::bits_of_table;
 use crate::plain::{Figures, Map};
 use crate::tally::Tally;
 
@@ -105,6 +106,36 @@ fn each_code_of_the_open_set() {
     }
 }
 
+/// Each yard of the yard set alone: a closed one makes the links unsound for every call; an open one the figures, if a pair stands at it.
+#[test]
+fn each_code_of_the_yard_set() {
+    for v in 0..256 {
+        let mut m = grid();
+        let has_pair = bits_of_table(&m.pairs.data).iter().any(|&(one, other)| one == v || other == v);
+        m.record.data[YARDS + v / 64] ^= 1 << (v % 64);
+        let of_links = [search(&mut m.clone(), 0), within(&mut m.clone(), 0, 1), nearest(&mut m.clone(), 0, &[0]), summary(&mut m.clone())];
+        assert_eq!(of_links, [if v < 100 { 0 } else { 2 }; 4], "yard {v}");
+        let opened = open_yard(&mut m.clone(), 200, &[0]);
+        for answer in [&answers(&m)[2..], &[opened]].concat() {
+            assert_eq!(answer == 2, v >= 100 || has_pair, "yard {v}");
+        }
+        // a reckoning writes figures without the yard
+        assert_eq!((reckon(&mut m), feed(&mut m, b"")), if v < 100 { (0, 0) } else { (2, 2) });
+    }
+}
+
+/// A yard on the empty map is closed, whatever its code.
+#[test]
+fn yards_of_the_empty_map() {
+    for v in 0..256 {
+        let mut m = grid();
+        assert_eq!(empty(&mut m), 0);
+        m.record.data[YARDS + v / 64] = 1 << (v % 64);
+        assert_eq!(answers(&m), [2; 7], "yard {v}");
+        assert_eq!((open(&mut m, v as u8, &[]), open_yard(&mut m, v as u8, &[]), summary(&mut m)), (2, 2, 2));
+    }
+}
+
 /// A single pair, whose count is right, one less and one more: rising, falling, level, and with closed ends.
 #[test]
 fn single_pairs() {
@@ -158,6 +189,9 @@ fn the_first_refusal_of_several() {
     assert_eq!(open(&mut m, 200, &[201, 0]), 7);
     assert_eq!(open(&mut m, 200, &[]), 6);
     assert_eq!((open(&mut m, 0, &[]), open(&mut m, 0, &[201, 0]), open(&mut m, 0, &[0])), (5, 5, 5));
+    // and so of a yard
+    assert_eq!((open_yard(&mut m, 200, &[0, 201]), open_yard(&mut m, 200, &[201, 0]), open_yard(&mut m, 200, &[])), (8, 7, 6));
+    assert_eq!((open_yard(&mut m, 0, &[]), open_yard(&mut m, 0, &[201, 0]), open_yard(&mut m, 200, &[200])), (5, 5, 8));
     assert_eq!((search(&mut m, 200), reckon(&mut m.clone())), (4, 0));
     // a link that is there; of a depot with itself; with a closed one, and of a closed one with itself
     assert_eq!((link(&mut m, 0, 1), link(&mut m, 1, 1), link(&mut m, 200, 1), link(&mut m, 200, 200)), (14, 13, 4, 4));
@@ -167,18 +201,23 @@ fn the_first_refusal_of_several() {
     m.record.data[2] |= 1 << (150 - 128);
     m.record.data[4] = 101;
     assert_eq!((open(&mut m, 0, &[]), search(&mut m, 200), reckon(&mut m), open_batch(&mut m, &[b'\n'; 65])), (3, 3, 3, 3));
-    assert_eq!((link(&mut m, 0, 1), link(&mut m, 1, 1), link(&mut m, 200, 200)), (3, 3, 3));
+    assert_eq!((link(&mut m, 0, 1), link(&mut m, 1, 1), link(&mut m, 200, 200), open_yard(&mut m, 0, &[])), (3, 3, 3, 3));
     // the pair count is wrong: only who looks at figures sees it
     let mut figures = m.clone();
     figures.record.data[6] += 1;
     assert_eq!((open(&mut figures, 0, &[]), search(&mut figures, 200), reckon(&mut figures)), (2, 3, 3));
     assert_eq!((feed(&mut figures, b""), finish(&mut figures), open_batch(&mut figures, &[b'\n'; 65])), (2, 2, 2));
     assert_eq!((link(&mut figures, 0, 1), link(&mut figures, 1, 1), link(&mut figures, 200, 200)), (2, 2, 2));
+    // there is a closed yard
+    let mut yard = m.clone();
+    yard.record.data[YARDS + 3] = 1 << 63;
+    assert_eq!((open(&mut yard, 0, &[]), open_yard(&mut yard, 0, &[]), search(&mut yard, 200), reckon(&mut yard)), (2, 2, 2, 2));
     // so is the number open
     m.record.data[4] = 100;
     assert_eq!((open(&mut m, 0, &[]), search(&mut m, 200), reckon(&mut m), open_batch(&mut m, &[b'\n'; 65])), (2, 2, 2, 2));
     assert_eq!((link(&mut m, 0, 1), link(&mut m, 1, 1), link(&mut m, 200, 200)), (2, 2, 2));
     m.set_lent(7, 3);
+    assert_eq!(open_yard(&mut m, 0, &[]), 1);
     assert_eq!((open(&mut m, 0, &[]), search(&mut m, 200), reckon(&mut m), open_batch(&mut m, &[b'\n'; 65])), (1, 1, 1, 1));
     assert_eq!((link(&mut m, 0, 1), link(&mut m, 1, 1), link(&mut m, 200, 200)), (1, 1, 1));
 }

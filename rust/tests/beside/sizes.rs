@@ -1,5 +1,5 @@
 //! Buffers one element below their named size, at it and one above it, in every combination, for every call.
-use crate::both::{empty, feed, finish, link, nearest, open, open_batch, read, reckon, report, search, summary, within, write};
+use crate::both::{empty, feed, finish, link, nearest, open, open_batch, open_yard, read, reckon, report, search, summary, within, write};
 use crate::inputs::lines::notice_line;
 use crate::inputs::Dice;
 use crate::lent::{Lent, SIZES};
@@ -84,6 +84,34 @@ fn of_an_opening() {
     let (m, code) = small_map(300);
     let closed = closed_code(&m);
     every_combination(&m, &MAP, 3, |m| open(m, closed, &[code]));
+    every_combination(&m, &MAP, 3, |m| open_yard(m, closed, &[code]));
+}
+
+/// A record without its yard set, or with a part of it, is short in every call, though the map has no yard; so is any shorter one.
+#[test]
+fn of_a_record_without_its_yards() {
+    let (mut m, code) = small_map(900);
+    m.record.data[7..11].fill(0);
+    let closed = closed_code(&m);
+    (m.held, m.lines) = (3, 5);
+    for words in 0..=12 {
+        m.set_lent(0, words);
+        let answers = [
+            empty(&mut m.clone()),
+            search(&mut m.clone(), code),
+            within(&mut m.clone(), code, 1),
+            nearest(&mut m.clone(), code, &[code]),
+            summary(&mut m.clone()),
+            reckon(&mut m.clone()),
+            open(&mut m.clone(), closed, &[code]),
+            open_yard(&mut m.clone(), closed, &[code]),
+            link(&mut m.clone(), code, code),
+            open_batch(&mut m.clone(), b""),
+            feed(&mut m.clone(), b""),
+            finish(&mut m.clone()),
+        ];
+        assert!(answers.iter().all(|&answer| (answer == 1) == (words < 11)), "{words} words: {answers:?}");
+    }
 }
 
 /// The link of the lowest open code with a closed one, with itself and with another open one: short comes first.
@@ -137,7 +165,7 @@ fn of_a_stream() {
 fn of_the_line_calls() {
     let m = any_memory(&mut Dice::new(17_500_000));
     let kept = Fields { number: 1, answer: b'K', depots: 1, chain: 0, pairs: 0, searches: 1 };
-    for (input, frame) in [(&b"010500\n"[..], &[1, 5, 0][..]), (b"020500\n", &[2, 5, 0]), (b"", b"")] {
+    for (input, frame) in [(&b"010500\n"[..], &[1, 5, 0][..]), (b"020500\n", &[2, 5, 0]), (b"040500\n", &[4, 5, 0]), (b"", b"")] {
         every_combination(&m, &[8], 3, |m| read(m, input));
         every_combination(&m, &[9], 3, |m| write(m, frame));
     }

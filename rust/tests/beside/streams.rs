@@ -1,6 +1,7 @@
 //! The stream: pieces of many sizes, little room for reports, damaged maps, the last lines.
 use crate::both::{empty, feed, finish};
-use crate::inputs::lines::{link_line, notice_line, some_input, some_line};
+use crate::expected::RECORD;
+use crate::inputs::lines::{link_line, some_input, some_line};
 use crate::inputs::{Dice, Growth, SHAPES};
 use crate::lent::{Buffer, Lent, SIZES};
 use crate::maps::{any_memory, damage, true_map, DAMAGES};
@@ -48,7 +49,7 @@ fn pieces_of_many_sizes() {
         whole.extend_from_slice(&m.out.data[..m.written]);
         let lines = whole.iter().filter(|&&b| b == 0x0A).count();
         assert_eq!(lines as u32, m.lines);
-        let (record, links, pairs) = (m.record.data[..7].to_vec(), m.links.data[..1024].to_vec(), m.pairs.data[..1024].to_vec());
+        let (record, links, pairs) = (m.record.data[..RECORD].to_vec(), m.links.data[..1024].to_vec(), m.pairs.data[..1024].to_vec());
         for (piece, room) in [(1, 48), (7, 95), (40, 96), (600, 200), (5_000, 1_000)] {
             // a call compares all memory, so that few bytes a call are for short inputs
             if input.len() > 60 * piece {
@@ -56,7 +57,7 @@ fn pieces_of_many_sizes() {
             }
             let mut m = begun(&mut dice);
             assert_eq!(run(&mut m, &mut dice, &input, piece, room), whole);
-            assert_eq!((&m.record.data[..7], &m.links.data[..1024], &m.pairs.data[..1024]), (&record[..], &links[..], &pairs[..]));
+            assert_eq!((&m.record.data[..RECORD], &m.links.data[..1024], &m.pairs.data[..1024]), (&record[..], &links[..], &pairs[..]));
         }
     }
 }
@@ -65,10 +66,10 @@ fn pieces_of_many_sizes() {
 fn growths_of_256_depots() {
     for (seed, shape) in SHAPES.into_iter().enumerate() {
         let mut dice = Dice::new(12_000_000 + seed as u64);
-        let growth = Growth::new(&mut dice, shape);
+        let growth = Growth::some(&mut dice, shape);
         let mut input = Vec::new();
         for i in 0..256 {
-            input.extend(notice_line(growth.order[i], &growth.neighbours(&mut dice, i, 256)));
+            input.extend(growth.line(&mut dice, i, 256));
         }
         let mut m = begun(&mut dice);
         m.out = Buffer::new(dice.bytes(48 * 257));

@@ -1,6 +1,6 @@
 //! The network report: on true maps of every shape, damaged maps and memory of no map, the greatest networks, and each refusal. What is answered is
 //! held to the searches of the archive as well.
-use crate::both::{empty, open, search, summary};
+use crate::both::{empty, open, open_yard, search, summary};
 use crate::inputs::Dice;
 use crate::lent::{Lent, SIZES};
 use crate::maps::{any_figures, any_memory, damage, true_map, DAMAGES};
@@ -8,9 +8,9 @@ use crate::plain::network::Network;
 use crate::tally::Tally;
 use crate::{expected, raw};
 
-/// What an accepted report means: the numbers fit each other and the number open, and the counts are of the eccentricities that searches give.
+/// What an accepted report means: the numbers fit each other and the number that delivers, and the counts are of the eccentricities that searches give.
 fn assert_summed(m: &Lent, network: &Network) {
-    let n = network.open.len() as u64;
+    let n = network.delivering().count() as u64;
     assert_eq!(2 * m.pair_number, n * (n - 1));
     assert_eq!(m.quotient * m.pair_number + m.remainder, m.sum);
     assert!(m.remainder < m.pair_number);
@@ -18,10 +18,10 @@ fn assert_summed(m: &Lent, network: &Network) {
     assert_eq!(counts.iter().map(|&c| u64::from(c)).sum::<u64>(), n);
     let (mut again, mut sums) = (vec![0; 256], 0);
     let mut searched = m.clone();
-    for &u in &network.open {
+    for u in network.delivering() {
         assert_eq!(raw::search(&mut searched, u as u8), 0);
         again[usize::from(searched.eccentricity)] += 1;
-        sums += network.open.iter().map(|&v| u64::from(searched.hops.data[v])).sum::<u64>();
+        sums += network.delivering().map(|v| u64::from(searched.hops.data[v])).sum::<u64>();
     }
     assert_eq!(counts, again);
     // each pair is seen from both ends
@@ -40,7 +40,7 @@ fn of_true_maps() {
         if answer == 0 {
             assert_summed(&m, &network);
         }
-        assert_eq!(answer == 15, network.open.len() < 2);
+        assert_eq!(answer == 15, network.delivering().count() < 2);
         tally.count(answer);
     }
     tally.assert_only(&[0, 15]);
@@ -86,6 +86,21 @@ fn of_one_and_two_depots() {
         // the search is from the higher of the two
         assert_eq!(m.hops.data[usize::from(code.max(other))], 0);
     }
+}
+
+/// A depot among yards is too few, however many they are; a second is enough, and the yards about them are neither searched nor counted.
+#[test]
+fn of_one_and_two_depots_among_yards() {
+    let mut m = any_memory(&mut Dice::new(26_800_000));
+    assert_eq!((empty(&mut m), open_yard(&mut m, 100, &[]), summary(&mut m)), (0, b'K', 15));
+    assert_eq!((open_yard(&mut m, 200, &[100]), summary(&mut m)), (b'K', 15));
+    assert_eq!((open(&mut m, 50, &[100]), open_yard(&mut m, 0, &[50]), summary(&mut m)), (b'K', b'K', 15));
+    assert_eq!((open(&mut m, 150, &[200]), summary(&mut m)), (b'G', 0));
+    assert_eq!((m.sum, m.pair_number, m.quotient, m.remainder), (3, 1, 3, 0));
+    assert_eq!(m.counts.data[..5], [0, 0, 0, 2, 0]);
+    // the search is from 150, though 200 is open: the yard 0 lies in the last layer
+    assert_eq!((m.hops.data[150], m.hops.data[200], m.hops.data[50], m.hops.data[0]), (0, 1, 3, 4));
+    assert_eq!((m.even.data[0], m.odd.data[0]), (1, 1 << 50));
 }
 
 /// The longest path has the greatest sum and an eccentricity of 255; where all are linked with each other, all 256 have eccentricity 1.
@@ -157,7 +172,7 @@ fn figures_do_not_matter() {
         assert_eq!(summary(&mut other), first);
         assert_eq!((other.sum, &other.counts), (m.sum, &m.counts));
         if first == 0 {
-            let highest = *network.open.last().expect("two are open") as u8;
+            let highest = network.delivering().last().expect("two deliver") as u8;
             assert_eq!(search(&mut m, highest), 0);
         }
     }

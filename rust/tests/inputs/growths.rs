@@ -1,5 +1,6 @@
-//! Networks of many shapes, grown depot by depot.
+//! Networks of many shapes, grown depot by depot, some of which are yards.
 use super::dice::Dice;
+use super::lines::opening_line;
 use crate::plain::Network;
 use std::collections::BTreeSet;
 
@@ -51,6 +52,8 @@ pub const SHAPES: [Shape; 12] = [
 pub struct Growth {
     pub shape: Shape,
     pub order: Vec<usize>,
+    /// The codes that open as yards.
+    pub yards: BTreeSet<usize>,
     places: Vec<(i64, i64)>,
 }
 
@@ -64,6 +67,16 @@ impl Growth {
         Growth::in_order(dice, shape, order)
     }
 
+    /// The codes open as in `new`, with yards among them or without.
+    pub fn some(dice: &mut Dice, shape: Shape) -> Growth {
+        let growth = Growth::new(dice, shape);
+        if dice.once_in(2) {
+            growth.with_yards(dice)
+        } else {
+            growth
+        }
+    }
+
     /// The codes open in steps of 1, 37, 101 or 255, from `shift` on, so that they lie in all four words of a row.
     pub fn spread(dice: &mut Dice, shape: Shape, way: usize, shift: usize) -> Growth {
         let step = [1, 37, 101, 255][way % 4];
@@ -72,7 +85,28 @@ impl Growth {
 
     fn in_order(dice: &mut Dice, shape: Shape, order: Vec<usize>) -> Growth {
         let places = (0..256).map(|_| (dice.below(10_000) as i64, dice.below(10_000) as i64)).collect();
-        Growth { shape, order, places }
+        Growth { shape, order, yards: BTreeSet::new(), places }
+    }
+
+    /// The same growth with yards among its codes: few, every second, nearly all or all, or so many that one to four of the first depots deliver.
+    pub fn with_yards(mut self, dice: &mut Dice) -> Growth {
+        self.yards = match dice.below(8) {
+            0 => (0..256).collect(),
+            1 => (0..256).filter(|_| !dice.once_in(10)).collect(),
+            2 => {
+                let delivering: BTreeSet<usize> = (0..1 + dice.below(4)).map(|_| self.order[dice.below(24)]).collect();
+                (0..256).filter(|code| !delivering.contains(code)).collect()
+            }
+            3 | 4 => (0..256).filter(|_| dice.once_in(2)).collect(),
+            _ => (0..256).filter(|_| dice.once_in(8)).collect(),
+        };
+        self
+    }
+
+    /// The notice line of the depot that opens as number i.
+    pub fn line(&self, dice: &mut Dice, i: usize, size: usize) -> Vec<u8> {
+        let code = self.order[i];
+        opening_line(self.yards.contains(&code), code, &self.neighbours(dice, i, size))
     }
 
     /// The neighbours of the depot that opens as number i, rising; `size` will open in all.
@@ -128,6 +162,7 @@ impl Growth {
         for i in 0..size {
             let code = self.order[i];
             network.open.insert(code);
+            network.yards.extend(self.yards.get(&code));
             for v in self.neighbours(dice, i, size) {
                 network.link(code, v.into());
             }

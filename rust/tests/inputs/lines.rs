@@ -3,9 +3,20 @@ use super::dice::Dice;
 use super::growths::{Growth, SHAPES};
 use crate::plain::lines::line_of;
 
+/// The line of a notice, that of a yard or of a depot that delivers.
+pub fn opening_line(is_yard: bool, code: usize, neighbours: &[u8]) -> Vec<u8> {
+    let kind = if is_yard { 4 } else { 1 };
+    line_of(&[&[kind, code as u8, neighbours.len() as u8], neighbours].concat()).into_bytes()
+}
+
 /// The line of a notice.
 pub fn notice_line(code: usize, neighbours: &[u8]) -> Vec<u8> {
-    line_of(&[&[1, code as u8, neighbours.len() as u8], neighbours].concat()).into_bytes()
+    opening_line(false, code, neighbours)
+}
+
+/// The line of a yard's notice.
+pub fn yard_line(code: usize, neighbours: &[u8]) -> Vec<u8> {
+    opening_line(true, code, neighbours)
 }
 
 /// The line of a link.
@@ -18,7 +29,7 @@ pub fn longest_line() -> Vec<u8> {
     notice_line(255, &(0..=254).collect::<Vec<u8>>())
 }
 
-/// A frame that is right, of either kind.
+/// A frame that is right, of any kind.
 pub fn some_frame(dice: &mut Dice) -> Vec<u8> {
     if dice.once_in(4) {
         return vec![2, dice.byte(), dice.byte()];
@@ -29,7 +40,7 @@ pub fn some_frame(dice: &mut Dice) -> Vec<u8> {
         2 => dice.below(256),
         _ => dice.below(9),
     };
-    let mut frame = vec![1, dice.byte(), count as u8];
+    let mut frame = vec![dice.pick(&[1, 4]), dice.byte(), count as u8];
     frame.extend(dice.bytes(count));
     frame
 }
@@ -68,11 +79,8 @@ pub fn some_line(dice: &mut Dice) -> Vec<u8> {
 fn some_refused_line(dice: &mut Dice) -> Vec<u8> {
     match dice.below(10) {
         0 => b"\n".to_vec(),
-        1 => notice_line(dice.below(256), &[]),
-        2 => {
-            let code = dice.below(256);
-            notice_line(code, &[dice.byte()])
-        }
+        1 => opening_line(dice.once_in(2), dice.below(256), &[]),
+        2 => opening_line(dice.once_in(2), dice.below(256), &[dice.byte()]),
         3 => {
             // an overlong line, of digits or of anything
             let length = 500 + dice.below(600);
@@ -81,8 +89,7 @@ fn some_refused_line(dice: &mut Dice) -> Vec<u8> {
         }
         4 => {
             let count = 2 + dice.below(3);
-            let code = dice.below(256);
-            notice_line(code, &dice.bytes(count))
+            opening_line(dice.once_in(2), dice.below(256), &dice.bytes(count))
         }
         5 => link_line(dice.byte(), dice.byte()),
         6 => {
@@ -95,13 +102,14 @@ fn some_refused_line(dice: &mut Dice) -> Vec<u8> {
     }
 }
 
-/// An input: a growth and links between what is open, in turns, with lines between that are refused or do not read, and perhaps no ending.
+/// An input: a growth, with yards or without, and links between what is open, in turns, with lines between that are refused or do not read, and perhaps no
+/// ending.
 pub fn some_input(dice: &mut Dice, size: usize) -> Vec<u8> {
     let shape = dice.pick(&SHAPES);
-    let growth = Growth::new(dice, shape);
+    let growth = Growth::some(dice, shape);
     let mut input = Vec::new();
     for i in 0..size {
-        input.extend(notice_line(growth.order[i], &growth.neighbours(dice, i, size)));
+        input.extend(growth.line(dice, i, size));
         while dice.once_in(3) {
             let open = &growth.order[..=i];
             input.extend(link_line(dice.pick(open) as u8, dice.pick(open) as u8));

@@ -25,7 +25,7 @@ impl Map {
         }
         let mut waiting = Vec::new();
         for (number, line) in lines.into_iter().enumerate() {
-            // only frames that open a depot: a link is garbled here, though the stream takes it
+            // only frames that open a depot or a yard: a link is garbled here, though the stream takes it
             let (frame, _) = frame_of(line).filter(|(frame, _)| is_opening(frame)).ok_or(9)?;
             waiting.push((number as u8, frame));
         }
@@ -40,8 +40,7 @@ impl Map {
     /// at the first line.
     fn open_first(&mut self, waiting: &mut Vec<(u8, Vec<u8>)>) -> Option<Work> {
         for place in 0..waiting.len() {
-            let frame = &waiting[place].1;
-            if let Ok(opened) = self.open(frame[1], &frame[3..]) {
+            if let Ok(opened) = self.open_frame(&waiting[place].1) {
                 waiting.remove(place);
                 return Some(opened.work);
             }

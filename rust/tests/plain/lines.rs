@@ -22,9 +22,9 @@ pub fn is_frame(frame: &[u8]) -> bool {
     is_opening(frame) || is_link(frame)
 }
 
-/// Kind 01, code, neighbour count, and that many neighbours.
+/// Kind 01, or for a yard 04, code, neighbour count, and that many neighbours.
 pub fn is_opening(frame: &[u8]) -> bool {
-    frame.len() >= 3 && frame[0] == 1 && frame.len() == 3 + usize::from(frame[2])
+    frame.len() >= 3 && [1, 4].contains(&frame[0]) && frame.len() == 3 + usize::from(frame[2])
 }
 
 /// Kind 02 and two codes.

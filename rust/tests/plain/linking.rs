@@ -1,4 +1,4 @@
-//! A link between two depots that are open already.
+//! A link between two depots that are open already; either or both may be yards.
 use super::network::{Distances, Figures, Network, Pairs};
 use super::opening::{distance, Map, Opened, Work};
 
@@ -25,15 +25,15 @@ fn linking(network: &Network, stored: &Figures, low: usize, high: usize) -> Open
     let pairs: Pairs = stored.pairs.iter().copied().filter(|pair| apart(pair) >= chain).collect();
     if chain == 0 || !pairs.is_empty() {
         let mut work = Work::begun(network, Figures { chain, pairs });
-        work.note_search(low, from_low);
-        work.note_search(high, from_high);
+        work.note_search(network, low, from_low);
+        work.note_search(network, high, from_high);
         return Opened { letter: b'K', work };
     }
     let candidate = stored.pairs.iter().map(apart).max().unwrap_or(0);
     let mut work = Work::begun(network, Figures { chain: candidate, pairs: Pairs::new() });
     // nothing is skipped before both ends are searched, the higher one neither
-    work.hold(low, from_low);
-    work.round(high, from_high);
+    work.hold(network, low, from_low);
+    work.round(network, high, from_high);
     work.rounds(network);
     Opened { letter: b'S', work }
 }

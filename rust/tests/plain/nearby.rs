@@ -1,4 +1,4 @@
-//! The depots near one: all within so many handovers, and the nearest of a list.
+//! The depots near one: all within so many handovers, and the nearest of a list. Yards are open depots here as any other.
 use super::network::Network;
 
 impl Network {

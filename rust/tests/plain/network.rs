@@ -1,4 +1,5 @@
-//! The network: distances, eccentricities, longest chain and farthest pairs; when links and figures are sound, and when a map is apart.
+//! The network: distances, eccentricities, longest chain and farthest pairs; when links and figures are sound, and when a map is apart. A yard is an open
+//! depot that parcels pass through and never go to: walks lead through it, and it is the end of no pair.
 use super::words::{codes_of_row, rows_of_table};
 use std::collections::{BTreeSet, VecDeque};
 
@@ -11,18 +12,30 @@ pub type Distances = Vec<Option<usize>>;
 #[derive(Clone)]
 pub struct Network {
     pub open: BTreeSet<usize>,
+    /// The yards, which are open too on a sound map.
+    pub yards: BTreeSet<usize>,
     /// The codes in each row of the link table, rising; it need not be the same both ways round.
     pub rows: Vec<Vec<usize>>,
 }
 
 impl Network {
     pub fn empty() -> Network {
-        Network { open: BTreeSet::new(), rows: vec![Vec::new(); 256] }
+        Network { open: BTreeSet::new(), yards: BTreeSet::new(), rows: vec![Vec::new(); 256] }
     }
 
-    /// The network of an open set and a link table, in words.
-    pub fn of(open: &[u64], links: &[u64]) -> Network {
-        Network { open: codes_of_row(open), rows: rows_of_table(links) }
+    /// The network of an open set, a yard set and a link table, in words.
+    pub fn of(open: &[u64], yards: &[u64], links: &[u64]) -> Network {
+        Network { open: codes_of_row(open), yards: codes_of_row(yards), rows: rows_of_table(links) }
+    }
+
+    /// An open depot that parcels go to: no yard.
+    pub fn delivers(&self, v: usize) -> bool {
+        self.open.contains(&v) && !self.yards.contains(&v)
+    }
+
+    /// The depots that deliver, rising.
+    pub fn delivering(&self) -> impl Iterator<Item = usize> + '_ {
+        self.open.iter().copied().filter(|&v| self.delivers(v))
     }
 
     pub fn are_linked(&self, u: usize, v: usize) -> bool {
@@ -42,10 +55,10 @@ impl Network {
         self.rows.iter().enumerate().flat_map(|(u, row)| row.iter().map(move |&v| (u, v)))
     }
 
-    /// The links are sound (rule 1.8).
+    /// The links are sound (rule 1.8); a yard that is closed makes them unsound.
     pub fn is_sound(&self, number: u64) -> bool {
         let is_right = |(u, v)| self.open.contains(&u) && self.open.contains(&v) && u != v && self.are_linked(v, u);
-        number == self.open.len() as u64 && self.bits().all(is_right)
+        number == self.open.len() as u64 && self.yards.is_subset(&self.open) && self.bits().all(is_right)
     }
 
     pub fn distances(&self, from: usize) -> Distances {
@@ -74,11 +87,22 @@ impl Network {
         }
     }
 
-    /// Longest chain and farthest pairs of a network that hangs together, by their definition: a search from every depot.
+    /// The greatest distance to a depot that delivers, 0 if there is none.
+    pub fn eccentricity(&self, distances: &Distances) -> usize {
+        reached(distances).filter(|&(v, _)| self.delivers(v)).map(|(_, d)| d).max().unwrap_or(0)
+    }
+
+    /// r, which delivers, with each other depot at its eccentricity that does.
+    pub fn farthest_from(&self, r: usize, distances: &Distances) -> Pairs {
+        let far = layer(distances, self.eccentricity(distances));
+        far.into_iter().filter(|&v| v != r && self.delivers(v)).map(|v| (r.min(v), r.max(v))).collect()
+    }
+
+    /// Longest chain and farthest pairs of a network that hangs together, by their definition: a search from every depot that delivers.
     pub fn figures(&self) -> Figures {
         let mut figures = Figures::default();
-        for &u in &self.open {
-            for (v, d) in reached(&self.distances(u)) {
+        for u in self.delivering() {
+            for (v, d) in reached(&self.distances(u)).filter(|&(v, _)| self.delivers(v)) {
                 if d > figures.chain {
                     figures = Figures { chain: d, pairs: BTreeSet::new() };
                 }
@@ -97,9 +121,9 @@ pub struct Figures {
     pub pairs: Pairs,
 }
 
-/// The figures are sound (rule 1.8).
-pub fn are_sound_figures(open: &BTreeSet<usize>, pairs: &Pairs, chain: u64, count: u64) -> bool {
-    pairs.iter().all(|&(u, v)| u < v && open.contains(&u) && open.contains(&v)) && count == pairs.len() as u64 && chain <= 255
+/// The figures are sound (rule 1.8): the ends of each pair deliver.
+pub fn are_sound_figures(network: &Network, pairs: &Pairs, chain: u64, count: u64) -> bool {
+    pairs.iter().all(|&(u, v)| u < v && network.delivers(u) && network.delivers(v)) && count == pairs.len() as u64 && chain <= 255
 }
 
 /// The codes that a search reached, rising, with their distances.
@@ -107,16 +131,12 @@ pub fn reached(distances: &Distances) -> impl Iterator<Item = (usize, usize)> + 
     distances.iter().enumerate().filter_map(|(v, d)| Some((v, (*d)?)))
 }
 
-pub fn eccentricity(distances: &Distances) -> usize {
+/// The distance of the last layer: the greatest to an open depot, a yard or not.
+pub fn depth(distances: &Distances) -> usize {
     reached(distances).map(|(_, d)| d).max().unwrap_or(0)
 }
 
-/// The depots at a distance.
+/// The depots at a distance, yards with them.
 pub fn layer(distances: &Distances, distance: usize) -> BTreeSet<usize> {
     reached(distances).filter(|&(_, d)| d == distance).map(|(v, _)| v).collect()
-}
-
-/// r with each other depot at its greatest distance.
-pub fn farthest_from(r: usize, distances: &Distances) -> Pairs {
-    layer(distances, eccentricity(distances)).into_iter().filter(|&v| v != r).map(|v| (r.min(v), r.max(v))).collect()
 }

@@ -1,5 +1,5 @@
-//! The opening of a depot, and the reference rounds that it shares with the whole reckoning.
-use super::network::{eccentricity, farthest_from, Distances, Figures, Network, Pairs};
+//! The opening of a depot or a yard, and the reference rounds that it shares with the whole reckoning.
+use super::network::{Distances, Figures, Network, Pairs};
 use std::collections::{BTreeMap, BTreeSet};
 
 /// What the rounds did with a depot. A bound stands with the reference that gave it.
@@ -26,8 +26,8 @@ impl Work {
         Work { figures, status, references: Vec::new(), last: None }
     }
 
-    pub fn note_search(&mut self, r: usize, distances: Distances) {
-        self.status.insert(r, Status::Searched(eccentricity(&distances)));
+    pub fn note_search(&mut self, network: &Network, r: usize, distances: Distances) {
+        self.status.insert(r, Status::Searched(network.eccentricity(&distances)));
         self.references.push(r);
         self.last = Some(distances);
     }
@@ -35,25 +35,26 @@ impl Work {
     /// One search, no rounds.
     fn searched(network: &Network, a: usize, figures: Figures, distances: Distances) -> Work {
         let mut work = Work::begun(network, figures);
-        work.note_search(a, distances);
+        work.note_search(network, a, distances);
         work
     }
 
     /// The round of reference r.
-    pub fn round(&mut self, r: usize, distances: Distances) {
-        self.hold(r, distances);
+    pub fn round(&mut self, network: &Network, r: usize, distances: Distances) {
+        self.hold(network, r, distances);
         self.skip();
     }
 
-    /// A round without its skipping. A bound changes only for a smaller one, so that its reference is the earliest.
-    pub fn hold(&mut self, r: usize, distances: Distances) {
-        let e = eccentricity(&distances);
-        if e > self.figures.chain {
-            self.figures = Figures { chain: e, pairs: farthest_from(r, &distances) };
-        } else if e == self.figures.chain && e != 0 {
-            self.figures.pairs.extend(farthest_from(r, &distances));
+    /// A round without its skipping. A yard raises no candidate and adds no pair; it gives bounds as any depot does. A bound changes only for a smaller
+    /// one, so that its reference is the earliest.
+    pub fn hold(&mut self, network: &Network, r: usize, distances: Distances) {
+        let e = network.eccentricity(&distances);
+        if network.delivers(r) && e > self.figures.chain {
+            self.figures = Figures { chain: e, pairs: network.farthest_from(r, &distances) };
+        } else if network.delivers(r) && e == self.figures.chain && e != 0 {
+            self.figures.pairs.extend(network.farthest_from(r, &distances));
         }
-        self.note_search(r, distances.clone());
+        self.note_search(network, r, distances.clone());
         for (&v, status) in self.status.iter_mut() {
             if let Status::Remaining(bound) = status {
                 let new = e + distance(&distances, v);
@@ -74,7 +75,7 @@ impl Work {
         }
     }
 
-    /// The next reference (rule 5.4).
+    /// The next reference (rule 5.4), a yard or not.
     fn next(&self, network: &Network) -> Option<usize> {
         let mut best = None;
         for (&v, status) in &self.status {
@@ -88,7 +89,7 @@ impl Work {
 
     pub fn rounds(&mut self, network: &Network) {
         while let Some(r) = self.next(network) {
-            self.round(r, network.distances(r));
+            self.round(network, r, network.distances(r));
         }
     }
 }
@@ -111,25 +112,28 @@ pub struct Opened {
     pub work: Work,
 }
 
-/// The opening of a, whose links are in place, on stored figures that may be false.
+/// The opening of a, which is open with its links in place, on stored figures that may be false. A yard's own eccentricity neither makes the chain grow nor
+/// keeps it: a stored pair that is left does, or a chain that was 0.
 fn opening(network: &Network, stored: &Figures, a: usize) -> Opened {
     let distances = network.distances(a);
-    let (e, chain) = (eccentricity(&distances), stored.chain);
-    if e > chain {
-        let figures = Figures { chain: e, pairs: farthest_from(a, &distances) };
+    let (e, chain) = (network.eccentricity(&distances), stored.chain);
+    let is_yard = network.yards.contains(&a);
+    if !is_yard && e > chain {
+        let figures = Figures { chain: e, pairs: network.farthest_from(a, &distances) };
         return Opened { letter: b'G', work: Work::searched(network, a, figures, distances) };
     }
     let through = |pair: &(usize, usize)| distance(&distances, pair.0) + distance(&distances, pair.1);
     let mut pairs: Pairs = stored.pairs.iter().copied().filter(|pair| through(pair) >= chain).collect();
-    if e == chain {
-        pairs.extend(farthest_from(a, &distances));
+    if !is_yard && e == chain {
+        pairs.extend(network.farthest_from(a, &distances));
     }
-    if e == chain || !pairs.is_empty() {
+    let is_kept = if is_yard { chain == 0 } else { e == chain };
+    if is_kept || !pairs.is_empty() {
         return Opened { letter: b'K', work: Work::searched(network, a, Figures { chain, pairs }, distances) };
     }
     let candidate = stored.pairs.iter().map(|pair| chain.min(through(pair))).max().unwrap_or(0);
     let mut work = Work::begun(network, Figures { chain: candidate, pairs: Pairs::new() });
-    work.round(a, distances);
+    work.round(network, a, distances);
     work.rounds(network);
     Opened { letter: b'S', work }
 }
@@ -163,14 +167,31 @@ impl Map {
         Map { network: Network::empty(), figures: Figures::default() }
     }
 
-    /// Opens a depot, or says which of 5 to 8 refuses it.
+    /// Opens a depot that delivers, or says which of 5 to 8 refuses it.
     pub fn open(&mut self, code: u8, neighbours: &[u8]) -> Result<Opened, u8> {
+        self.open_as(false, code, neighbours)
+    }
+
+    /// Opens a yard, or says which of 5 to 8 refuses it.
+    pub fn open_yard(&mut self, code: u8, neighbours: &[u8]) -> Result<Opened, u8> {
+        self.open_as(true, code, neighbours)
+    }
+
+    /// Opens what a frame that opens something names: kind 04 a yard.
+    pub fn open_frame(&mut self, frame: &[u8]) -> Result<Opened, u8> {
+        self.open_as(frame[0] == 4, frame[1], &frame[3..])
+    }
+
+    fn open_as(&mut self, is_yard: bool, code: u8, neighbours: &[u8]) -> Result<Opened, u8> {
         match refusal(&self.network.open, code, neighbours) {
             0 => {}
             refusal => return Err(refusal),
         }
         let a = usize::from(code);
         self.network.open.insert(a);
+        if is_yard {
+            self.network.yards.insert(a);
+        }
         for &v in neighbours {
             self.network.link(a, v.into());
         }

@@ -8,7 +8,7 @@ pub const LINES: u32 = 1_000_000;
 /// What a line is answered, 0A being in it or not, and what it opened or linked.
 pub fn answer(map: &mut Map, line: &[u8]) -> (u8, Option<Opened>) {
     let Some((frame, _)) = frame_of(line) else { return (9, None) };
-    let done = if is_link(&frame) { map.link(frame[1], frame[2]) } else { map.open(frame[1], &frame[3..]) };
+    let done = if is_link(&frame) { map.link(frame[1], frame[2]) } else { map.open_frame(&frame) };
     match done {
         Ok(opened) => (opened.letter, Some(opened)),
         Err(refusal) => (refusal, None),

@@ -1,5 +1,6 @@
-//! The network report: how far apart the depots are, two by two, and how many of them have each eccentricity.
-use super::network::{eccentricity, Network};
+//! The network report: how far apart the depots are that deliver, two by two, and how many of them have each eccentricity. Yards shorten ways here, and are
+//! not counted.
+use super::network::Network;
 
 /// The sum of the distances of some pairs, how many they are, and the mean: the sum is quotient times pairs and the remainder. Without pairs the mean
 /// is 0.
@@ -20,24 +21,24 @@ impl Mean {
 
 #[derive(Clone, Debug, PartialEq)]
 pub struct Summary {
-    /// Over all pairs u < v of depots.
+    /// Over all pairs u < v of depots that deliver.
     pub mean: Mean,
     /// How many depots have the eccentricity 0, 1 and so on: 256 places.
     pub counts: Vec<u16>,
 }
 
 impl Network {
-    /// The report of a network that hangs together; none for fewer than two depots.
+    /// The report of a network that hangs together; none for fewer than two depots that deliver.
     pub fn summary(&self) -> Option<Summary> {
-        if self.open.len() < 2 {
+        if self.delivering().count() < 2 {
             return None;
         }
         let mut counts = vec![0; 256];
         let (mut sum, mut pairs) = (0, 0);
-        for &u in &self.open {
+        for u in self.delivering() {
             let distances = self.distances(u);
-            counts[eccentricity(&distances)] += 1;
-            for &v in self.open.iter().filter(|&&v| u < v) {
+            counts[self.eccentricity(&distances)] += 1;
+            for v in self.delivering().filter(|&v| u < v) {
                 sum += distances[v].expect("the network hangs together") as u64;
                 pairs += 1;
             }

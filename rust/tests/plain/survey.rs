@@ -21,7 +21,7 @@ fn line_of(mean: Mean) -> String {
 }
 
 /// The whole output of a run: a line for each of the first files, in order, and the line of all their pairs together. A map with fewer than two depots
-/// is refused, and adds nothing.
+/// that deliver is refused, and adds nothing.
 pub fn output<F: AsRef<[u8]>>(files: &[F]) -> String {
     let mut lines = String::new();
     let (mut sum, mut pairs) = (0, 0);

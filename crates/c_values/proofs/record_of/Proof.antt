@@ -8,8 +8,7 @@ pub record-of-spec : {M : Type 1} → statement M
 record-of-spec =
     tie.close
     (tie.spec
-    (λ c. search needs) (λ c. search needs) (λ c. search needs)  -- shared-slice-read-t3, shared-slice-read-t5, shared-slice-read-t7
-    (λ c. search needs) (λ c. search needs) (λ c. search needs)  -- shared-slice-read-t9, shared-slice-read-at-16-bits, at-16-bits-requires
-    (λ c. search needs) (λ c. search needs) (λ c. search needs)  -- shared-slice-read-at-16-bits-2, at-16-bits-requires-2, shared-slice-read-at-32-bits
-    (λ c. search needs)  -- at-32-bits-requires
+    (λ c. search needs) (λ c. search needs) (λ c. search needs)  -- row-at-requires, row-at-requires-2, shared-slice-read-at-16-bits
+    (λ c. search needs) (λ c. search needs) (λ c. search needs)  -- at-16-bits-requires, shared-slice-read-at-16-bits-2, at-16-bits-requires-2
+    (λ c. search needs) (λ c. search needs)  -- shared-slice-read-at-32-bits, at-32-bits-requires
     (λ c. search read-record))  -- returns

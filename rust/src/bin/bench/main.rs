@@ -100,6 +100,7 @@ fn make_inputs(places: &Places) -> Outcome<Vec<Input>> {
         ("a million lines", inputs::million(), 3, 3, 15),
         // no goal
         ("links after regional growth", inputs::links(), 41, 3, 41),
+        ("regional growth with yards", inputs::yards(), 101, 5, 41),
     ];
     let mut made = Vec::new();
     for (i, (name, bytes, reps, naive_reps, process_runs)) in all.into_iter().enumerate() {

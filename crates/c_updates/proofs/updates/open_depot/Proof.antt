@@ -1,8 +1,8 @@
--- `c_updates::updates::zorpedi_open` meets its contract: short, or the call that it wraps, handed over. Assumes nothing.
+-- `c_updates::updates::open_depot` meets its contract: short, or the call that it wraps, handed over. Assumes nothing.
 use Rattle.c_updates.proofs.UpdateOuts.{update-short, update-done}
 use borrow.Author.Needs.{needs}
-use Rattle.c_updates.proofs.updates.zorpedi_open.Statement.{statement}
-use Rattle.c_updates.proofs.updates.zorpedi_open.Tie as tie
+use Rattle.c_updates.proofs.updates.open_depot.Statement.{statement}
+use Rattle.c_updates.proofs.updates.open_depot.Tie as tie
 
 -- the way back, from each call to the one before it
 abbrev before-hand-over : tie.After-hand-over → tie.After-open-step
@@ -21,8 +21,8 @@ returns-2 c =
     let else1 : tie.Else1 = search back in
     update-done _ _ _ _ _ (else1 .if1 .left) (after-record-of .record-of .ensures) _ (after-open-step .open-step .ensures) (after-hand-over .hand-over .ensures)
 
-pub zorpedi-open-spec : {M : Type 1} → statement M
-zorpedi-open-spec =
+pub open-depot-spec : {M : Type 1} → statement M
+open-depot-spec =
     tie.close
     (tie.spec
     (λ c. search update-short)  -- returns
