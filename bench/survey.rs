@@ -1,9 +1,9 @@
-// The network reports that `survey` writes, without proofs and with no more work than the lines need: a search from every depot keeps no hops, and each
-// layer adds its distance times its depots. The goal is judged by this program.
+// The network reports that `survey` writes, without proofs and with no more work than the lines need: a search from every depot that delivers keeps no
+// hops, and each layer adds its distance times those of its depots that deliver. The goal is judged by this program.
 include!("reports.rs");
 
-// The distances from s to all depots of a connected map, added.
-fn distances(m: &Map, s: usize) -> u64 {
+// The distances from s to all depots that deliver of a connected map, added.
+fn distances(m: &Map, deliver: Row, s: usize) -> u64 {
     let mut layer = single(s);
     let mut left = andn(m.open, layer);
     let (mut sum, mut k) = (0, 0);
@@ -13,18 +13,19 @@ fn distances(m: &Map, s: usize) -> u64 {
         layer = and(next, left);
         left = andn(left, layer);
         k += 1;
-        sum += k * u64::from(ones(layer));
+        sum += k * u64::from(ones(and(layer, deliver)));
     }
     sum
 }
 
 // Every pair is met from both ends.
 fn summary(m: &mut Map, _: &mut Scratch) -> Option<(u64, u64)> {
-    if m.n < 2 {
+    let deliver = andn(m.open, m.yards);
+    let n = u64::from(ones(deliver));
+    if n < 2 {
         return None;
     }
     let mut sum = 0;
-    each(m.open, |s| sum += distances(m, s));
-    let n = u64::from(m.n);
+    each(deliver, |s| sum += distances(m, deliver, s));
     Some((sum / 2, n * (n - 1) / 2))
 }
