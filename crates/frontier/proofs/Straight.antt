@@ -18,7 +18,7 @@ use Rattle.rows.proofs.Wholes.{row-word-is}
 use Rattle.frontier.specs.declared.Four.{Four}
 use Rattle.frontier.specs.Steps.{AreWords, fourList, unionOf, noWords, reached, reachSet, putWord, visited, visitOf, isUnseen, Unseen, unseen, unseenOf, passed, passOn, Stepped, stepped, stepOf, SearchRoom}
 use Rattle.frontier.proofs.Links.{four}
-use Rattle.frontier.proofs.Visits.{FoursVisited, fours-start, fours-next, fours-end}
+use Rattle.frontier.proofs.Visits.{fours-start, fours-next, fours-end}
 use Rattle.frontier.proofs.Passes.{Keeping, keep-start, keep-next, keep-end}
 use Rattle.frontier.proofs.Stepping.{step-none, step-more}
 

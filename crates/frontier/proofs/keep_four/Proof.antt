@@ -1,5 +1,4 @@
 -- `frontier::keep_four` meets its contract: each word is kept without the codes seen (Straight.antt). Assumes nothing.
-use native.Mathlib.Omega.{arith}
 use borrow.Author.Needs.{needs}
 use Rattle.frontier.proofs.Straight.{four-kept}
 use Rattle.frontier.proofs.keep_four.Statement.{statement}

@@ -1,5 +1,4 @@
 -- `frontier::reach_one` meets its contract: each of the four words gets its word of the member's row. Assumes nothing.
-use native.Mathlib.Omega.{arith}
 use borrow.Author.Needs.{needs}
 use Rattle.frontier.proofs.Links.{place-fits}
 use Rattle.frontier.proofs.Visits.{one-visit}

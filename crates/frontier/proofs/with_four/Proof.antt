@@ -1,5 +1,4 @@
 -- `frontier::with_four` meets its contract: each word is joined by or (Straight.antt). Assumes nothing.
-use native.Mathlib.Omega.{arith}
 use borrow.Author.Needs.{needs}
 use Rattle.frontier.proofs.Straight.{four-both}
 use Rattle.frontier.proofs.with_four.Statement.{statement}
