@@ -2,7 +2,9 @@
 ghost use mathlib.Core.Path.{_≡_};
 ghost use Prim.Native.Nat.{_<_, _≤_};
 ghost use lib.ListN.{length};
-ghost use Rattle.graph.specs.Chart.{chart};
+ghost use Rattle.lists.specs.Lists.{range};
+ghost use Rattle.graph.specs.Chart.{chart, countPairs};
+ghost use Rattle.rows.specs.Rows.{tableBit};
 ghost use Rattle.graph.specs.Rounds.{round, rounds, start};
 ghost use Rattle.map.specs.Room.{AreLong};
 ghost use Rattle.map.specs.Memory.{base, places};
@@ -165,6 +167,7 @@ fn settle_low(
     a: usize,
     span: Span,
     chain: u16,
+    count: u32,
 ) -> Figures
     requires { let given = lentAt pairs hops bounds skips even odd in
         let G = targetNetwork (base .words) (now members) (now targets) (now links) in
@@ -174,14 +177,15 @@ fn settle_low(
         × AreOpen base G (now pairs)
         × HoldsSearch base G given a (reached (span .ecc) (span .own) (now partners))
         × (a < places base)
-        × (span .own ≤ chain) ⌝ }
+        × (span .own ≤ chain)
+        × (countPairs (range (places base)) (tableBit (base .words) (now pairs)) ≤ count) ⌝ }
     ensures { λ r.
         let before = lentBefore pairs hops bounds skips even odd in
         let after = lentAfter pairs hops bounds skips even odd in
         let G = targetNetwork (base .words) (now (members .entry)) (now (targets .entry)) (now (links .entry)) in
         ⌜ figured (r .change) (ran after (r .chain) (r .count) (r .searches)) ≡ figuredBy base G a chain before ⌝ }
 {
-    let left = stale_pairs::drop_stale(pairs, &*hops, map::WORDS, chain);
+    let left = stale_pairs::drop_stale(pairs, &*hops, map::WORDS, chain, count);
     if span.own == chain {
         let sum = join(pairs, bounds, skips, &*partners, a, span, chain, left.count);
         return Figures {
@@ -292,5 +296,6 @@ pub fn refigure(
         a,
         span,
         chain,
+        count,
     )
 }

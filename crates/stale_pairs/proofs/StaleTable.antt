@@ -1,20 +1,21 @@
 -- The loop of `drop_rows`: after each row the statement itself, `dropRowsOf`, for the rows done. Assumes nothing.
-use mathlib.Core.Path.{_≡_, refl, sym, ap, ap₂, _∙_}
+use mathlib.Core.Path.{_≡_, refl, sym, ap, ap₂, _∙_, subst}
 use mathlib.Core.Logic.{_≢_, _⊎_, inl, inr}
 use mathlib.Core.Bool.{Bool, true, false, cond, not, _&&_}
 use mathlib.Core.List.{List}
-use Prim.Native.Nat.{ℕ, _+_, _*_, _^_, _≤_, _<_, min, max}
+use Prim.Native.Nat.{ℕ, zero, suc, _+_, _-_, _*_, _^_, _≤_, _<_, min, max}
+use native.Mathlib.Nat.{le-of-eq}
 use native.Mathlib.Omega.{arith}
 use lib.Dec.{eqb, ltb}
 use lib.ListN.{length, getD}
 use borrow.Author.Tests.{eq-eqb, ne-eqb, lt-ltb, le-ltb}
 use Rattle.lists.specs.Lists.{range, countb, sumOf, maxOf, overwrite}
 use Rattle.lists.proofs.Tests.{eq-or-ne, lt-or-ge}
-use Rattle.lists.proofs.Members.{length-range, range-out}
-use Rattle.lists.proofs.Counts.{count-le-length, count-none}
+use Rattle.lists.proofs.Members.{length-range, range-in, range-out}
+use Rattle.lists.proofs.Counts.{count-le-length, count-none, count-zero}
 use Rattle.lists.proofs.Sums.{sum-add}
 use Rattle.lists.proofs.RangeCounts.{count-same}
-use Rattle.lists.proofs.Ranges.{sum-nothing, sum-more, sum-skip, sum-few, max-nothing, max-more, max-skip, max-none, max-same}
+use Rattle.lists.proofs.Ranges.{sum-nothing, sum-more, sum-skip, sum-same, sum-few, max-nothing, max-more, max-skip, max-none, max-same}
 use Rattle.graph.specs.Chart.{Pairs, countPairs}
 use Rattle.graph.specs.Opening.{stayingPairs, shrunkCandidate}
 use Rattle.rows.specs.Rows.{tableBit, encodeTable}
@@ -22,7 +23,7 @@ use Rattle.rows.proofs.Written.{table-at}
 use Rattle.rows.proofs.Wholes.{table-whole, encode-table-ext}
 use Rattle.pairs.specs.Pairs.{tally, tallyOf}
 use Rattle.pairs.proofs.Tallies.{table-over}
-use Rattle.stale_pairs.specs.Stale.{wayBy, wayByEither, wayFrom, dropped, RowsDropped, rowsDropped, stalePairs, pairsAfter, rowGone, rowStays, rowWay, dropRowOf, dropRowsOf, dropOf, Bare}
+use Rattle.stale_pairs.specs.Stale.{wayBy, wayByEither, wayFrom, dropped, RowsDropped, rowsDropped, stalePairs, pairsAfter, rowGone, rowStays, rowWay, dropRowOf, dropRowsOf, dropOf, Bare, pairsBelow}
 use Rattle.stale_pairs.proofs.StaleRow.{count-parted, same-rows}
 
 -- a row has at most 64 W pairs, and so no more go or stay
@@ -33,6 +34,35 @@ few-in W far D P u = omega (arith, count-parted far D P u (range (64 * W)), coun
 pub row-few : (W : ℕ) (far : ℕ → ℕ → ℕ) (D u : ℕ) (t : List ℕ) {t′ : List ℕ} {g k w : ℕ} → rowsDropped t′ g k w ≡ dropRowOf W far D u t → g + k ≤ 64 * W
 unfolding dropRowOf
 row-few W far D u t r = omega (arith, ap (λ (x : RowsDropped). x .gone + x .left .left .count) r, few-in W far D (tableBit W t) u)
+
+-- ---- pairs counted, row by row
+
+-- what a sum had at m it has at every later place
+sum-grows : (f : ℕ → ℕ) (m k : ℕ) → sumOf f (range m) ≤ sumOf f (range (m + k))
+sum-grows f m zero = le-of-eq (ap (λ (n : ℕ). sumOf f (range n)) (let q : m ≡ m + 0 = omega arith in q))
+sum-grows f m (suc k) = let h = sum-grows f m k in let e = sum-more f (m + k) in let q : m + suc k ≡ m + k + 1 = omega arith in rw q (omega arith)
+
+-- and if it has no more at n than at m, then nothing was added between
+sum-still : (f : ℕ → ℕ) (m n p : ℕ) → sumOf f (range n) ≤ sumOf f (range m) → m ≤ p → p < n → f p ≡ 0
+sum-still f m n p l a b =
+    let g = sum-grows f m (p - m) in
+    let h = sum-grows f (p + 1) (n - (p + 1)) in
+    let q : m + (p - m) ≡ p = omega arith in
+    let r : p + 1 + (n - (p + 1)) ≡ n = omega arith in
+    let g′ : sumOf f (range m) ≤ sumOf f (range p) = subst (λ (k : ℕ). sumOf f (range m) ≤ sumOf f (range k)) q g in
+    let h′ : sumOf f (range (p + 1)) ≤ sumOf f (range n) = subst (λ (k : ℕ). sumOf f (range (p + 1)) ≤ sumOf f (range k)) r h in
+    omega (arith, sum-more f p, g′, h′)
+
+-- all rows of a table have its pairs, and no table has more than a count can tell
+pub below-all : (W : ℕ) (t : List ℕ) → countPairs (range (64 * W)) (tableBit W t) ≡ pairsBelow W (64 * W) t
+unfolding countPairs pairsBelow
+below-all W t = refl
+
+pub below-few : (W : ℕ) (t : List ℕ) → W < 513 → pairsBelow W (64 * W) t ≤ 4294967295
+unfolding pairsBelow
+below-few W t z =
+    let few = sum-few (λ u. countb (tableBit W t u) (range (64 * W))) 32768 (64 * W) (λ u l. omega (arith, count-le-length (tableBit W t u) (range (64 * W)), length-range (64 * W))) in
+    omega (arith, few)
 
 module _ (W : ℕ) (far : ℕ → ℕ → ℕ) (D : ℕ) (t₀ : List ℕ) where
   abbrev P₀ : Pairs
@@ -95,9 +125,28 @@ module _ (W : ℕ) (far : ℕ → ℕ → ℕ) (D : ℕ) (t₀ : List ℕ) where
         let few = sum-few f 32768 u (λ p l. omega (arith, few-in W far D P₀ p)) in
         omega (arith, done-gone, done-count, sum-add (rowGone W far D P₀) (rowStays W far D P₀) (range u), few)
 
+    -- those gone and those that stay are the pairs of the rows done
+    done-all : g + k ≡ pairsBelow W u t₀
+    unfolding pairsBelow rowGone rowStays
+    done-all =
+        ap₂ _+_ done-gone done-count
+        ∙ sym (sum-add (rowGone W far D P₀) (rowStays W far D P₀) (range u))
+        ∙ sum-same _ (λ p. countb (P₀ p) (range (64 * W))) u (λ p l. sym (count-parted far D P₀ p (range (64 * W))))
+
     -- the rows from u on are as they were
     bit-yet : (p v : ℕ) → u ≤ p → p < 64 * W → v < 64 * W → tableBit W t p v ≡ P₀ p v
     bit-yet p v a l h = ap (λ (s : List ℕ). tableBit W s p v) done-table ∙ table-at W (leftAbove u) t₀ p v l h ∙ left-yet u p v a
+
+    -- as many as there can be are met: the rows left have none
+    pub rows-met : {total : ℕ} → n ≤ 64 * W → pairsBelow W n t₀ ≤ total → g + k ≡ total → Bare W n t u n
+    unfolding pairsBelow
+    rows-met m few e = record {
+      after = i .within;
+      within = omega arith;
+      none = λ q v a b h.
+          bit-yet q v a (omega arith) h
+          ∙ count-zero (P₀ q) (range (64 * W)) (sum-still (λ p. countb (P₀ p) (range (64 * W))) u n q (omega (arith, few, e, done-all)) a b) (range-in (64 * W) h);
+    }
 
     -- the rows up to q besides, which have no pair
     pub rows-bare : {q : ℕ} → n ≤ 64 * W → Bare W n t u q → RowsDropping n t g k w q

@@ -117,6 +117,10 @@ pub record Bare (W n : ℕ) (pairs : List ℕ) (u p : ℕ) : Type 0 where
   pub within : p ≤ n
   pub none : (q v : ℕ) → u ≤ q → q < p → v < 64 * W → tableBit W pairs q v ≡ false
 
+-- the pairs that stand in the rows below n
+unfoldable pub pairsBelow : ℕ → ℕ → List ℕ → ℕ
+pairsBelow W n t = sumOf (λ u. countb (tableBit W t u) (range (64 * W))) (range n)
+
 -- ---- what the functions ask
 
 -- a whole table, and a hop for each code

@@ -7,7 +7,13 @@ ghost use Prim.Native.Nat.{_+_, _*_, _<_, _≤_, min, max};
 ghost use lib.ListN.{length};
 ghost use Rattle.pairs.specs.Pairs.{tally};
 ghost use Rattle.stale_pairs.specs.Stale.{HasHops, Bare, wayBy, wayByEither, wayFrom, sifted, siftOf};
-ghost use Rattle.stale_pairs.specs.Stale.{dropped, rowsDropped, dropRowOf, dropRowsOf, dropOf};
+ghost use Rattle.stale_pairs.specs.Stale.{dropped, rowsDropped, dropRowOf, dropRowsOf, dropOf, pairsBelow};
+ghost use Rattle.lists.specs.Lists.{range};
+ghost use Rattle.graph.specs.Chart.{countPairs};
+ghost use Rattle.rows.specs.Rows.{tableBit};
+
+// as many pairs as a count can tell: no table has more
+const MOST: u32 = 4294967295;
 
 // How many pairs stay, and the greatest way of those that were there.
 pub struct Dropping {
@@ -264,7 +270,7 @@ fn next_row(pairs: &[u64], words: usize, rows: usize, u: usize) -> usize
 }
 
 // Drops the stale pairs of the first rows in place, a row after the other: those rows have their pairs that stay, the others are as they were, and
-// the pairs gone so far are counted.
+// the pairs gone so far are counted. No more than `total` pairs stand in them, so that no row is looked at behind the last of these.
 pub fn drop_rows(
     pairs: &mut [u64],
     near: &[u16],
@@ -273,8 +279,12 @@ pub fn drop_rows(
     rows: usize,
     chain: u16,
     either: bool,
+    total: u32,
 ) -> RowsDropping
-    requires { ⌜ HasHops words (now pairs) (now near) × HasHops words (now pairs) (now far) × (rows ≤ 64 * words) ⌝ }
+    requires { ⌜ HasHops words (now pairs) (now near)
+        × HasHops words (now pairs) (now far)
+        × (rows ≤ 64 * words)
+        × (pairsBelow words rows (now pairs) ≤ total) ⌝ }
     ensures { λ r.
         let way = wayFrom either (now (near .entry)) (now (far .entry)) in
         ⌜ rowsDropped (now (pairs .exit)) (r .gone) (r .count) (r .way) ≡ dropRowsOf words way chain rows (now (pairs .entry)) ⌝ }
@@ -288,7 +298,11 @@ pub fn drop_rows(
         gone += row.gone;
         count += row.count;
         way = longer(way, row.way);
-        u = next_row(&*pairs, words, rows, u + 1);
+        if gone + count == total {
+            u = rows;
+        } else {
+            u = next_row(&*pairs, words, rows, u + 1);
+        }
     }
     RowsDropping {
         gone: gone,
@@ -297,12 +311,14 @@ pub fn drop_rows(
     }
 }
 
-// Drops the stale pairs of the table in place, and answers what is left of them and the greatest way that was there.
-pub fn drop_stale(pairs: &mut [u64], hops: &[u16], words: usize, chain: u16) -> Dropping
-    requires { ⌜ HasHops words (now pairs) (now hops) ⌝ }
+// Drops the stale pairs of the table in place, of which it has no more than `total`, and answers what is left of them and the greatest way that was
+// there.
+pub fn drop_stale(pairs: &mut [u64], hops: &[u16], words: usize, chain: u16, total: u32) -> Dropping
+    requires { ⌜ HasHops words (now pairs) (now hops)
+        × (countPairs (range (64 * words)) (tableBit words (now pairs)) ≤ total) ⌝ }
     ensures { λ r. ⌜ dropped (tally (now (pairs .exit)) (r .count)) (r .way) ≡ dropOf words (wayBy (now (hops .entry))) chain (now (pairs .entry)) ⌝ }
 {
-    let done = drop_rows(pairs, hops, hops, words, 64 * words, chain, false);
+    let done = drop_rows(pairs, hops, hops, words, 64 * words, chain, false, total);
     Dropping {
         count: done.count,
         way: done.way,
@@ -322,7 +338,7 @@ pub fn drop_stale_either(
         let way = wayByEither (now (near .entry)) (now (far .entry)) in
         ⌜ dropped (tally (now (pairs .exit)) (r .count)) (r .way) ≡ dropOf words way chain (now (pairs .entry)) ⌝ }
 {
-    let done = drop_rows(pairs, near, far, words, 64 * words, chain, true);
+    let done = drop_rows(pairs, near, far, words, 64 * words, chain, true, MOST);
     Dropping {
         count: done.count,
         way: done.way,

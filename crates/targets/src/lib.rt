@@ -191,11 +191,31 @@ fn above(w: u64, b: usize) -> u64
     w & (!1u64 << b)
 }
 
-// The hops of the members that word w of a row holds, added.
+// The word of which every bit is a member.
+const FULL: u64 = 18446744073709551615;
+
+// The hops of the 64 codes of word w of a row, added.
+fn sum_of_all(hops: &[u16], w: usize) -> u64
+    requires { ⌜ (64 * w + 64 ≤ length (now hops)) × (w < 2 ^ 32) ⌝ }
+    ensures { λ r. ⌜ r ≡ sumOf (λ b. getD (now (hops .entry)) (64 * w + b) 0) (range 64) ⌝ }
+{
+    let mut sum: u64 = 0;
+    let mut b = 0;
+    while b < 64 {
+        sum = sum + hops[64 * w + b] as u64;
+        b += 1;
+    }
+    sum
+}
+
+// The hops of the members that word w of a row holds, added. A full word, of which a large map has most, is gone through without a test for each code.
 fn sum_of_word(hops: &[u16], w: usize, word: u64) -> u64
     requires { ⌜ (64 * w + 64 ≤ length (now hops)) × (w < 2 ^ 32) ⌝ }
     ensures { λ r. ⌜ r ≡ sumOf (hopIn (now (hops .entry)) w word) (range 64) ⌝ }
 {
+    if word == FULL {
+        return sum_of_all(hops, w);
+    }
     let mut sum: u64 = 0;
     let mut x = word;
     while x != 0 {

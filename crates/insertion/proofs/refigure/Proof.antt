@@ -68,6 +68,7 @@ settle-low-requires c κs =
       search-stands base base-shape _ _ _ (pre .are) _ _ _ _ (pre .net) (pre .present) found _ (after-reach-by .reach-by .ensures),
       start .pre .2,
       omega (arith, else1 .if1 .left),
+      omega (arith, pre .counted),
     )
 
 -- the two calls keep the lengths of hops and rows

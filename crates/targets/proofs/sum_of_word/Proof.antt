@@ -1,10 +1,10 @@
--- `targets::sum_of_word` meets its contract. The loop's invariant (Words.antt): the sum so far, with the hops of what is left of the word, is that of the
--- word. The measure is what is left of the word.
+-- `targets::sum_of_word` meets its contract. A full word is summed whole. The loop's invariant (Words.antt): the sum so far, with the hops of what is
+-- left of the word, is that of the word. The measure is what is left of the word.
 -- Assumes nothing.
 use Prim.Native.Nat.{_*_, _+_}
 use native.Mathlib.Omega.{arith}
 use borrow.Author.Needs.{needs}
-use Rattle.targets.proofs.Words.{BitsSummed, summing-none, summing-next, summing-all, summing-most}
+use Rattle.targets.proofs.Words.{full-sum, BitsSummed, summing-none, summing-next, summing-all, summing-most}
 use Rattle.targets.proofs.sum_of_word.Statement.{statement}
 use Rattle.targets.proofs.sum_of_word.Tie as tie
 
@@ -26,12 +26,19 @@ add-sum c =
     let at-loop : tie.At-loop Inv-loop μ-loop = search in
     omega (arith, summing-most _ _ _ (at-loop .loop .inv) (after-least .least .ensures) (λ v. c .shared-slice-known2 .given v .fits))
 
+returns : tie.Need-returns Inv-loop μ-loop
+returns c =
+    let then1 : tie.Then1 Inv-loop μ-loop = search in
+    full-sum _ _ (then1 .if1 .taken) (c .sum-of-all .ensures)
+
 pub sum-of-word-spec : {M : Type 1} → statement M
 sum-of-word-spec =
     tie.close
     (tie.spec
     Inv-loop
     μ-loop
+    (λ c. search needs)  -- sum-of-all-requires
+    returns
     (λ c. search summing-none)  -- loop-holds
     (λ c. search needs) (λ c. search needs) (λ c. search needs) (λ c. search needs)  -- mul-v, least-requires, add-v, mul-sum
     (λ c. search needs)  -- shared-slice-read-sum
@@ -39,4 +46,4 @@ sum-of-word-spec =
     add-sum
     (λ c. search needs) (λ c. search needs)  -- drop-least-requires, loop-less
     (λ c. search summing-next)  -- loop-again
-    (λ c. search summing-all))  -- returns
+    (λ c. search summing-all))  -- returns-2
