@@ -28,6 +28,7 @@ GROUPS = [
     ('the calls for C', 'c_maps c_updates c_streams', ['updated-words', 'batched-words']),
     ('the table of cases', '', ['cases-hold']),
     ('what stands without yards', '', ['stands-as-before']),
+    ('how far one notice moves the chain', '', ['opening-moves', 'linking-moves', 'map-moves', 'call-moves', 'demand3-moves']),
 ]
 
 USE = re.compile(r'^\s*(?:ghost )?use (\S+?)(?:\.\{(.*)\}| as (\S+));?$')

@@ -23,6 +23,7 @@ pub mod Updates
 pub mod LinkTheorems
 pub mod Lawful
 pub mod Yards
+pub mod Movement
 pub mod Batches
 pub mod Rules
 pub mod Apart

@@ -25,13 +25,17 @@ pub mod Refusals
 pub mod Nearby
 -- 13. the sum of distances over the pairs, their number, and the depots of each eccentricity
 pub mod Summary
--- 14. the worked cases of the rules, computed; crate `cases` cites their inputs (`path`, `sevenLines`) and `AnswerLine`
+-- 14. how far one notice can move the diameter
+pub mod Movement
+-- 15. the worked cases of the rules, computed; crate `cases` cites their inputs (`path`, `sevenLines`) and `AnswerLine`
 pub mod Cases
--- 15. further cases, one for each rule that those leave open. Nobody has to believe this file
+-- 16. further cases, one for each rule that those leave open. Nobody has to believe this file
 pub mod RuleCases
--- 16. links worked by hand. Nobody has to believe this file
+-- 17. links worked by hand. Nobody has to believe this file
 pub mod LinkCases
--- 17. batches worked by hand. Nobody has to believe this file
+-- 18. batches worked by hand. Nobody has to believe this file
 pub mod BatchCases
--- 18. yards worked by hand. Nobody has to believe this file
+-- 19. yards worked by hand. Nobody has to believe this file
 pub mod YardCases
+-- 20. movements worked by hand. Nobody has to believe this file
+pub mod MovementCases

@@ -8,3 +8,5 @@ pub mod Runs
 pub mod Orders
 -- THE THEOREM: demand 3.
 pub mod Theorems
+-- How far calls move the chain.
+pub mod Movement

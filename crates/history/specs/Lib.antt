@@ -5,3 +5,5 @@ pub mod PlainRun
 pub mod History
 -- 3. DEMAND 3
 pub mod Demand3
+-- 4. how far calls can move the chain
+pub mod Movement

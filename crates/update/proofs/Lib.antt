@@ -18,3 +18,5 @@ pub mod Theorems
 pub mod Refuses
 -- A call keeps a map that nothing refuses.
 pub mod Keeps
+-- How far one call moves the chain.
+pub mod Movement

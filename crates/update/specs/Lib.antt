@@ -13,3 +13,5 @@ pub mod Demand2
 pub mod Tables
 -- 7. small words for contracts, and the refusal of the lent map alone, which the stream's step cites
 pub mod Steps
+-- 8. how far one call can move the chain
+pub mod Movement
