@@ -4,7 +4,7 @@ use map::Record;
 use outcome::Outcome;
 
 // The map, by value: both tables and the record.
-#[derive(Drop)]
+#[derive(Clone, Copy)]
 pub struct Map {
     pub links: [u64; map::TABLE],
     pub pairs: [u64; map::TABLE],
@@ -12,7 +12,7 @@ pub struct Map {
 }
 
 // What an opening leaves: the map, and the number of the refusal, 0 for none.
-#[derive(Drop)]
+#[derive(Clone, Copy)]
 pub struct Taken {
     pub map: Map,
     pub refusal: u8,
@@ -99,7 +99,7 @@ pub fn first_answer(near: u8) -> u8 {
 }
 
 // What a batch leaves: the map, the number of the refusal, 0 for none, and how many lines were left over.
-#[derive(Drop)]
+#[derive(Clone, Copy)]
 pub struct Handed {
     pub map: Map,
     pub refusal: u8,
@@ -185,7 +185,7 @@ fn link(m: Map, first: u8, second: u8) -> Taken {
 }
 
 // Three notices: 3 opens beside 2, 4 opens beside 0, and these two are linked.
-#[derive(Drop)]
+#[derive(Clone, Copy)]
 pub enum Notice {
     A,
     B,

@@ -17,7 +17,7 @@ use notice::Reading;
 pub const LIMIT: usize = 64;
 
 // What a scan of the lines finds: the number of the first that can be accepted with the length of its frame, or nothing.
-#[derive(Drop)]
+#[derive(Clone, Copy)]
 pub enum Fit {
     Line(u8, usize),
     Nothing,

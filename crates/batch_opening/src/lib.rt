@@ -20,7 +20,7 @@ use batch_update::{BatchAnswer, Batched};
 use map::Record;
 
 // How far a batch has come: the map's record, and the lines taken, a bit for each.
-#[derive(Drop)]
+#[derive(Clone, Copy)]
 pub struct BatchProgress {
     pub after: Record,
     pub taken: u64,

@@ -2,14 +2,14 @@
 use map::Record;
 
 // What a batch answers: how many lines are left over, or the number of the refusal.
-#[derive(Drop)]
+#[derive(Clone, Copy)]
 pub enum BatchAnswer {
     Opened(u8),
     Refused(u8),
 }
 
 // What a batch leaves beside the lent memory: its answer and the record.
-#[derive(Drop)]
+#[derive(Clone, Copy)]
 pub struct Batched {
     pub answer: BatchAnswer,
     pub after: Record,

@@ -9,7 +9,7 @@ pub mod system;
 use stream::Progress;
 
 // Where a descriptor stands: the stream's progress, and whether to go on.
-#[derive(Drop)]
+#[derive(Clone, Copy)]
 struct Answered {
     progress: Progress,
     going: bool,
@@ -78,7 +78,7 @@ fn answer(
 }
 
 // How the input ended: the stream's progress, whether what it holds of a last line is to be reported, and whether a read failed, by the system's last error.
-#[derive(Drop)]
+#[derive(Clone, Copy)]
 pub struct Ended {
     pub progress: Progress,
     pub finishing: bool,

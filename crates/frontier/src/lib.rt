@@ -7,7 +7,7 @@ ghost use Rattle.frontier.specs.Steps.{SearchRoom, AreWords, no_words, reached, 
 ghost use Rattle.frontier.specs.Steps.{pass_on, stepped, step_of, four_list, union_of};
 
 // Four words side by side. They are passed by value, so that a walk keeps them in registers whatever tables lie beside them.
-#[derive(Drop)]
+#[derive(Clone, Copy)]
 struct Four {
     a: u64,
     b: u64,

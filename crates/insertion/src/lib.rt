@@ -20,7 +20,7 @@ use rounds::RoundFigures;
 use targets::Span;
 
 // The figures after an opening: how the chain moved, chain, pair count, number of searches.
-#[derive(Drop)]
+#[derive(Clone, Copy)]
 pub struct Figures {
     pub change: Change,
     pub chain: u16,

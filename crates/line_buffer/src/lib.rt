@@ -8,7 +8,7 @@ use report::Written;
 use update::Returned;
 
 // What the line buffer took of a piece: the place behind it, the bytes held then, and whether the line ended.
-#[derive(Drop)]
+#[derive(Clone, Copy)]
 pub struct Gathered {
     pub at: usize,
     pub held: usize,

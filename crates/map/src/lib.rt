@@ -149,7 +149,7 @@ pub fn are_long(
 // ---- emptying
 
 // The record of one map: the members of the open set (one row), number open, longest chain, pair count, and the yard set (one row).
-#[derive(Drop)]
+#[derive(Clone, Copy)]
 pub struct Record {
     pub members: [u64; WORDS],
     pub number: u16,
@@ -172,14 +172,14 @@ pub fn empty_record() -> Record
 }
 
 // The answer of emptying: done, or the refusal's number.
-#[derive(Drop)]
+#[derive(Clone, Copy)]
 pub enum Emptying {
     Done,
     Refused(u8),
 }
 
 // What emptying a map leaves: its answer and the record.
-#[derive(Drop)]
+#[derive(Clone, Copy)]
 pub struct Emptied {
     pub answer: Emptying,
     pub after: Record,

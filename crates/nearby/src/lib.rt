@@ -16,7 +16,7 @@ use rows::Next;
 // ---- within so many handovers
 
 // The answer of a listing: how many codes are listed, or the refusal's number.
-#[derive(Drop)]
+#[derive(Clone, Copy)]
 pub enum Listing {
     Listed(u16),
     Refused(u8),
@@ -84,7 +84,7 @@ pub fn within(
 // ---- the nearest of a list
 
 // The answer of a choice: the code with its distance, or the refusal's number.
-#[derive(Drop)]
+#[derive(Clone, Copy)]
 pub enum Closest {
     At(u8, u16),
     Refused(u8),

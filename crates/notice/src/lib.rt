@@ -20,14 +20,14 @@ pub const LINK: u8 = 2;
 pub const YARD: u8 = 4;
 
 // What the reader answers: the frame's length with the bytes used, or the number of the refusal.
-#[derive(Drop)]
+#[derive(Clone, Copy)]
 pub enum Reading {
     Frame(usize, usize),
     Refused(u8),
 }
 
 // What the writer answers: the line's length, or the number of the refusal.
-#[derive(Drop)]
+#[derive(Clone, Copy)]
 pub enum Writing {
     Line(usize),
     Refused(u8),

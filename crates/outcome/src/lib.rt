@@ -37,7 +37,7 @@ pub const TOO_FEW: u8 = 15;
 // ---- the answer
 
 // How the longest chain changed with an accepted opening.
-#[derive(Drop)]
+#[derive(Clone, Copy)]
 pub enum Change {
     Grew,
     Kept,
@@ -45,7 +45,7 @@ pub enum Change {
 }
 
 // An accepted call holds the change, a refused one its number.
-#[derive(Drop)]
+#[derive(Clone, Copy)]
 pub enum Outcome {
     Accepted(Change),
     Refused(u8),

@@ -14,14 +14,14 @@ use map::Record;
 use rounds::RoundFigures;
 
 // The answer of a whole reckoning: the number of searches, or the refusal's number.
-#[derive(Drop)]
+#[derive(Clone, Copy)]
 pub enum Reckoning {
     Searches(u16),
     Refused(u8),
 }
 
 // What a whole reckoning leaves beside the lent tables: its answer and the record.
-#[derive(Drop)]
+#[derive(Clone, Copy)]
 pub struct Reckoned {
     pub answer: Reckoning,
     pub after: Record,

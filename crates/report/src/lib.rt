@@ -10,7 +10,7 @@ use outcome::Outcome;
 pub const BUFFER_LIMIT: usize = 48;
 
 // What a line reports: its number, the outcome of its call, and the figures of the map after it.
-#[derive(Drop)]
+#[derive(Clone, Copy)]
 pub struct ReportFields {
     pub number: u32,
     pub outcome: Outcome,
@@ -21,7 +21,7 @@ pub struct ReportFields {
 }
 
 // The length of the line, or the number of the refusal.
-#[derive(Drop)]
+#[derive(Clone, Copy)]
 pub enum Written {
     Line(usize),
     Refused(u8),

@@ -53,7 +53,7 @@ fn raise(candidate: u16, e: u16) -> u16
 }
 
 // Candidate, pair count and number of searches.
-#[derive(Drop)]
+#[derive(Clone, Copy)]
 pub struct RoundFigures {
     pub candidate: u16,
     pub count: u32,

@@ -43,7 +43,7 @@ pub fn degree(t: &[u64], words: usize, u: usize) -> usize
 }
 
 // A member of a row, or none.
-#[derive(Drop)]
+#[derive(Clone, Copy)]
 pub enum Next {
     At(usize),
     Nothing,

@@ -12,7 +12,7 @@ use rows::Next;
 
 // The answer of a search: the eccentricity, which is to depots that deliver, and the distance of the last layer, which is of all open depots; or the
 // refusal's number.
-#[derive(Drop)]
+#[derive(Clone, Copy)]
 pub enum Found {
     Reached(u16, u16),
     Refused(u8),
@@ -52,7 +52,7 @@ pub fn search_sound(
 }
 
 // What a search to targets found: the greatest hop of a target, and the distance of the last layer.
-#[derive(Drop)]
+#[derive(Clone, Copy)]
 pub struct Reach {
     pub ecc: u16,
     pub depth: u16,

@@ -14,14 +14,14 @@ ghost use Rattle.rows.specs.Rows.{table_bit};
 const MOST: u32 = 4294967295;
 
 // How many pairs stay, and the greatest way of those that were there.
-#[derive(Drop)]
+#[derive(Clone, Copy)]
 pub struct Dropping {
     pub count: u32,
     pub way: u16,
 }
 
 // Of the rows done: how many of their pairs are gone, how many stay, and the greatest way of those that were there.
-#[derive(Drop)]
+#[derive(Clone, Copy)]
 pub struct RowsDropping {
     pub gone: u32,
     pub count: u32,
@@ -54,7 +54,7 @@ fn way_by(hops: &[u16], u: usize, v: usize, chain: u16) -> u16
 
 // The members of a word that stay, how many went and how many stay, and the greatest way of those that were there. They are counted as they are met: few
 // words of a pair table have many.
-#[derive(Drop)]
+#[derive(Clone, Copy)]
 pub struct Sifted {
     pub word: u64,
     pub gone: u32,

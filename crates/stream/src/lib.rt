@@ -14,7 +14,7 @@ use notice::Reading;
 use update::Returned;
 
 // How far a stream has come: the map's record, the lines answered, and the bytes that the line buffer holds of the next one.
-#[derive(Drop)]
+#[derive(Clone, Copy)]
 pub struct Progress {
     pub rec: Record,
     pub lines: u32,
@@ -22,7 +22,7 @@ pub struct Progress {
 }
 
 // What a call leaves beside the lent memory: the progress, the bytes of the piece used, and the bytes of reports written.
-#[derive(Drop)]
+#[derive(Clone, Copy)]
 pub struct Fed {
     pub progress: Progress,
     pub used: usize,

@@ -14,7 +14,7 @@ pub const ROOM: usize = 84;
 pub const FILES_LIMIT: u32 = 1000;
 
 // The sums and the pairs of the files so far, added up, and how many files these are.
-#[derive(Drop)]
+#[derive(Clone, Copy)]
 pub struct Totals {
     pub sum: u64,
     pub pairs: u64,
@@ -22,7 +22,7 @@ pub struct Totals {
 }
 
 // What a file's line leaves: the place behind it, and the totals with the file.
-#[derive(Drop)]
+#[derive(Clone, Copy)]
 pub struct FilePut {
     pub at: usize,
     pub totals: Totals,

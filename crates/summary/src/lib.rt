@@ -15,7 +15,7 @@ use rows::Next;
 // ---- one destination
 
 // What the search from a destination gives: the hops of the targets above it added, how many these are, and the greatest hop of all targets.
-#[derive(Drop)]
+#[derive(Clone, Copy)]
 struct Tally {
     sum: u64,
     pairs: u64,
@@ -65,7 +65,7 @@ fn search_target(
 // ---- all destinations
 
 // The sum of the distances, and the number of pairs.
-#[derive(Drop)]
+#[derive(Clone, Copy)]
 struct Totals {
     sum: u64,
     pairs: u64,
@@ -114,7 +114,7 @@ fn total_over(
 // ---- the public call
 
 // The answer of a report: sum of the distances, number of pairs, quotient and remainder of the mean; or the refusal's number.
-#[derive(Drop)]
+#[derive(Clone, Copy)]
 pub enum Summing {
     Summed(u64, u64, u64, u64),
     Refused(u8),

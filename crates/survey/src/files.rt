@@ -2,7 +2,7 @@
 ghost use Rattle.io.specs.Counts.{IsPrefixLen};
 
 // A file's descriptor, negative where it cannot be opened, and how many bytes its name has.
-#[derive(Drop)]
+#[derive(Clone, Copy)]
 pub struct Opened {
     pub descriptor: i32,
     pub named: usize,

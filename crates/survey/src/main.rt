@@ -60,7 +60,7 @@ fn follow_file(
 }
 
 // Where the run stands: the totals so far, and whether to go on.
-#[derive(Drop)]
+#[derive(Clone, Copy)]
 struct Surveyed {
     totals: Totals,
     going: bool,

@@ -136,7 +136,7 @@ fn put_at(targets: &[u64], hops: &[u16], row: &mut [u64], words: usize, e: u16)
 }
 
 // As far as a target lies from a depot, and what of it is the depot's own: the same if it is a target, and else 0, which makes no pair.
-#[derive(Drop)]
+#[derive(Clone, Copy)]
 pub struct Span {
     pub ecc: u16,
     pub own: u16,
@@ -220,7 +220,7 @@ fn sum_of_word(hops: &[u16], w: usize, word: u64) -> u64
 }
 
 // The targets above a code: their hops added, and how many they are.
-#[derive(Drop)]
+#[derive(Clone, Copy)]
 pub struct Later {
     pub sum: u64,
     pub pairs: u64,

@@ -9,7 +9,7 @@ use reckon::Reckoning;
 use search::Found;
 
 // What is lent: the map, which is both tables and the record, and scratch.
-#[derive(Drop)]
+#[derive(Clone, Copy)]
 pub struct Lent {
     pub links: [u64; map::TABLE],
     pub pairs: [u64; map::TABLE],
@@ -23,7 +23,7 @@ pub struct Lent {
 
 // What a call answers and leaves. The word is the number of a refusal, or the letter of an opening, or D (done); the number is that of the searches, or the
 // eccentricity that a search answers.
-#[derive(Drop)]
+#[derive(Clone, Copy)]
 pub struct Answer {
     pub word: u8,
     pub number: u16,

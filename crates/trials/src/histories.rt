@@ -8,7 +8,7 @@ use map::Record;
 use plain_search::Sheet;
 
 // Where a history stands: what is lent, and the cases so far.
-#[derive(Drop)]
+#[derive(Clone, Copy)]
 pub struct State {
     pub lent: Lent,
     pub tally: Tally,
@@ -63,7 +63,7 @@ fn bend(m: Lent, bent: usize, j: usize) -> Lent {
 }
 
 // A call that was made: what was lent to it, the word that it was to answer, and what it answered.
-#[derive(Drop)]
+#[derive(Clone, Copy)]
 pub struct Made {
     pub lent: Lent,
     pub want: u8,

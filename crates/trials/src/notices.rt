@@ -2,7 +2,7 @@
 use plain_search::{List, wide};
 
 // A notice: its code, its neighbours, the first so many of a list, and whether a buffer that is lent with it is short.
-#[derive(Drop)]
+#[derive(Clone, Copy)]
 pub struct Notice {
     pub code: u8,
     pub list: List,
@@ -12,7 +12,7 @@ pub struct Notice {
 
 // The networks, whose depots are numbered as they open. A ring closes with depot 39. At random, each depot is linked to one of the last four, and to
 // any other by a small chance. A growth of four is one of 21.
-#[derive(Drop)]
+#[derive(Clone, Copy)]
 pub enum Kind {
     Path,
     Complete,

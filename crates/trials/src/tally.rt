@@ -1,5 +1,5 @@
 // How many cases a group tried, and whether all of them came out as expected.
-#[derive(Drop)]
+#[derive(Clone, Copy)]
 pub struct Tally {
     tried: u32,
     ok: bool,

@@ -8,14 +8,14 @@ use map::Record;
 use outcome::Outcome;
 
 // The report of a call: its outcome, and the number of searches.
-#[derive(Drop)]
+#[derive(Clone, Copy)]
 pub struct Report {
     pub outcome: Outcome,
     pub searches: u16,
 }
 
 // What a call leaves beside the lent tables: its report and the record.
-#[derive(Drop)]
+#[derive(Clone, Copy)]
 pub struct Returned {
     pub report: Report,
     pub after: Record,
