@@ -74,7 +74,7 @@ pub fn record_of(words: &[u64]) -> Record
 }
 
 // Puts a word in its place.
-fn put_word_lem(words: &mut [u64], i: usize, x: u64)
+fn put_word(words: &mut [u64], i: usize, x: u64)
     requires { i < length words.old }
     ensures { words.new ≡ set words.old i x }
 {
@@ -86,10 +86,10 @@ fn put_row(words: &mut [u64], at: usize, row: &[u64])
     requires { (at + base.words ≤ length words.old) × (length row.now ≡ base.words) }
     ensures { let before = words.old in words.new ≡ overwrite (take at before ++ row.now) before }
 {
-    put_word_lem(words, at, row[0]);
-    put_word_lem(words, at + 1, row[1]);
-    put_word_lem(words, at + 2, row[2]);
-    put_word_lem(words, at + 3, row[3]);
+    put_word(words, at, row[0]);
+    put_word(words, at + 1, row[1]);
+    put_word(words, at + 2, row[2]);
+    put_word(words, at + 3, row[3]);
 }
 
 // Puts a record into eleven lent words; words past them stay.
@@ -99,9 +99,9 @@ pub fn put_record(words: &mut [u64], rec: Record)
 {
     let members = rec.members;
     put_row(words, 0, &members);
-    put_word_lem(words, NUMBER_WORD, rec.number as u64);
-    put_word_lem(words, CHAIN_WORD, rec.chain as u64);
-    put_word_lem(words, COUNT_WORD, rec.count as u64);
+    put_word(words, NUMBER_WORD, rec.number as u64);
+    put_word(words, CHAIN_WORD, rec.chain as u64);
+    put_word(words, COUNT_WORD, rec.count as u64);
     let yards = rec.yards;
     put_row(words, YARDS_WORD, &yards);
 }

@@ -113,7 +113,7 @@ fn reach_layer(
 }
 
 // Makes word j of a row x. Past the row there is none.
-fn put_word_lem(row: &mut [u64], words: usize, j: usize, x: u64)
+fn put_word(row: &mut [u64], words: usize, j: usize, x: u64)
     requires { words ≤ length row.old }
     ensures { row.new ≡ put_word words j x row.old }
 {
@@ -133,10 +133,10 @@ fn visit(links: &[u64], hops: &mut [u16], layer: &[u64], next: &mut [u64], words
     let mut j = 0;
     while j < words {
         let got = reach_layer(links, hops, layer, words, j, k);
-        put_word_lem(next, words, j, got.a);
-        put_word_lem(next, words, j + 1, got.b);
-        put_word_lem(next, words, j + 2, got.c);
-        put_word_lem(next, words, j + 3, got.d);
+        put_word(next, words, j, got.a);
+        put_word(next, words, j + 1, got.b);
+        put_word(next, words, j + 2, got.c);
+        put_word(next, words, j + 3, got.d);
         j += 4;
     }
 }

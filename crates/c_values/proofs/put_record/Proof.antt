@@ -54,7 +54,7 @@ returns c =
     let after-put-word : tie.After-put-word = search back in
     let after-put-row : tie.After-put-row = search back in
     let start : tie.Start = search back in
-    write_record _ _ start.pre (members-long start) after-put-row.put_row.ensures after-put-word.put_word_lem.ensures
+    write_record _ _ start.pre (members-long start) after-put-row.put_row.ensures after-put-word.put_word.ensures
     after-put-word2.put-word2.ensures after-put-word3.put-word3.ensures after-put-row2.put-row2.ensures
 
 pub put-record-spec : {M : Type 1} → statement M

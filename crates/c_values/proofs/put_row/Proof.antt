@@ -26,7 +26,7 @@ returns c =
     let after-put-word2 : tie.After-put-word2 = search back in
     let after-put-word : tie.After-put-word = search back in
     let start : tie.Start = search back in
-    write_row _ _ _ start.pre.0 start.pre.1 after-put-word.put_word_lem.ensures after-put-word2.put-word2.ensures
+    write_row _ _ _ start.pre.0 start.pre.1 after-put-word.put_word.ensures after-put-word2.put-word2.ensures
     after-put-word3.put-word3.ensures after-put-word4.put-word4.ensures
 
 pub put-row-spec : {M : Type 1} → statement M

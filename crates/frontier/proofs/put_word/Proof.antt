@@ -1,8 +1,8 @@
--- `frontier::put_word_lem` meets its contract: the word is stored where the row has it. Assumes nothing.
+-- `frontier::put_word` meets its contract: the word is stored where the row has it. Assumes nothing.
 use borrow.Author.Rules.{rules}
 use Rattle.frontier.proofs.Links.{put_here, put_past}
-use Rattle.frontier.proofs.put_word_lem.Statement.{statement}
-use Rattle.frontier.proofs.put_word_lem.Tie as tie
+use Rattle.frontier.proofs.put_word.Statement.{statement}
+use Rattle.frontier.proofs.put_word.Tie as tie
 
 pub put-word-spec : {M : Type 1} → statement M
 put-word-spec =

@@ -53,10 +53,10 @@ loop-again c =
     let at_loop : tie.At-loop invariant-loop decreases-loop = search back in
     let start : tie.Start invariant-loop decreases-loop = search back in
     fours_next _ _ _ _ _ _ _ at_loop.loop.inv after-reach-layer.reach_layer.ensures _ _ _ _ start.pre.1
-    after-put-word.put_word_lem.ensures after-put-word2.put-word2.ensures after-put-word3.put-word3.ensures
+    after-put-word.put_word.ensures after-put-word2.put-word2.ensures after-put-word3.put-word3.ensures
     after-put-word4.put-word4.ensures
     (after-put-word4.put-word4.kept.0 ∙ after-put-word3.put-word3.kept.0 ∙ after-put-word2.put-word2.kept.0
-    ∙ after-put-word.put_word_lem.kept.0) after-reach-layer.reach_layer.kept.1.0
+    ∙ after-put-word.put_word.kept.0) after-reach-layer.reach_layer.kept.1.0
 
 pub visit-spec : {M : Type 1} → statement M
 visit-spec =
