@@ -1,5 +1,8 @@
 // Whether a notice may be opened (refusals 5 to 8), and the links of the depot that it opens; whether two depots may be linked (4, 13, 14), and their
 // link. A row of words may be longer than a map's, up to 512: a code is a byte, and so stands in a row.
+
+#![tactic(auto)]
+
 ghost use Rattle.std.specs.Prelude.{[], ◌≡◌, false, ◌&&◌, ◌||◌, ◌*◌, ◌<◌, ◌≤◌, eqb, ltb, length};
 ghost use Rattle.lists.specs.Lists.{allb, memb, overwrite, first_of};
 ghost use Rattle.graph.specs.Distance.{vertices};

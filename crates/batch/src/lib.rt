@@ -1,5 +1,8 @@
 // The lines of a batch of openings: how many there are, whether all read, which is the first that can be accepted, and the numbers of those left
 // over. Nothing of a map is lent but its open set.
+
+#![tactic(auto)]
+
 ghost use Rattle.std.specs.Prelude.{[], ◌≡◌, true, cond, not, ◌&&◌, ◌≤◌, ◌<◌, length};
 ghost use Rattle.lists.specs.Lists.{allb, first_of};
 ghost use Rattle.graph.specs.Distance.{vertices};

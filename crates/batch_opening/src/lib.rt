@@ -1,4 +1,7 @@
 // Openings in a batch, of depots and of yards: of some notice lines the first that can be accepted is opened, again and again, until none can.
+
+#![tactic(auto)]
+
 ghost use Rattle.std.specs.Prelude.{[], ◌≡◌, true, ◌&&◌, ◌||◌, ◌≤◌, ◌<◌, eqb, leb, length};
 ghost use Rattle.lists.specs.Lists.{allb};
 ghost use Rattle.words.specs.Bits.{bit, word_of};

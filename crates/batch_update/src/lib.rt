@@ -1,4 +1,7 @@
 // What a batch of openings leaves of lent memory: the types of its answer, and specifications and laws (specs/Lib.antt). The code is `batch_opening`.
+
+#![tactic(auto)]
+
 use map::Record;
 
 // What a batch answers: how many lines are left over, or the number of the refusal.

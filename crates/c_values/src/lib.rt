@@ -1,4 +1,7 @@
 // What the calls for other languages share: the record as eleven lent words, the outcome of an answer's number, the refusal of a stream's step.
+
+#![tactic(auto)]
+
 ghost use Rattle.std.specs.Prelude.{◌≡◌, ◌++◌, ◌+◌, ◌≤◌, ◌<◌, min, length, set, take, drop};
 ghost use Rattle.lists.specs.Lists.{overwrite};
 ghost use Rattle.map.specs.Memory.{base};

@@ -1,4 +1,7 @@
 // The checks of a lent map: whether its links and its figures are sound. Only set bits are walked, so that a check costs what is there.
+
+#![tactic(auto)]
+
 ghost use Rattle.std.specs.Prelude.{[], ◌≡◌, ◌*◌, ◌<◌, ◌≤◌, length};
 ghost use Rattle.lists.specs.Lists.{range};
 ghost use Rattle.rows.specs.Rows.{table_bit};

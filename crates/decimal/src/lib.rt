@@ -1,4 +1,7 @@
 // Numbers of 64 bits written in decimal into lent memory.
+
+#![tactic(auto)]
+
 ghost use Rattle.std.specs.Prelude.{◌≡◌, ◌+◌, ◌^◌, ◌≤◌, ◌<◌, length};
 ghost use Rattle.decimal.specs.Decimal.{decimal, field};
 ghost use Rattle.decimal.specs.Placed.{Placed};

@@ -1,4 +1,7 @@
 // One step of a breadth-first search: from the frontier, the last layer that was reached, to the next one. Rows of 1 to 512 words.
+
+#![tactic(auto)]
+
 ghost use Rattle.std.specs.Prelude.{◌≡◌, not, ◌||◌, ◌+◌, ◌*◌, ◌<◌, ◌≤◌, eqb, length};
 ghost use Rattle.lists.specs.Lists.{overwrite};
 ghost use Rattle.words.specs.Bits.{bit, word_of};

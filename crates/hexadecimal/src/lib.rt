@@ -1,4 +1,7 @@
 // Bytes as digits: two of the sixteen digits 0 to 9 and A to F for each byte, the high one first.
+
+#![tactic(auto)]
+
 ghost use Rattle.std.specs.Prelude.{◌≡◌, true, false, ◌+◌, ◌*◌, ◌≤◌, ◌<◌, length, get_or, take};
 ghost use Rattle.lists.specs.Lists.{allb, overwrite};
 ghost use Rattle.hexadecimal.specs.Hex.{hex_digit, is_digit, digit_value, digits_of, bytes_of};

@@ -1,4 +1,7 @@
 // Chain and pairs after a depot's insertion: grown, kept, or settled by rounds (rules 4.2 to 4.4), from the finished search of the new depot on.
+
+#![tactic(auto)]
+
 ghost use Rattle.std.specs.Prelude.{◌≡◌, ◌<◌, ◌≤◌, length};
 ghost use Rattle.lists.specs.Lists.{range};
 ghost use Rattle.graph.specs.Chart.{chart, count_pairs};

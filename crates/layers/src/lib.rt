@@ -1,4 +1,7 @@
 // Breadth-first search over any table of rows, layer by layer.
+
+#![tactic(auto)]
+
 ghost use Rattle.std.specs.Prelude.{◌≡◌, ◌*◌, ◌<◌, ◌≤◌, length};
 ghost use Rattle.layers.specs.Layers.{searched, search_table};
 ghost use Rattle.map.specs.Slices.{tables_before, tables_after};

@@ -1,5 +1,8 @@
 // What refuses lent memory before a call looks at what it is asked (rule 8.1, numbers 1 to 3): buffers too short, words that are no map, a map
 // in parts.
+
+#![tactic(auto)]
+
 ghost use Rattle.std.specs.Prelude.{[], ◌≡◌, true, not, ◌||◌, ◌*◌, ◌<◌, ◌≤◌, ltb, length, get_or};
 ghost use Rattle.lists.specs.Lists.{range, allb};
 ghost use Rattle.graph.specs.Network.{IsSound};

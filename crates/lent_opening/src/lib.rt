@@ -1,4 +1,7 @@
 // The opening on a record that is lent by `&mut` (rule 12.9): a thin function over the step by value, whose proof is a walk of its code by hand.
+
+#![tactic(auto)]
+
 ghost use Rattle.std.specs.Prelude.{◌≡◌};
 ghost use Rattle.graph.specs.Updates.{opens};
 ghost use Rattle.map.specs.Memory.{base};

@@ -1,4 +1,7 @@
 // The lines of a stream on their way through memory: the line buffer, the report behind what is written, and where a step stops.
+
+#![tactic(auto)]
+
 ghost use Rattle.std.specs.Prelude.{◌≡◌, ◌+◌, ◌≤◌, length, drop};
 ghost use Rattle.notice.specs.Lines.{line_limit};
 ghost use Rattle.report.specs.Line.{buffer_limit, report_line};

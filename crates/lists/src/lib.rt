@@ -1,1 +1,3 @@
 // Specifications and laws of lists and tests; no code.
+
+#![tactic(auto)]

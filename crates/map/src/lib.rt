@@ -1,4 +1,7 @@
 // The record of one map, the tests of a bit of its tables, and emptying a map.
+
+#![tactic(auto)]
+
 ghost use Rattle.std.specs.Prelude.{[], ◌≡◌, ◌*◌, ◌^◌, ◌<◌, ◌≤◌, length};
 ghost use Rattle.lists.specs.Lists.{overwrite};
 ghost use Rattle.rows.specs.Rows.{row_bit, encode_row};

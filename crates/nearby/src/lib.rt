@@ -1,4 +1,7 @@
 // The depots near one (rules 13.1 to 13.4): all within so many handovers of it, and the nearest of a list. Each is one search and one pass over what it left.
+
+#![tactic(auto)]
+
 ghost use Rattle.std.specs.Prelude.{[], ◌≡◌, cond, ◌<◌, ◌≤◌, leb, length, get_or};
 ghost use Rattle.lists.specs.Lists.{filterb};
 ghost use Rattle.graph.specs.Distance.{vertices};

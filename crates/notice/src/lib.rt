@@ -1,6 +1,9 @@
 // Notice lines: the reader of a line into a frame, and the writer, its inverse.
 //
 // Both calls decide every refusal before they write, since a refused call changes no lent memory.
+
+#![tactic(auto)]
+
 ghost use Rattle.std.specs.Prelude.{◌≡◌, true, ◌<◌, take};
 ghost use Rattle.lists.specs.Lists.{allb};
 ghost use Rattle.hexadecimal.specs.Hex.{is_digit};

@@ -1,4 +1,7 @@
 // The opening call, of a depot that delivers or of a yard, record in and out by value (rule 4): what refuses it, the links in place, then the figures.
+
+#![tactic(auto)]
+
 ghost use Rattle.std.specs.Prelude.{◌≡◌, ◌&&◌, ◌||◌, ◌≤◌, eqb, length};
 ghost use Rattle.lists.specs.Lists.{overwrite};
 ghost use Rattle.rows.specs.Rows.{row_bit, encode_row};

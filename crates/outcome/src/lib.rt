@@ -1,4 +1,7 @@
 // What an opening call answers: the change of the longest chain, or the number of its refusal.
+
+#![tactic(auto)]
+
 ghost use Rattle.std.specs.Prelude.{◌≡◌};
 ghost use Rattle.outcome.specs.Outcome.{letter_of};
 

@@ -1,5 +1,8 @@
 // The pair table with the number of its pairs, and a search's own pairs added to it. A row of words may be up to 512 long.
 // What a function ensures of table and count is one equation, so that callers rewrite by it.
+
+#![tactic(auto)]
+
 ghost use Rattle.std.specs.Prelude.{◌≡◌, ◌||◌, ◌&&◌, ◌+◌, ◌*◌, ◌<◌, ◌≤◌, eqb, ltb, length};
 ghost use Rattle.words.specs.Bits.{bit, word_of};
 ghost use Rattle.rows.specs.Rows.{table_bit, in_word};

@@ -1,1 +1,3 @@
 // Specifications alone: one step of the plain list (specs/Lib.antt).
+
+#![tactic(auto)]

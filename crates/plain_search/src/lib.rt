@@ -1,6 +1,8 @@
 // What the test programs hold the map to: the plain list of rule 9, a simple search from every depot, and the figures that follow from it.
 // Nothing of the proved map is used. All of it stands in one table of numbers, the sheet, in rows of 256.
 
+#![tactic(auto)]
+
 pub mod marks;
 pub mod tables;
 

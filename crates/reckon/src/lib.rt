@@ -1,4 +1,7 @@
 // The whole reckoning (rule 5.5): what refuses it, then rounds from nothing, and the record with their figures.
+
+#![tactic(auto)]
+
 ghost use Rattle.std.specs.Prelude.{◌≡◌, length};
 ghost use Rattle.graph.specs.Chart.{chart};
 ghost use Rattle.graph.specs.Rounds.{reckon};

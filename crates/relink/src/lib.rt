@@ -1,4 +1,7 @@
 // Chain and pairs after a link between two open depots: kept, or settled by rounds, from the searches of both ends on.
+
+#![tactic(auto)]
+
 ghost use Rattle.std.specs.Prelude.{◌≡◌, not, ◌||◌, ◌<◌, ◌≤◌, eqb, length};
 ghost use Rattle.graph.specs.Chart.{chart};
 ghost use Rattle.graph.specs.Rounds.{rounds};

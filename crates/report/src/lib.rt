@@ -1,4 +1,7 @@
 // The report line: what the stream writes for each line that it read.
+
+#![tactic(auto)]
+
 ghost use Rattle.std.specs.Prelude.{◌≡◌, map, ◌+◌, ◌≤◌, length};
 ghost use Rattle.decimal.specs.Decimal.{field};
 ghost use Rattle.decimal.specs.Placed.{Placed};

@@ -1,4 +1,7 @@
 // Reference rounds over lent tables (rules 5.1 to 5.4), a round at a time. Rows of 1 to 512 words.
+
+#![tactic(auto)]
+
 ghost use Rattle.std.specs.Prelude.{◌≡◌, cond, ◌+◌, ◌*◌, ◌^◌, ◌<◌, ◌≤◌, ltb, length};
 ghost use Rattle.pairs.specs.Pairs.{tally, Counted};
 ghost use Rattle.ranks.specs.Ranks.{AreRanks, AreThinned};

@@ -1,5 +1,8 @@
 // Sets of numbers below 64 * words as rows of words, and tables of such rows; a row may stand in a longer buffer.
 // What a function ensures of a row or table that it changes is one equation, so that callers rewrite by it.
+
+#![tactic(auto)]
+
 ghost use Rattle.std.specs.Prelude.{◌≡◌, true, false, not, ◌+◌, ◌*◌, ◌^◌, ◌<◌, ◌≤◌, eqb, length, get_or};
 ghost use Rattle.lists.specs.Lists.{range, mapl, countb, anyb, allb, overwrite};
 ghost use Rattle.rows.specs.Rows.{row_bit, table_bit, encode_row, put_bit, InTable, Zeroed};

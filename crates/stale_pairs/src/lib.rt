@@ -2,6 +2,9 @@
 // 512 long.
 // Rows are done one after the other, each in its place: there is no second pair table.
 // What a function ensures of table, counts and way is one equation, so that callers rewrite by it.
+
+#![tactic(auto)]
+
 ghost use Rattle.std.specs.Prelude.{◌≡◌, ◌+◌, ◌*◌, ◌<◌, ◌≤◌, min, max, length};
 ghost use Rattle.pairs.specs.Pairs.{tally};
 ghost use Rattle.stale_pairs.specs.Stale.{HasHops, Bare, way_by, way_by_either, way_from, sifted, sift_of};

@@ -1,4 +1,7 @@
 // The stream: notice lines in, report lines out, the input in pieces of any size.
+
+#![tactic(auto)]
+
 ghost use Rattle.std.specs.Prelude.{◌≡◌, ◌+◌, ◌≤◌, ◌<◌, length};
 ghost use Rattle.map.specs.Memory.{base, table_words};
 ghost use Rattle.map.specs.Slices.{lent_at, lent_before, lent_after, sizes_at};

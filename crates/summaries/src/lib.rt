@@ -1,4 +1,7 @@
 // The lines of a run over notice files: one for the network report of each, and a last one that totals them.
+
+#![tactic(auto)]
+
 ghost use Rattle.std.specs.Prelude.{◌≡◌, ◌+◌, ◌-◌, ◌≤◌, ◌<◌, min, length};
 ghost use Rattle.decimal.specs.Placed.{Placed};
 ghost use Rattle.summary.specs.declared.Summing.TheVariants.{Summed, Refused};

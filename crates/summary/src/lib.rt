@@ -1,5 +1,8 @@
 // The network report: the sum of the distances over all pairs of depots that deliver, the number of pairs, the mean, and how many of them have each
 // eccentricity. A search from each in rising code; of what it left, the hops of those above are added, and the last layer gives the eccentricity.
+
+#![tactic(auto)]
+
 ghost use Rattle.std.specs.Prelude.{[], ◌≡◌, ◌<◌, ◌≤◌, length, get_or};
 ghost use Rattle.lists.specs.Lists.{max_of};
 ghost use Rattle.graph.specs.Distance.{vertices, unreached, dist};

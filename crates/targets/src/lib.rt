@@ -1,5 +1,8 @@
 // What a search left of the targets, a row of the depots that count: the greatest hop of one, the targets at it, and the hops of those above a code added.
 // Words outside, set bits inside: a code that is no target costs nothing.
+
+#![tactic(auto)]
+
 ghost use Rattle.std.specs.Prelude.{[], ◌≡◌, ◌&&◌, ◌+◌, ◌*◌, ◌^◌, ◌<◌, ◌≤◌, max, eqb, ltb, length, get_or};
 ghost use Rattle.lists.specs.Lists.{range, filterb, anyb, sum_of, max_of, overwrite};
 ghost use Rattle.words.specs.Bits.{bit, word_of};

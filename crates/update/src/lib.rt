@@ -1,4 +1,7 @@
 // What every call that changes a map shares: its report, what refuses the lent memory whatever it is asked, and a refused answer.
+
+#![tactic(auto)]
+
 ghost use Rattle.std.specs.Prelude.{◌≡◌, length};
 ghost use Rattle.map.specs.Memory.{base};
 ghost use Rattle.map.specs.Room.{sizes};

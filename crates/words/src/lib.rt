@@ -1,4 +1,7 @@
 // A word of 64 bits as a set of the numbers below 64.
+
+#![tactic(auto)]
+
 ghost use Rattle.std.specs.Prelude.{◌≡◌, not, ◌&&◌, ◌||◌, ◌<◌, eqb, ltb};
 ghost use Rattle.lists.specs.Lists.{range, countb};
 ghost use Rattle.words.specs.Bits.{bit, word_of};

@@ -1,1 +1,3 @@
 // Specifications and laws alone: what every call gave before there were yards (specs/Lib.antt).
+
+#![tactic(auto)]

@@ -1,0 +1,71 @@
+-- `batch::first_fit` meets its contract. The invariant: the first that fits is the first of those from the line reached on. The measure is what is
+-- left of the length; a line that reads is not empty.
+use mathlib.Core.Path.{refl}
+use mathlib.Core.List.{List}
+use Prim.Native.Nat.{ℕ, ◌-◌, ◌≤◌, ◌<◌}
+use native.Mathlib.Omega.{arith}
+use lib.ListN.{length, drop}
+use Rattle.notice.proofs.Readings.{FrameStands, frame_read, garbled_read}
+use Rattle.batch.specs.Lines.{batch_limit}
+use Rattle.batch.proofs.Lines.{LineReads}
+use Rattle.batch.proofs.Scans.{scan_none, scan_reads, scan_line, scan_within, scan_number, scan_found, scan_more, scan_end}
+use Rattle.batch.proofs.first_fit.Goals as goal
+use Rattle.batch.proofs.first_fit.Goals.{In-Frame}
+
+-- the frame that was read from the line reached
+read : (c : In-Frame) → (f : List ℕ) × LineReads (drop c.loop-at.at c.args.lines.now) f c.in-Frame.used × FrameStands f c.in-Frame.n c.read_notice-got.last.0
+read c =
+    let got = frame_read _ _ (omega (arith, c.loop-at.invariant.1, c.requires.3)) c.in-Frame.is c.read_notice-got.ensures in
+    (got.0, scan_line c.loop-at.invariant.0 got.1, got.2)
+
+pub loop-at-init : goal.loop-at-init
+loop-at-init c =
+    (scan_none _ _ _ c.requires.5, refl)
+
+-- its number is that of a line, and its notice stands in the frame
+placed : (c : In-Frame) → (c.loop-at.number < batch_limit) × (3 ≤ c.in-Frame.n) × (c.in-Frame.n ≤ length c.read_notice-got.last.0)
+placed c =
+    let got = read c in (
+      omega (arith, scan_number c.loop-at.invariant.0 got.1, c.requires.4),
+      got.2.long,
+      omega (arith, got.2.fits, c.loop-at.invariant.1, c.requires.3, c.read_notice-got.auto),
+    )
+
+pub fits-requires : goal.fits-requires
+fits-requires c =
+    let at = placed (goal.at.fits-requires c).In-Frame in
+    (c.requires.0, c.requires.1, c.requires.2, at.0, at.1, at.2)
+
+pub returns-then-fits : goal.returns-then-fits
+returns-then-fits c =
+    let got = read (goal.at.returns-then-fits c).In-Frame in
+    (scan_found c.loop-at.invariant.0 got.1 got.2 c.fits2.ensures c.if-fits.true, placed (goal.at.returns-then-fits c).In-Frame)
+
+pub overflow_add-at : goal.overflow_add-at
+overflow_add-at c =
+    omega (arith, scan_within c.loop-at.invariant.0 (read (goal.at.overflow_add-at c).In-Frame).1, c.well_formed)
+
+pub overflow_add-number : goal.overflow_add-number
+overflow_add-number c =
+    omega (arith, scan_number c.loop-at.invariant.0 (read (goal.at.overflow_add-number c).In-Frame).1, c.requires.4)
+
+pub loop-at-smaller : goal.loop-at-smaller
+loop-at-smaller c =
+    let got = read (goal.at.loop-at-smaller c).In-Frame in
+    omega (arith, scan_within c.loop-at.invariant.0 got.1, got.1.some_used)
+
+pub loop-at-preserved : goal.loop-at-preserved
+loop-at-preserved c =
+    let got = read (goal.at.loop-at-preserved c).In-Frame in (
+      scan_more c.loop-at.invariant.0 got.1 got.2 c.fits2.ensures c.if-fits.false,
+      omega (arith, c.loop-at.invariant.1, c.read_notice-got.auto),
+    )
+
+pub returns-in-Refused : goal.returns-in-Refused
+returns-in-Refused c =
+    absurd (scan_reads c.loop-at.invariant.0 c.loop-at-test.true
+    (garbled_read _ _ (omega (arith, c.loop-at.invariant.1, c.requires.3)) c.in-Refused.is c.read_notice-got.ensures).0)
+
+pub returns : goal.returns
+returns c =
+    (scan_end c.loop-at.invariant.0 _ c.loop-at-test.false, tt)

@@ -1,0 +1,44 @@
+-- `insertion::settle_low` meets its contract: each end is one of the network's opening, by the tests before it.
+--
+use Rattle.map.specs.Memory.{base}
+use Rattle.stale_pairs.proofs.Theorems.{drop_counted}
+use Rattle.insertion.proofs.Cases.{equal_is, kept_is, shrank_is}
+use borrow.Author.Rules.{rules}
+use Rattle.insertion.proofs.settle_low.Goals as goal
+
+pub join-sum-requires : goal.join-sum-requires
+join-sum-requires c = (
+  search (drop_counted, rules),
+  search rules,
+  search rules,
+  search rules,
+  search rules,
+)
+
+pub returns-then-span-chain : goal.returns-then-span-chain
+returns-then-span-chain c =
+    let pre = c.requires in
+    equal_is base _ _ _ _ _ _ _ pre.4 pre.3.ends pre.6 _ _ _ c.drop_stale-left.ensures c.if-span-chain.true _ _ _
+    c.join-sum.ensures
+
+pub returns-then-left-ne0 : goal.returns-then-left-ne0
+returns-then-left-ne0 c =
+    let pre = c.requires in
+    kept_is base _ _ _ _ _ _ _ pre.4 pre.3.ends pre.6 _ _ _ c.drop_stale-left.ensures c.if-span-chain.false
+    c.if-left-ne0.true _ c.mark_once.ensures
+
+pub shrink-got-requires : goal.shrink-got-requires
+shrink-got-requires c =
+    let pre = c.requires in (
+      search rules,
+      pre.1,
+      pre.2,
+      record { net = pre.4.net; present = pre.4.present; spans = pre.4.spans; stands = pre.4.stands },
+      pre.5,
+    )
+
+pub returns : goal.returns
+returns c =
+    let pre = c.requires in
+    shrank_is base _ _ _ _ _ _ _ pre.4 pre.3.ends pre.6 _ _ _ c.drop_stale-left.ensures c.if-span-chain.false c.if-left-ne0.false
+    _ c.shrink-got.ensures

@@ -1,0 +1,37 @@
+-- `lent_map::stored_are_sound` meets its contract: the check is made where the call goes by the figures, of the row of depots that deliver.
+--
+use mathlib.Core.Path.{◌∙◌}
+use native.Mathlib.Omega.{arith}
+use borrow.Author.Rules.{rules}
+use borrow.Author.Tests.{not-true, not-false}
+use Rattle.checks.proofs.Theorems.{figures_delivering}
+use Rattle.lent_map.proofs.Refuses.{not-figured, is_figured}
+use Rattle.lent_map.proofs.stored_are_sound.Goals as goal
+
+pub returns-then-not-figured : goal.returns-then-not-figured
+returns-then-not-figured c =
+    not-figured c.args.figured _ (not-true c.args.figured c.if-not-figured.true-raw)
+
+pub slice_bounds-keep_delivering-end-2 : goal.slice_bounds-keep_delivering-end-2
+slice_bounds-keep_delivering-end-2 c = search rules
+
+pub keep_delivering-requires : goal.keep_delivering-requires
+keep_delivering-requires c =
+    (omega (arith, slice-aggregate-keep-delivering (goal.at.keep_delivering-requires c).After-delivering-2-1), omega (arith, slice_bounds-keep_delivering-end-2 c))
+
+pub slice_bounds-figures_are_sound-end : goal.slice_bounds-figures_are_sound-end
+slice_bounds-figures_are_sound-end c = search rules
+
+pub figures_are_sound-requires : goal.figures_are_sound-requires
+figures_are_sound-requires c =
+    record {
+      positive = omega arith;
+      most = omega arith;
+      row = omega (arith, slice_bounds-figures_are_sound-end c);
+      rows = c.requires (not-false c.args.figured c.if-not-figured.false-raw);
+    }
+
+pub returns : goal.returns
+returns c =
+    is_figured c.args.figured (not-false c.args.figured c.if-not-figured.false-raw)
+    (c.figures_are_sound.ensures ∙ figures_delivering _ _ _ _ _ c.keep_delivering.ensures _ _ _)

@@ -1,0 +1,42 @@
+-- `linking::link_map` meets its contract: with the link in place the memory holds the new network, and the figures that the step leaves are its link's.
+--
+use native.Mathlib.Omega.{arith}
+use Rattle.map.specs.Memory.{base}
+use Rattle.map.proofs.Theorems.{base_shape}
+use Rattle.map.proofs.Longs.{are_long_lem}
+use Rattle.update.proofs.Grants.{granted_long}
+use Rattle.linking.proofs.Joined.{relinkable, joined_is}
+use borrow.Author.Rules.{rules}
+use Rattle.linking.proofs.link_map.Goals as goal
+
+pub link_codes-requires : goal.link_codes-requires
+link_codes-requires c = (
+  search rules,
+  search rules,
+  (are_long_lem base _ (granted_long base base_shape _ _ _ _ _ c.requires)).links,
+)
+
+pub slice_bounds-keep_targets-end-2 : goal.slice_bounds-keep_targets-end-2
+slice_bounds-keep_targets-end-2 c = search rules
+
+pub keep_targets-requires : goal.keep_targets-requires
+keep_targets-requires c =
+    (omega (arith, slice-aggregate-keep-targets (goal.at.keep_targets-requires c).After-targets-2-1), omega (arith, slice_bounds-keep_targets-end-2 c))
+
+pub relink_codes-got-requires : goal.relink_codes-got-requires
+relink_codes-got-requires c =
+    let size = slice-aggregate-relink-codes (goal.at.relink_codes-got-requires c).After-members-2-1 in
+    let long = slice-aggregate-relink-codes-2 (goal.at.relink_codes-got-requires c).After-targets-4-1 in
+    let lent = are_long_lem base _ (granted_long base base_shape _ _ _ _ _ c.requires) in (
+      search rules,
+      relinkable base base_shape _ _ _ _ _ _ _ _ _ _ c.requires _ c.link_codes.ensures _ (omega (arith, size))
+          (omega (arith, long)) c.keep_targets.ensures.0,
+    )
+
+pub returns : goal.returns
+returns c =
+    let size = slice-aggregate-relink-codes (goal.at.returns c).After-members-2-1 in
+    let long = slice-aggregate-relink-codes-2 (goal.at.returns c).After-targets-4-1 in
+    joined_is base base_shape _ _ _ _ _ _ _ _ _ _ c.requires _ c.link_codes.ensures _ (omega (arith, size))
+    (omega (arith, long)) c.keep_targets.ensures.0
+    c.relink_codes-got.ensures.1 c.keep_targets.ensures.1 _ _ c.relink_codes-got.ensures.0

@@ -1,0 +1,66 @@
+-- `opening::open_map` meets its contract: with the code in the open set and its links in place the memory holds the new network, and the figures
+-- that the step leaves are its opening's.
+use native.Mathlib.Omega.{arith}
+use Rattle.map.specs.Memory.{base}
+use Rattle.map.proofs.Theorems.{base_shape}
+use Rattle.map.proofs.Longs.{are_long_lem}
+use Rattle.update.proofs.Grants.{granted_long}
+use Rattle.opening.proofs.Placed.{number_small, figurable, opened_is}
+use borrow.Author.Rules.{rules}
+use Rattle.opening.proofs.open_map.Goals as goal
+
+pub slice_bounds-put_code-end : goal.slice_bounds-put_code-end
+slice_bounds-put_code-end c = search rules
+
+pub slice_bounds-put_yard-end : goal.slice_bounds-put_yard-end
+slice_bounds-put_yard-end c = search rules
+
+pub slice_bounds-keep_delivering-end-2 : goal.slice_bounds-keep_delivering-end-2
+slice_bounds-keep_delivering-end-2 c = search rules
+
+pub link_depot-requires : goal.link_depot-requires
+link_depot-requires c = (
+  search rules,
+  search rules,
+  (are_long_lem base _ (granted_long base base_shape _ _ _ _ _ c.requires)).links,
+)
+
+pub put_code-requires : goal.put_code-requires
+put_code-requires c = omega (arith, slice_bounds-put_code-end c)
+
+pub put_yard-requires : goal.put_yard-requires
+put_yard-requires c = omega (arith, slice_bounds-put_yard-end c)
+
+pub keep_delivering-requires : goal.keep_delivering-requires
+keep_delivering-requires c =
+    (omega (arith, slice-aggregate-keep-delivering (goal.at.keep_delivering-requires c).After-targets-1), omega (arith, slice_bounds-keep_delivering-end-2 c))
+
+pub refigure-got-requires : goal.refigure-got-requires
+refigure-got-requires c =
+    let long = are_long_lem base _ (granted_long base base_shape _ _ _ _ _ c.requires) in (
+      search rules,
+      figurable base base_shape _ _ _ _ _ _ _ _ _ _ _ c.requires c.ranges.code.fits
+          (λ k l. (c.shared_slice_known-1.given k).fits) _ _ _ c.put_code.ensures
+          c.put_yard.ensures c.link_depot.ensures _ (omega (arith, slice-aggregate-refigure (goal.at.refigure-got-requires c).After-members-4-1))
+          (omega (arith, slice-aggregate-refigure-2 (goal.at.refigure-got-requires c).After-targets-3-1)) c.keep_delivering.ensures,
+      search rules,
+    )
+
+pub overflow_add-after : goal.overflow_add-after
+overflow_add-after c =
+    let small =
+    number_small base base_shape c.args.rec c.args.links.now c.args.pairs.now c.args.hops.now c.args.bounds.now
+    c.args.skips.now c.args.even.now c.args.odd.now c.args.yard c.args.code c.args.neighbours.now
+    c.requires c.ranges.code.fits (λ k l. (c.shared_slice_known-1.given k).fits) in
+    omega arith
+
+pub shape_of-links : goal.shape_of-links
+shape_of-links c =
+    omega (arith, c.refigure-got.auto, c.link_depot.auto)
+
+pub returns : goal.returns
+returns c =
+    opened_is base base_shape _ _ _ _ _ _ _ _ _ _ _ c.requires c.ranges.code.fits
+    (λ k l. (c.shared_slice_known-1.given k).fits) _ _ _ c.put_code.ensures
+    c.put_yard.ensures c.link_depot.ensures _ (omega (arith, slice-aggregate-refigure (goal.at.returns c).After-members-4-1))
+    (omega (arith, slice-aggregate-refigure-2 (goal.at.returns c).After-targets-3-1)) c.keep_delivering.ensures _ _ c.refigure-got.ensures

@@ -1,0 +1,31 @@
+-- `relink::take_low` meets its contract: its two calls are the two parts of the definition.
+--
+use mathlib.Core.Bool.{false}
+use native.Mathlib.Omega.{arith}
+use Rattle.map.specs.Memory.{base}
+use Rattle.rounds.proofs.Turns.{begun_counted}
+use Rattle.ranks.proofs.Ranks.{thinned_ranks}
+use Rattle.insertion.proofs.Shrinking.{absorbed_counted}
+use Rattle.relink.proofs.Taking.{low_taken_lem}
+use borrow.Author.Rules.{rules}
+use Rattle.relink.proofs.take_low.Goals as goal
+
+pub absorb-requires : goal.absorb-requires
+absorb-requires c =
+    let pre = c.requires in (
+      begun_counted _ _ _ _ _ _ (omega arith) (omega arith) pre.3 c.begin.ensures.0,
+      search rules,
+      search rules,
+      search rules,
+      search rules,
+    )
+
+pub returns : goal.returns
+returns c =
+    let pre = c.requires in (
+      low_taken_lem base _ _ _ _ _ _ _ _ _ c.begin.ensures.0 c.absorb.ensures.0,
+      absorbed_counted false _ _ _ _ _ _ _ _ _ _
+          (begun_counted _ _ _ _ _ _ (omega arith) (omega arith) pre.3 c.begin.ensures.0)
+          c.absorb.ensures.0,
+      search (thinned_ranks, rules),
+    )

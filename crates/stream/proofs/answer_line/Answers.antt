@@ -1,0 +1,41 @@
+-- `stream::answer_line` meets its contract: the reader says whether the line is a frame, and then the step for its frame answers.
+use mathlib.Core.Path.{◌≡◌}
+use mathlib.Core.List.{List}
+use Prim.Native.Nat.{ℕ}
+use native.Mathlib.Omega.{arith}
+use lib.Seq.{length-take-le}
+use Rattle.notice.specs.Lines.{frame, read_line}
+use Rattle.notice.proofs.Readings.{FrameStands, frame_read, garbled_read}
+use Rattle.stream.proofs.Answers.{answered-frame, answered-garbled}
+use borrow.Author.Rules.{rules}
+use Rattle.stream.proofs.answer_line.Goals as goal
+use Rattle.stream.proofs.answer_line.Goals.{In-Frame}
+
+-- the frame that was read
+read : (c : In-Frame) → (f : List ℕ) × (read_line c.args.text.now ≡ frame f c.in-Frame.field-1) × FrameStands f c.in-Frame.n c.read_notice-got.last.0
+read c =
+    frame_read _ _ (omega (arith, slice-aggregate-read-notice BARE.After-frame-1)) c.in-Frame.is
+    c.read_notice-got.ensures
+
+pub slice_bounds-frame-end : goal.slice_bounds-frame-end
+slice_bounds-frame-end c =
+    omega (arith, (read (goal.at.slice_bounds-frame-end c).In-Frame).2.fits, slice-aggregate-read-notice (goal.at.slice_bounds-frame-end c).After-frame-1, c.read_notice-got.auto)
+
+pub slice_bounds-answer_frame-end : goal.slice_bounds-answer_frame-end
+slice_bounds-answer_frame-end c =
+    let fits = array-share-prefix-frame (goal.at.slice_bounds-answer_frame-end c).After-answer_frame-arg-in-Frame-6-1 in
+    search (length-take-le, rules)
+
+pub answer_frame-requires : goal.answer_frame-requires
+answer_frame-requires c =
+    (c.requires, omega (arith, (read (goal.at.answer_frame-requires c).In-Frame).2.long, slice_bounds-answer_frame-end c))
+
+pub returns-in-Frame : goal.returns-in-Frame
+returns-in-Frame c =
+    answered-frame _ _ _ _ _ _ (read (goal.at.returns-in-Frame c).In-Frame).1 (read (goal.at.returns-in-Frame c).In-Frame).2 c.answer_frame.ensures
+
+pub returns-in-Refused : goal.returns-in-Refused
+returns-in-Refused c =
+    answered-garbled _ _ _ _
+    (garbled_read _ _ (omega (arith, slice-aggregate-read-notice (goal.at.returns-in-Refused c).After-frame-1)) c.in-Refused.is
+    c.read_notice-got.ensures) c.refused.ensures

@@ -1,0 +1,21 @@
+-- `stream::take_line` meets its contract: the answer to the held bytes, then its report.
+use native.Mathlib.Omega.{arith}
+use lib.Seq.{length-take-le}
+use Rattle.stream.specs.Feeding.{feeding}
+use Rattle.stream.proofs.Turns.{took}
+use borrow.Author.Rules.{rules}
+use Rattle.stream.proofs.take_line.Goals as goal
+
+pub returns : goal.returns
+returns c =
+    let w = c.put_report-end.ensures in
+    (took (feeding c.args.fed _ _ c.args.line.now _) c.answer_line-got.ensures (w.0, w.1), w.2)
+
+pub slice_bounds-answer_line-end : goal.slice_bounds-answer_line-end
+slice_bounds-answer_line-end c = search (length-take-le, rules)
+
+pub overflow_add-number : goal.overflow_add-number
+overflow_add-number c = omega arith
+
+pub put_report-end-requires : goal.put_report-end-requires
+put_report-end-requires c = c.requires.3

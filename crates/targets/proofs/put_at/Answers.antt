@@ -1,0 +1,17 @@
+-- `targets::put_at` meets its contract. The loop's invariant (Partners.antt): the first w words are put. The measure is the words left.
+--
+use Prim.Native.Nat.{◌-◌}
+use native.Mathlib.Omega.{arith}
+use Rattle.targets.proofs.Partners.{put_none, put_more, put_all, at_word}
+use Rattle.targets.proofs.put_at.Goals as goal
+
+pub loop-w-preserved : goal.loop-w-preserved
+loop-w-preserved c =
+    put_more _ _ _ _ _ _ c.loop-w.invariant (omega arith) (omega arith)
+    (at_word _ c.args.targets.now c.args.hops.now _ c.args.e _ (omega arith) c.word_at.ensures)
+
+pub loop-w-init : goal.loop-w-init
+loop-w-init c = search put_none
+
+pub returns : goal.returns
+returns c = search put_all
