@@ -91,6 +91,7 @@ module _ (C : Chart) where
     once c Q = record { only = refl; others = λ v. go (eqb v a) }
       where
         go : (x : Bool) → T (not (x || false)) → T (is_waiting (cond x (searched (ecc C a)) (waiting unreached 0)))
+        go true n = elim n [ ]
         go false n = tt
 
     opening_once : ((opening C a D P).change ≡ Shrank → ⊥) → AreAlone (a ∷ []) (opening C a D P).final
@@ -119,6 +120,8 @@ module _ (C : Chart) where
     twice c Q = record { only = refl; others = λ v. go (eqb v a) (eqb v b) }
       where
         go : (x y : Bool) → T (not (x || (y || false))) → T (is_waiting (cond x (searched (ecc C a)) (cond y (searched (ecc C b)) (waiting unreached 0))))
+        go true y n = elim n [ ]
+        go false true n = elim n [ ]
         go false false n = tt
 
     pub linking-twice : ((linking C a b D P).change ≡ Shrank → ⊥) → AreAlone (a ∷ b ∷ []) (linking C a b D P).final

@@ -3,7 +3,7 @@ use mathlib.Core.Path.{◌≡◌, refl, sym, ap, ◌∙◌}
 use mathlib.Core.Logic.{◌⊎◌, inl, inr}
 use mathlib.Core.Bool.{true, false, not, ◌||◌}
 use mathlib.Core.List.{List, [], ◌∷◌, Memᴰ}
-use Prim.Native.Nat.{ℕ, suc, ◌+◌, ◌-◌, ◌*◌, ◌/◌, ◌%◌, ◌≤◌, ◌<◌}
+use Prim.Native.Nat.{ℕ, zero, suc, ◌+◌, ◌-◌, ◌*◌, ◌/◌, ◌%◌, ◌≤◌, ◌<◌}
 use native.Mathlib.Nat.{le_trans, le_of_eq, le_antisymm, mul_comm, mul-add, suc-mul, div-add-mod', mod-lt}
 use native.Mathlib.Omega.{arith}
 use lib.Dec.{eqb, ltb}
@@ -77,6 +77,7 @@ pairs_some xs d l = go (lt_or_ge 0 (count_pairs xs ltb))
     go (inr p) = absurd (some (length xs) l (omega (arith, pairs_twice xs d)))
       where
         some : (n : ℕ) → 1 < n → n * (n - 1) ≡ 0 → ⊥
+        some zero m z = elim m [ ]
         some (suc n) m z = omega (arith, suc-mul n (suc n - 1), z)
 
 -- the values of a function on the pairs, at most b each

@@ -1,5 +1,4 @@
 -- `admission::all_open` meets its contract. The loop's invariant: each code before place i is open. The measure is the places left.
---
 use mathlib.Core.Path.{◌≡◌}
 use mathlib.Core.Bool.{true}
 use Prim.Native.Nat.{ℕ, ◌-◌, ◌<◌}

@@ -1,5 +1,4 @@
 -- `admission::is_lonely` meets its contract: no depot is named, and the open set has a member.
---
 use Rattle.admission.proofs.Notices.{lonely_named, lonely_first}
 use Rattle.admission.proofs.is_lonely.Goals as goal
 

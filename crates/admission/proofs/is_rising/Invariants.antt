@@ -1,5 +1,4 @@
 -- `admission::is_rising` meets its contract. The loop's invariant: each code before place i is above the one before it. The measure is the places left.
---
 use Prim.Native.Nat.{ℕ, suc, ◌-◌, ◌≤◌, ◌<◌}
 use lib.ListN.{length, get_or}
 use Rattle.admission.proofs.is_rising.Given as goal

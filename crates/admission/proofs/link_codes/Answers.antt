@@ -10,7 +10,7 @@ row_set-requires c =
 
 pub row_set-requires-2 : goal.row_set-requires-2
 row_set-requires-2 c =
-    _table _ _ _ _ _ c.requires.2 c.row_set.auto.0
+    _table _ _ _ _ _ c.requires.2 c.row_set.auto.t
     (omega (arith, c.requires.0, c.ranges.second.fits)) (omega (arith, c.requires.0, c.ranges.first.fits))
 
 pub returns : goal.returns

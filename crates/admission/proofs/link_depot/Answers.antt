@@ -21,14 +21,14 @@ pub row_set-requires : goal.row_set-requires
 row_set-requires c =
     let l = c.loop-i in
     let v = c.shared_slice_known-in-loop-i-1.given l.i in
-    in_table _ _ _ _ _ c.requires.2 l.inv.0 (omega (arith, c.requires.0, c.ranges.code.fits, v))
+    in_table _ _ _ _ _ c.requires.2 l.invariant.0 (omega (arith, c.requires.0, c.ranges.code.fits, v))
     (omega (arith, c.requires.0, c.ranges.code.fits, v))
 
 pub row_set-requires-in-loop-i : goal.row_set-requires-in-loop-i
 row_set-requires-in-loop-i c =
     let l = c.loop-i in
     let v = c.shared_slice_known-in-loop-i-1.given l.i in
-    in_table _ _ _ _ _ c.requires.2 (c.row_set.auto.0 ∙ l.inv.0)
+    in_table _ _ _ _ _ c.requires.2 (c.row_set.auto.t ∙ l.invariant.0)
     (omega (arith, c.requires.0, c.ranges.code.fits, v)) (omega (arith, c.requires.0, c.ranges.code.fits, v))
 
 pub loop-i-preserved : goal.loop-i-preserved
@@ -37,7 +37,7 @@ loop-i-preserved c =
     let there = c.row_set in
     let back = c.row_set-in-loop-i in (
       search rules,
-      linked_turn c.args.words c.args.code c.args.neighbours.now c.args.links.now l.i l.inv.1
+      linked_turn c.args.words c.args.code c.args.neighbours.now c.args.links.now l.i l.invariant.1
           there.ensures back.ensures c.loop-i-test.true (omega (arith, c.requires.0, c.ranges.code.fits))
           (omega (arith, c.requires.0, c.shared_slice_known-in-loop-i-1.given l.i)),
     )

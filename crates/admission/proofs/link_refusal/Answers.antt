@@ -1,5 +1,4 @@
 -- `admission::link_refusal` meets its contract: the tests stand in the order of the refusals, and each answer is that of the first that holds.
---
 use mathlib.Core.Path.{refl}
 use native.Mathlib.Omega.{arith}
 use Rattle.lists.proofs.Tests.{test_failed, test_passed}

@@ -1,5 +1,4 @@
 -- `admission::notice_refusal` meets its contract: the tests stand in the order of the refusals, and each answer is that of the first that holds.
---
 use Rattle.lists.proofs.Tests.{test_failed, test_passed}
 use Rattle.admission.proofs.Notices.{shown, refused_taken, refused_lonely, refused_unsorted, refused_unknown, refused_never}
 use Rattle.admission.proofs.notice_refusal.Goals as goal

@@ -1,5 +1,4 @@
 -- `batch::lines_refusal` meets its contract: the tests stand in the order of the refusals, and each answer is that of the first that holds.
---
 use Rattle.lists.proofs.Tests.{test_failed, test_passed}
 use Rattle.batch.proofs.Refusals.{refused_overfull, refused_bare, refused_garbled, refused_nothing}
 use Rattle.batch.proofs.lines_refusal.Goals as goal

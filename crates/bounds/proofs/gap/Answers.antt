@@ -1,5 +1,4 @@
 -- `bounds::gap` meets its contract, by whether the code remains. Two differences are one, of the sum.
---
 use borrow.Author.Tests.{eq-eqb, ne_eqb}
 use native.Mathlib.Omega.{arith}
 use Rattle.bounds.proofs.gap.Goals as goal

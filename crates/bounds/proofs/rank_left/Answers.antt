@@ -1,5 +1,4 @@
 -- `bounds::rank_left` meets its contract, by the one test.
---
 use borrow.Author.Tests.{lt-ltb, le-ltb}
 use Rattle.bounds.proofs.rank_left.Goals as goal
 

@@ -1,5 +1,4 @@
 -- `bounds::skip_taken` meets its contract, by the one test.
---
 use borrow.Author.Tests.{lt-ltb, le-ltb}
 use Rattle.bounds.proofs.skip_taken.Goals as goal
 

@@ -1,5 +1,4 @@
 -- `checks::count_pairs` meets its contract: after u rows the sum is the count of their ones. The measure is the rows left.
---
 use native.Mathlib.Omega.{arith}
 use Rattle.rows.proofs.Places.{row_fits}
 use Prim.Native.Nat.{◌-◌}

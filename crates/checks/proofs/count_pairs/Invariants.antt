@@ -1,5 +1,4 @@
 -- `checks::count_pairs` meets its contract: after u rows the sum is the count of their ones. The measure is the rows left.
---
 use Prim.Native.Nat.{◌*◌, ◌-◌}
 use Rattle.checks.proofs.Sums.{RowsCounted}
 use Rattle.checks.proofs.count_pairs.Given as goal

@@ -1,5 +1,4 @@
 -- `decimal::put_field` meets its contract: the space, and the number behind it.
---
 use mathlib.Core.Path.{◌∙◌}
 use native.Mathlib.Omega.{arith}
 use lib.ListN.{length-set}
@@ -17,7 +16,7 @@ put_number-requires c =
 
 pub shape_of-line : goal.shape_of-line
 shape_of-line c =
-    c.put_number.auto.0 ∙ simp length-set
+    c.put_number.auto.line ∙ simp length-set
 
 pub returns : goal.returns
 returns c =

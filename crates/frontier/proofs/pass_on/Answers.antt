@@ -8,7 +8,7 @@ use Rattle.frontier.proofs.pass_on.Goals as goal
 pub loop-j-preserved : goal.loop-j-preserved
 loop-j-preserved c =
     let l = c.loop-j in
-    pass_next _ _ _ _ _ _ _ l.inv (omega arith) (omega arith) (omega arith)
+    pass_next _ _ _ _ _ _ _ l.invariant (omega arith) (omega arith) (omega arith)
     (c.shared_slice_known-1.given l.j).fits (c.slice_known-1.given l.j).fits
 
 pub loop-j-init : goal.loop-j-init

@@ -8,13 +8,13 @@ pub loop-x-preserved-then-y-ne0 : goal.loop-x-preserved-then-y-ne0
 loop-x-preserved-then-y-ne0 c =
     bits_next _ _ _ _ _ _ _ _ _ (omega (arith, c.requires)) c.least-c.ensures c.drop_least-x.ensures _
     (bits_next _ _ _ _ _ _ _ _ _ (omega (arith, c.requires)) c.least-b.ensures c.drop_least-y.ensures _
-    c.loop-x.invariant c.reach_one-got.ensures c.reach_one-got.auto.1.0)
-    c.reach_one-got-then-y-ne0.ensures c.reach_one-got-then-y-ne0.auto.1.0
+    c.loop-x.invariant c.reach_one-got.ensures c.reach_one-got.auto.hops)
+    c.reach_one-got-then-y-ne0.ensures c.reach_one-got-then-y-ne0.auto.hops
 
 pub loop-x-preserved : goal.loop-x-preserved
 loop-x-preserved c =
     bits_next _ _ _ _ _ _ _ _ _ (omega (arith, c.requires)) c.least-b.ensures c.drop_least-y.ensures _
-    c.loop-x.invariant c.reach_one-got.ensures c.reach_one-got.auto.1.0
+    c.loop-x.invariant c.reach_one-got.ensures c.reach_one-got.auto.hops
 
 pub loop-x-init : goal.loop-x-init
 loop-x-init c = search bits_start

@@ -1,5 +1,4 @@
 -- `frontier::step` meets its contract: next holds the fresh codes (Stepping.antt), and is passed on where there are any.
---
 use Rattle.frontier.proofs.Stepping.{step_none, step_more}
 use Rattle.frontier.proofs.Straight.{room_at, step_at}
 use native.Mathlib.Omega.{arith}

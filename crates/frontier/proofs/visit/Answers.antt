@@ -10,8 +10,8 @@ loop-j-preserved c =
     fours_next _ _ _ _ _ _ _ c.loop-j.invariant c.reach_layer-got.ensures _ _ _ _ c.requires.1
     c.put_word.ensures c.put_word-in-loop-j.ensures c.put_word-in-loop-j-2.ensures
     c.put_word-in-loop-j-3.ensures
-    (c.put_word-in-loop-j-3.auto.0 ∙ c.put_word-in-loop-j-2.auto.0 ∙ c.put_word-in-loop-j.auto.0
-    ∙ c.put_word.auto.0) c.reach_layer-got.auto.1.0
+    (c.put_word-in-loop-j-3.auto.row ∙ c.put_word-in-loop-j-2.auto.row ∙ c.put_word-in-loop-j.auto.row
+    ∙ c.put_word.auto.row) c.reach_layer-got.auto.hops
 
 pub loop-j-init : goal.loop-j-init
 loop-j-init c = search fours_start

@@ -1,5 +1,4 @@
 -- `notice::byte_at` meets its contract: the two digits stand at 2 i and 2 i + 1, and their values are below 16.
---
 use native.Mathlib.Omega.{arith}
 use Rattle.hexadecimal.specs.Hex.{is_digit}
 use Rattle.lists.proofs.Scans.{all-at}

@@ -1,5 +1,4 @@
 -- `hexadecimal::is_digit` meets its contract: each way out has its own stretch of the characters.
---
 use Rattle.hexadecimal.proofs.Digits.{digit_too_low, digit_too_high, digit_low, digit_high}
 use Rattle.hexadecimal.proofs.is_digit.Goals as goal
 

@@ -1,5 +1,4 @@
 -- `insertion::join` meets its contract: its two calls are the two parts of the definition.
---
 use Rattle.insertion.proofs.Once.{join_is}
 use Rattle.insertion.proofs.join.Goals as goal
 

@@ -1,5 +1,4 @@
 -- `insertion::refigure` meets its contract: the search is the network's; an eccentricity above the chain is the case grew, any other is `settle_low`.
---
 use native.Mathlib.Omega.{arith}
 use Rattle.insertion.proofs.Cases.{search_stands, figured_first, grew_is}
 use Rattle.map.specs.Memory.{base}

@@ -1,5 +1,4 @@
 -- `insertion::settle_low` meets its contract: each end is one of the network's opening, by the tests before it.
---
 use Rattle.map.specs.Memory.{base}
 use Rattle.stale_pairs.proofs.Theorems.{drop_counted}
 use Rattle.insertion.proofs.Cases.{equal_is, kept_is, shrank_is}

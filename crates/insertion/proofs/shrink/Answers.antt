@@ -1,5 +1,4 @@
 -- `insertion::shrink` meets its contract: its three calls are the network's rounds after the one from the new depot.
---
 use mathlib.Core.Bool.{true}
 use native.Mathlib.Omega.{arith}
 use Rattle.map.specs.Memory.{base}

@@ -1,5 +1,4 @@
 -- `layers::begin` meets its contract: each buffer is filled, and the start is put alone into a cleared row (`alone`).
---
 use Rattle.layers.proofs.Searching.{alone, begin_is}
 use Rattle.layers.proofs.begin.Goals as goal
 

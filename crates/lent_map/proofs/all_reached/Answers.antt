@@ -1,5 +1,4 @@
 -- `search::all_reached` meets its contract. The loop's invariant: every code below v passes. The measure is the codes left.
---
 use mathlib.Core.Path.{sym, ◌∙◌}
 use mathlib.Core.Bool.{true}
 use Prim.Native.Nat.{◌-◌}

@@ -1,5 +1,4 @@
 -- `search::is_connected` meets its contract: a search from an open code reaches all open codes exactly where the network is connected.
---
 use mathlib.Core.Path.{subst, ◌∙◌}
 use Rattle.rows.specs.Next.{IsNext, NextIs}
 use Rattle.lent_map.proofs.Connects.{none_open, all_reached_is, hops_of}

@@ -1,5 +1,4 @@
 -- `search::is_reached` meets its contract: by the two cases of the test.
---
 use Rattle.lent_map.proofs.Connects.{reached_closed, reached_open}
 use Rattle.lent_map.proofs.is_reached.Goals as goal
 

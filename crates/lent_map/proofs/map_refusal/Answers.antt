@@ -1,5 +1,4 @@
 -- `lent_map::map_refusal` meets its contract: the tests stand in the order of the refusals, and each answer is that of the first that holds.
---
 use mathlib.Core.List.{[]}
 use mathlib.Core.Path.{◌≡◌, sym, ◌∙◌}
 use mathlib.Core.Bool.{true, not, ◌||◌}

@@ -1,5 +1,4 @@
 -- `lent_map::stored_are_sound` meets its contract: the check is made where the call goes by the figures, of the row of depots that deliver.
---
 use mathlib.Core.Path.{◌∙◌}
 use native.Mathlib.Omega.{arith}
 use borrow.Author.Rules.{rules}

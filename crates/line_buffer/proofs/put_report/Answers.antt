@@ -9,14 +9,14 @@ overflow_add-result c =
     omega (
       arith,
       report_fits _ c.args.out.now c.args.at c.requires _ c.write_report-answer.ensures
-          c.in-Line.is c.write_report-answer.auto.0,
+          c.in-Line.is c.write_report-answer.auto.line,
       c.slice_known-1.given 0,
     )
 
 pub returns-in-Line : goal.returns-in-Line
 returns-in-Line c =
     report_put _ _ _ c.requires _ c.write_report-answer.ensures c.in-Line.is
-    c.write_report-answer.auto.0
+    c.write_report-answer.auto.line
 
 pub returns-in-Refused : goal.returns-in-Refused
 returns-in-Refused c = (

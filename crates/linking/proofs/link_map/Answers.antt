@@ -1,5 +1,4 @@
 -- `linking::link_map` meets its contract: with the link in place the memory holds the new network, and the figures that the step leaves are its link's.
---
 use native.Mathlib.Omega.{arith}
 use Rattle.map.specs.Memory.{base}
 use Rattle.map.proofs.Theorems.{base_shape}

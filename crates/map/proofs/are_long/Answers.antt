@@ -1,5 +1,4 @@
 -- `reckon::are_long` meets its contract: one test for each buffer, in the definition's order.
---
 use Rattle.map.specs.Memory.{base}
 use Rattle.map.proofs.Longs.{short_links, short_pairs, short_hops, short_bounds, short_skips, short_even, long_odd}
 use Rattle.map.proofs.are_long.Goals as goal

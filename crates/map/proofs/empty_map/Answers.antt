@@ -1,5 +1,4 @@
 -- `map::empty_map` meets its contract: a short table changes nothing, and a row cleared is a row of zeros.
---
 use native.Mathlib.Omega.{arith}
 use Rattle.map.specs.Memory.{base}
 use Rattle.map.proofs.Empties.{short_links, short_pairs, both_cleared}

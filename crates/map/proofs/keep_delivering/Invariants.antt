@@ -1,5 +1,4 @@
 -- `map::keep_delivering` meets its contract: after j turns the first j words are without their yards. The measure is the words left.
---
 use Prim.Native.Nat.{◌-◌}
 use Rattle.map.proofs.Yards.{Delivering}
 use Rattle.map.proofs.keep_delivering.Given as goal

@@ -1,5 +1,4 @@
 -- `checks::link_is_sound` meets its contract: each early answer has a part of the test that fails, and the last part is the answer.
---
 use mathlib.Core.Path.{◌∙◌}
 use borrow.Author.Tests.{eq-eqb, ne_eqb}
 use Rattle.rows.proofs.Places.{row_fits}

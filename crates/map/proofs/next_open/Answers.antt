@@ -1,5 +1,4 @@
 -- `map::next_open` meets its contract: the next member of the open set's row is the next depot.
---
 use mathlib.Core.List.{[]}
 use Rattle.map.proofs.Depots.{next_depot}
 use Rattle.map.proofs.next_open.Goals as goal

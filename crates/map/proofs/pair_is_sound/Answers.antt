@@ -1,5 +1,4 @@
 -- `checks::pair_is_sound` meets its contract: each early answer has a part of the test that fails, and the last part is the answer.
---
 use mathlib.Core.Path.{sym, ◌∙◌}
 use mathlib.Core.Bool.{and-true}
 use Rattle.graph.specs.Network.{delivers}

@@ -1,5 +1,4 @@
 -- `map::yards_are_open` meets its contract: the yards in the words that are done are open. The measure is the words left.
---
 use Prim.Native.Nat.{◌-◌}
 use native.Mathlib.Omega.{arith}
 use Rattle.map.proofs.Yards.{yards_start, yards_next, yards_end, yards_fault}
@@ -14,7 +13,7 @@ returns-then-yards-j-ne0 c =
 pub loop-j-preserved : goal.loop-j-preserved
 loop-j-preserved c =
     let l = c.loop-j in
-    yards_next _ _ _ l.j l.inv (omega arith) (c.shared_slice_known-1.given l.j).fits
+    yards_next _ _ _ l.j l.invariant (omega arith) (c.shared_slice_known-1.given l.j).fits
     (c.shared_slice_known-in-loop-j-1.given l.j).fits c.if-yards-j-ne0.false
 
 pub loop-j-init : goal.loop-j-init

@@ -1,5 +1,4 @@
 -- `nearby::first_listed` meets its contract. The loop's invariant: no code before place i is open. The measure is the codes left.
---
 use mathlib.Core.Path.{◌≡◌}
 use Prim.Native.Nat.{◌-◌, ◌≤◌}
 use lib.ListN.{length, drop}

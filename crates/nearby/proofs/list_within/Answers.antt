@@ -1,5 +1,4 @@
 -- `nearby::list_within` meets its contract. The loop's invariant: the depots before `from` that pass are written. The measure is the codes left.
---
 use mathlib.Core.Path.{subst}
 use mathlib.Core.List.{[]}
 use Prim.Native.Nat.{◌-◌, ◌<◌}

@@ -1,5 +1,4 @@
 -- `nearby::nearer` meets its contract: by the hops, and by the codes on a tie.
---
 use lib.ListN.{get_or}
 use Rattle.nearby.proofs.Choosing.{nearer_near, nearer_far, nearer_low, nearer_high}
 use Rattle.nearby.proofs.nearer.Goals as goal

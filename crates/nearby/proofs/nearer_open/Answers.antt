@@ -1,5 +1,4 @@
 -- `nearby::nearer_open` meets its contract: by whether the code is open.
---
 use mathlib.Core.Path.{sym, ◌∙◌}
 use Rattle.nearby.proofs.nearer_open.Goals as goal
 

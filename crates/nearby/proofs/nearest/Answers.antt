@@ -1,6 +1,5 @@
 -- `nearby::nearest` meets its contract: what refuses a search comes first, then a list without an open depot; without a refusal the hop table has the
 -- distances.
---
 use mathlib.Core.Path.{◌≡◌, sym, ◌∙◌, subst}
 use mathlib.Core.List.{List, ◌∷◌}
 use Prim.Native.Nat.{ℕ}

@@ -1,6 +1,5 @@
 -- `nearby::nearest_listed` meets its contract. The loop's invariant: what is found so far with the rest of the list gives what the whole list gives.
 -- The measure is the codes left.
---
 use Prim.Native.Nat.{◌-◌, ◌<◌}
 use lib.ListN.{length, get_or}
 use Rattle.rows.specs.Rows.{row_bit}

@@ -1,5 +1,4 @@
 -- `nearby::put_near` meets its contract: by the test of the hop.
---
 use native.Mathlib.Omega.{arith}
 use borrow.Author.Tests.{le-leb, lt-leb}
 use Rattle.nearby.specs.Steps.{list_more}

@@ -1,5 +1,4 @@
 -- `nearby::within` meets its contract: short places come first, then what refuses a search; without a refusal the hop table has the distances.
---
 use mathlib.Core.Path.{◌≡◌, sym, ◌∙◌}
 use native.Mathlib.Omega.{arith}
 use lib.ListN.{length}

@@ -1,5 +1,4 @@
 -- `notice::first_part` meets its contract: an input below the limit is its own first part.
---
 use mathlib.Core.Path.{sym}
 use native.Mathlib.Omega.{arith}
 use lib.ListN.{length-take}

@@ -1,5 +1,4 @@
 -- `notice::is_frame` meets its contract: below three bytes there is no frame, and else kind and third byte say how long it is.
---
 use Rattle.notice.proofs.Tests.{frame_short, frame_long}
 use Rattle.notice.proofs.is_frame.Goals as goal
 

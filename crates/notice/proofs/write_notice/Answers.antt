@@ -31,7 +31,7 @@ bounds-line-end c =
       arith,
       frame_most _ (sym c.is_frame.ensures ∙ not-false _ c.if-not-is_frame.false-raw),
       c.shared_slice_known-1.given 2,
-      c.write_digits.auto.0,
+      c.write_digits.auto.line,
     )
 
 pub returns : goal.returns

@@ -1,5 +1,4 @@
 -- `outcome::letter` meets its contract: each arm of the two matches is a case of `letter_of`.
---
 use Rattle.outcome.specs.Outcome.{letter_of}
 use borrow.Author.Rules.{rules}
 use Rattle.outcome.proofs.letter.Goals as goal

@@ -1,5 +1,4 @@
 -- `pairs::lower_part` meets its contract: a word that begins at `high` or past it has no member below it, one that ends before it has all.
---
 use mathlib.Core.Path.{◌∙◌}
 use native.Mathlib.Omega.{arith}
 use Rattle.pairs.proofs.WordPairs.{part_none, part_all, part_some}

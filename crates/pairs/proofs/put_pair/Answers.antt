@@ -1,5 +1,4 @@
 -- `pairs::put_pair` meets its contract: a pair that is there leaves table and count, a new one is put and counted.
---
 use mathlib.Core.Path.{sym, ap, ◌∙◌}
 use mathlib.Core.List.{List}
 use Prim.Native.Nat.{ℕ, ◌+◌}

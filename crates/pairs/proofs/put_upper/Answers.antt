@@ -1,5 +1,4 @@
 -- `pairs::put_upper` meets its contract: the word of row `low` takes the members of x, and those that it did not have are counted.
---
 use Prim.Native.Nat.{◌+◌, ◌*◌, ◌<◌}
 use native.Mathlib.Omega.{arith}
 use lib.ListN.{length}

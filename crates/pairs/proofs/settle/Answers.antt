@@ -1,5 +1,4 @@
 -- `pairs::settle` meets its contract: where the eccentricity is above the candidate the old pairs go first, where it is the candidate r's own come to them.
---
 use Rattle.pairs.proofs.Tallies.{holds_counted}
 use Rattle.pairs.proofs.Settling.{clear_holds, settle_above, settle_equal, settle_zero, settle_below}
 use Rattle.pairs.proofs.settle.Goals as goal

@@ -1,5 +1,4 @@
 -- `plain_search::accept` is safe and ends: a turn for each neighbour.
---
 use Prim.Native.Nat.{◌≤◌, ◌-◌}
 use Rattle.plain_search.proofs.accept.Given as goal
 

@@ -1,5 +1,4 @@
 -- `plain_search::fault` is safe and ends: a turn for each neighbour at most.
---
 use Prim.Native.Nat.{◌≤◌, ◌-◌}
 use Rattle.plain_search.proofs.fault.Given as goal
 

@@ -1,5 +1,4 @@
 -- `plain_search::fill` is safe and ends: 256 turns.
---
 use Prim.Native.Nat.{◌≤◌, ◌-◌}
 use Rattle.plain_search.proofs.fill.Given as goal
 

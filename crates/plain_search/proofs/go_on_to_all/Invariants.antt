@@ -1,5 +1,4 @@
 -- `plain_search::go_on_to_all` is safe and ends: 256 turns.
---
 use Prim.Native.Nat.{◌≤◌, ◌-◌}
 use Rattle.plain_search.proofs.go_on_to_all.Given as goal
 

@@ -1,5 +1,4 @@
 -- `plain_search::note_pairs` is safe and ends: 65536 turns.
---
 use Prim.Native.Nat.{◌≤◌, ◌-◌}
 use Rattle.plain_search.proofs.note_pairs.Given as goal
 

@@ -1,5 +1,4 @@
 -- `plain_search::search_all` is safe and ends: 256 turns.
---
 use Prim.Native.Nat.{◌≤◌, ◌-◌}
 use Rattle.plain_search.proofs.search_all.Given as goal
 

@@ -1,5 +1,4 @@
 -- `plain_search::search_open` is safe and ends: 256 turns at most.
---
 use Prim.Native.Nat.{◌≤◌, ◌-◌}
 use Rattle.plain_search.proofs.search_open.Given as goal
 

@@ -1,5 +1,4 @@
 -- `reckon::reckon_all` meets its contract: the refusal is the definition's, and without one the rounds are the network's reckoning.
---
 use mathlib.Core.Path.{sym, ◌∙◌}
 use native.Mathlib.Omega.{arith}
 use Rattle.map.specs.Memory.{base}

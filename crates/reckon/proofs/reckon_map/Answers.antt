@@ -1,5 +1,4 @@
 -- `reckon::reckon_map` meets its contract: the rounds from their start leave what the network's reckoning leaves.
---
 use native.Mathlib.Omega.{arith}
 use Rattle.map.specs.Memory.{base}
 use Rattle.rounds.proofs.Turns.{begun_counted}

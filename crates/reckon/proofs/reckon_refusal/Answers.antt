@@ -1,5 +1,4 @@
 -- `reckon::reckon_refusal` meets its contract: it is what refuses the lent map.
---
 use mathlib.Core.Path.{refl, sym, ◌∙◌}
 use Rattle.lists.proofs.Tests.{clash}
 use Rattle.map.specs.Memory.{base}

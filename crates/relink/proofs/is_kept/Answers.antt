@@ -1,5 +1,4 @@
 -- `relink::is_kept` meets its contract: each end by its tests.
---
 use Rattle.relink.proofs.Ends.{kept_by_pair, kept_at_zero, not_kept}
 use borrow.Author.Rules.{rules}
 use Rattle.relink.proofs.is_kept.Goals as goal

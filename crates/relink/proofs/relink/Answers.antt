@@ -1,5 +1,4 @@
 -- `relink::relink` meets its contract: the two searches are the network's, and `settle` goes on from them.
---
 use native.Mathlib.Omega.{arith}
 use Rattle.map.specs.Memory.{base}
 use Rattle.map.proofs.Theorems.{base_shape}

@@ -1,5 +1,4 @@
 -- `relink::settle` meets its contract: each end is one of the network's linking, by the test before it.
---
 use native.Mathlib.Omega.{arith}
 use Rattle.map.specs.Memory.{base}
 use Rattle.relink.proofs.Cases.{kept_is, shrank_is}

@@ -1,5 +1,4 @@
 -- `relink::shrink` meets its contract: its two calls are the network's rounds after the ones from both ends.
---
 use native.Mathlib.Omega.{arith}
 use Rattle.map.specs.Memory.{base}
 use Rattle.map.proofs.Theorems.{base_shape}

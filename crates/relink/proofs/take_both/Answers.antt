@@ -1,5 +1,4 @@
 -- `relink::take_both` meets its contract: the search from high is taken in behind the one from low.
---
 use mathlib.Core.Bool.{true}
 use native.Mathlib.Omega.{arith}
 use Rattle.map.specs.Memory.{base}

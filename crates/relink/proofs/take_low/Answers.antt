@@ -1,5 +1,4 @@
 -- `relink::take_low` meets its contract: its two calls are the two parts of the definition.
---
 use mathlib.Core.Bool.{false}
 use native.Mathlib.Omega.{arith}
 use Rattle.map.specs.Memory.{base}

@@ -1,5 +1,4 @@
 -- `report::put_figures` meets its contract: the four fields, each behind the one before it.
---
 use native.Mathlib.Omega.{arith}
 use Rattle.decimal.proofs.Places.{placed_join}
 use Rattle.report.specs.Line.{figures_text}

@@ -23,7 +23,7 @@ returns-in-Accepted c = (
 
 pub shape_of-line-in-Refused : goal.shape_of-line-in-Refused
 shape_of-line-in-Refused c =
-    c.put_number.auto.0 ∙ simp length-set
+    c.put_number.auto.line ∙ simp length-set
 
 pub returns-in-Refused : goal.returns-in-Refused
 returns-in-Refused c = (

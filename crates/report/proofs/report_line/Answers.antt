@@ -1,5 +1,4 @@
 -- `report::report_line` meets its contract: the part is as long as the answer tells, and nothing where it is a refusal.
---
 use Rattle.report.proofs.Lines.{part_length, line_handed, none-handed}
 use Rattle.report.proofs.report_line.Goals as goal
 

@@ -1,5 +1,4 @@
 -- `report::write_report` meets its contract: number, outcome, figures and ending are put one behind another, and 45 bytes hold them all.
---
 use mathlib.Core.Path.{◌∙◌}
 use native.Mathlib.Omega.{arith}
 use lib.ListN.{length, length-set}
@@ -45,7 +44,7 @@ overflow_add-result c =
 
 pub shape_of-line : goal.shape_of-line
 shape_of-line c =
-    simp length-set (c.put_figures-end.auto.0 ∙ c.put_outcome-b.auto.0 ∙ c.put_number-a.auto.0)
+    simp length-set (c.put_figures-end.auto.line ∙ c.put_outcome-b.auto.line ∙ c.put_number-a.auto.line)
 
 pub returns : goal.returns
 unfolding written_of

@@ -1,5 +1,4 @@
 -- `rounds::absorb` meets its contract: its calls are the parts of the definition, with or without skipping.
---
 use mathlib.Core.Path.{◌≡◌}
 use Rattle.bounds.specs.Bounds.{relax_of}
 use Rattle.rounds.proofs.Turns.{absorb_is}

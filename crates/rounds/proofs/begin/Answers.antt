@@ -1,5 +1,4 @@
 -- `rounds::begin` meets its contract: each of the four buffers is filled by its call.
---
 use Rattle.rounds.proofs.Turns.{begin_is}
 use Rattle.ranks.proofs.Ranks.{ranked_row, ranked_all}
 use Rattle.rounds.proofs.begin.Goals as goal

@@ -1,5 +1,4 @@
 -- `rounds::raise` meets its contract: by the one test.
---
 use Rattle.rounds.proofs.Turns.{raise_higher, raise_same}
 use Rattle.rounds.proofs.raise.Goals as goal
 

@@ -1,5 +1,4 @@
 -- `rounds::reach_by` meets its contract: the last layer is the row of the depth's parity.
---
 use Rattle.rounds.proofs.Reaching.{reach_even, reach_odd}
 use Rattle.rounds.proofs.reach_by.Goals as goal
 

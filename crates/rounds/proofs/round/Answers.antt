@@ -1,5 +1,4 @@
 -- `rounds::round` meets its contract: a search over the table, what it says of r, and both taken in.
---
 use mathlib.Core.Path.{refl}
 use native.Mathlib.Omega.{arith}
 use Rattle.rounds.proofs.Turns.{round_is_absorbed}

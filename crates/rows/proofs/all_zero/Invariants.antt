@@ -1,5 +1,4 @@
 -- `rows::all_zero` meets its contract. The loop's invariant (Zeros.antt): the union is 0 where the words passed are. The measure is the words left.
---
 use Prim.Native.Nat.{◌-◌}
 use Rattle.rows.proofs.Zeros.{Union}
 use Rattle.rows.proofs.all_zero.Given as goal

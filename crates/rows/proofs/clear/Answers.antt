@@ -1,5 +1,4 @@
 -- `rows::clear` meets its contract: after j turns the first j words encode the set that is ensured. The measure is the words left.
---
 use mathlib.Core.Path.{◌≡◌}
 use Prim.Native.Nat.{◌-◌}
 use native.Mathlib.Omega.{arith}
@@ -12,7 +11,7 @@ loop-j-preserved c =
     let l = c.loop-j in (
       search rules,
       search rules,
-      turn_clear _ l.row l.j l.inv.2 (omega arith),
+      turn_clear _ l.row l.j l.invariant.2 (omega arith),
     )
 
 pub returns : goal.returns

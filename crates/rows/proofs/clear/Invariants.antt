@@ -1,5 +1,4 @@
 -- `rows::clear` meets its contract: after j turns the first j words encode the set that is ensured. The measure is the words left.
---
 use mathlib.Core.Path.{◌≡◌}
 use mathlib.Core.Bool.{false}
 use Prim.Native.Nat.{◌-◌, ◌≤◌}

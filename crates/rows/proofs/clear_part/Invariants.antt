@@ -1,5 +1,4 @@
 -- `rows::clear_part` meets its contract: after j turns j words are made 0. The measure is the words left.
---
 use Prim.Native.Nat.{◌-◌, ◌≤◌}
 use Rattle.rows.specs.Rows.{Zeroed}
 use Rattle.rows.proofs.clear_part.Given as goal

@@ -1,7 +1,5 @@
 -- `rows::clear_table` meets its contract: after g turns the first g groups are 0. The measure is the groups left.
---
 use mathlib.Core.Path.{◌≡◌, sym, ap, ◌∙◌, subst}
-use mathlib.Core.Logic.{⊎_elim}
 use mathlib.Core.Bool.{false}
 use mathlib.Core.List.{List}
 use Prim.Native.Nat.{ℕ, ◌+◌, ◌-◌, ◌*◌}
@@ -13,31 +11,31 @@ use Rattle.rows.specs.Rows.{encode_row, Zeroed}
 use Rattle.rows.proofs.Turns.{turn_none}
 use Rattle.rows.proofs.Zeros.{cleared_part, zeroed_already}
 use Rattle.rows.proofs.clear_table.Goals as goal
-use Rattle.rows.proofs.clear_table.Goals.{Joined-not-all_zero}
+use Rattle.rows.proofs.clear_table.Goals.{Joined-not-all_zero, then-not-all_zero, else-not-all_zero}
 
 -- the group is 0 on either way
 group : (c : Joined-not-all_zero) → Zeroed (64 * c.loop-g.g) 64 c.loop-g.t c.if-not-all_zero.t
 group c =
-    ⊎_elim
-    (λ w. subst (λ (l : List ℕ). Zeroed (64 * c.loop-g.g) 64 c.loop-g.t l) (sym w.5) w.2.ensures)
-    (λ w. subst (λ (l : List ℕ). Zeroed (64 * c.loop-g.g) 64 c.loop-g.t l) (sym w.1)
-    (zeroed_already _ _ _ (test_passed c.all_zero.ensures w.0.left)))
-    c.if-not-all_zero.branch
+    elim c.if-not-all_zero.branch [
+      then-not-all_zero w ↦ subst (λ (l : List ℕ). Zeroed (64 * c.loop-g.g) 64 c.loop-g.t l) (sym w.t-is) w.clear_part.ensures
+    | else-not-all_zero w ↦ subst (λ (l : List ℕ). Zeroed (64 * c.loop-g.g) 64 c.loop-g.t l) (sym w.t-is)
+      (zeroed_already _ _ _ (test_passed c.all_zero.ensures w.if-not-all_zero.false-raw))
+    ]
 
 pub loop-g-preserved : goal.loop-g-preserved
 loop-g-preserved c =
     let l = c.loop-g in
     let e : 64 * l.g + 64 ≡ 64 * (l.g + 1) = omega arith in (
       search rules,
-      (group c).size ∙ l.inv.1,
-      cleared_part _ _ _ _ _ l.inv.2 (omega arith) (group c) ∙ ap (λ (k : ℕ). overwrite (encode_row k (λ v. false)) c.args.t.now) e,
+      (group c).size ∙ l.invariant.1,
+      cleared_part _ _ _ _ _ l.invariant.2 (omega arith) (group c) ∙ ap (λ (k : ℕ). overwrite (encode_row k (λ v. false)) c.args.t.now) e,
     )
 
 pub returns : goal.returns
 returns c =
     let l = c.loop-g in
     let e : 64 * l.g ≡ c.args.words * (64 * c.args.words) = omega arith in
-    rw e at l.inv.2
+    rw e at l.invariant.2
 
 pub loop-g-init : goal.loop-g-init
 loop-g-init c = search (turn_none, rules)

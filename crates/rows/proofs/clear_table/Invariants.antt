@@ -1,5 +1,4 @@
 -- `rows::clear_table` meets its contract: after g turns the first g groups are 0. The measure is the groups left.
---
 use mathlib.Core.Path.{◌≡◌}
 use mathlib.Core.Bool.{false}
 use Prim.Native.Nat.{◌-◌, ◌*◌, ◌≤◌}

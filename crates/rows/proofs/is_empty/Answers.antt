@@ -1,5 +1,4 @@
 -- `rows::is_empty` meets its contract: no number below the word that is next is a member. The measure is the words left.
---
 use mathlib.Core.Path.{sym, ap}
 use mathlib.Core.Bool.{not}
 use Prim.Native.Nat.{◌-◌}

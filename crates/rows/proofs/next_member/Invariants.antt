@@ -1,5 +1,4 @@
 -- `rows::next_member` meets its contract: no number from `from` on, below the word that is next, is a member. The measure is the words left.
---
 use mathlib.Core.Path.{◌≡◌}
 use mathlib.Core.Bool.{false}
 use Prim.Native.Nat.{ℕ, ◌-◌, ◌*◌, ◌≤◌, ◌<◌}

@@ -1,5 +1,4 @@
 -- `rows::row_set` meets its contract: the word of v in row u is stored with bit v % 64 set, which is what putting the bit means.
---
 use mathlib.Core.Path.{ap, ◌∙◌}
 use Prim.Native.Nat.{ℕ, ◌+◌, ◌*◌, ◌/◌, ◌%◌}
 use lib.ListN.{get_or, set}

@@ -1,5 +1,4 @@
 -- `search::last_layer` meets its contract: by the parity, and whole where the row is shorter than a layer.
---
 use native.Mathlib.Omega.{arith}
 use lib.ListN.{length-take}
 use Rattle.search.proofs.Accepts.{last_short, last_even, last_short_odd, last_odd}

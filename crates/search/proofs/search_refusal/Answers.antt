@@ -1,5 +1,4 @@
 -- `search::search_refusal` meets its contract: what refuses the lent map comes first, then the code.
---
 use mathlib.Core.Path.{refl, sym, ◌∙◌}
 use native.Mathlib.Omega.{arith}
 use Rattle.lists.proofs.Tests.{clash, test_failed, test_passed}

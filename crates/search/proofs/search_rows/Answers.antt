@@ -1,5 +1,4 @@
 -- `search::search_rows` meets its contract: by the answer of the search, with the row of its parity or nothing as the part.
---
 use Rattle.search.proofs.Accepts.{rows_reached, rows_refused}
 use Rattle.search.proofs.search_rows.Goals as goal
 

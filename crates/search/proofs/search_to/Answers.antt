@@ -1,5 +1,4 @@
 -- `search::search_to` meets its contract: the hop table holds the distances over the link table, and the last layer is in the row of the depth's parity.
---
 use native.Mathlib.Omega.{arith}
 use borrow.Author.Rules.{rules}
 use Rattle.search.proofs.Reaches.{last_long, last_is, ecc_is}

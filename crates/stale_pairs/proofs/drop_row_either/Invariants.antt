@@ -1,5 +1,4 @@
 -- `stale_pairs::drop_row_either` meets its contract: invariant, measure and laws are those of `drop_row`, over the way by either search.
---
 use Prim.Native.Nat.{◌-◌, ◌*◌}
 use Rattle.stale_pairs.proofs.StaleRow.{RowDropping}
 use Rattle.stale_pairs.specs.Stale.{way_by_either}

@@ -1,5 +1,4 @@
 -- `stale_pairs::sift_either` meets its contract: invariant, measure and laws are those of `sift`, over the way by either search.
---
 use native.Mathlib.Omega.{arith}
 use Rattle.stale_pairs.proofs.Sifting.{sift_start, sift_few, sift_drop, sift_keep, sift_end}
 use Rattle.stale_pairs.proofs.sift_either.Goals as goal

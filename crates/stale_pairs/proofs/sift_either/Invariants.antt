@@ -1,5 +1,4 @@
 -- `stale_pairs::sift_either` meets its contract: invariant, measure and laws are those of `sift`, over the way by either search.
---
 use Rattle.stale_pairs.proofs.Sifting.{Sifting}
 use Rattle.stale_pairs.specs.Stale.{way_by_either}
 use Rattle.stale_pairs.proofs.sift_either.Given as goal

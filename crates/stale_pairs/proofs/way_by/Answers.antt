@@ -1,5 +1,4 @@
 -- `stale_pairs::way_by` meets its contract: two hops of 16 bits sum at 32, and the sum is below chain where it is made 16 bits again.
---
 use native.Mathlib.Omega.{arith}
 use Rattle.stale_pairs.proofs.way_by.Goals as goal
 

@@ -24,7 +24,7 @@ returns-then-not-part c =
       turn_held _ _ _ v.0 _ q on (not-true _ c.if-not-part.true) ∙ call_is _ _ _ _ _ _,
       record {
         free = part_free _ _ _ v.0 _ q on;
-        room = omega (arith, c.hold_part-part.auto.0, v.1, c.requires.room);
+        room = omega (arith, c.hold_part-part.auto.line, v.1, c.requires.room);
         held = part_held _ _ _ v.0 _ q on;
       },
       part_inside _ _ _ v.0 _ q on v.2,
@@ -38,7 +38,7 @@ take_line-now-requires c =
     let q = c.hold_part-part.ensures in
     let g = going _ _ _ on in (
       free_sizes _ _ _ _ _ _ _ _ (part_free _ _ _ v.0 _ q on),
-      omega (arith, part_held _ _ _ v.0 _ q on, c.hold_part-part.auto.0, v.1, c.requires.room),
+      omega (arith, part_held _ _ _ v.0 _ q on, c.hold_part-part.auto.line, v.1, c.requires.room),
       g.0,
       g.1,
     )

@@ -1,5 +1,4 @@
 -- `summaries::put_numbers` meets its contract: the four numbers and the line's end, each behind the one before it. 84 bytes hold them.
---
 use mathlib.Core.Path.{◌∙◌}
 use Prim.Native.Nat.{◌≤◌}
 use native.Mathlib.Omega.{arith}
@@ -51,10 +50,10 @@ overflow_add-result c =
 pub shape_of-out : goal.shape_of-out
 shape_of-out c =
     simp length-set
-    (c.put_field-d.auto.0
-    ∙ c.put_field-c.auto.0
-    ∙ c.put_field-b.auto.0
-    ∙ c.put_number-a.auto.0)
+    (c.put_field-d.auto.line
+    ∙ c.put_field-c.auto.line
+    ∙ c.put_field-b.auto.line
+    ∙ c.put_number-a.auto.line)
 
 pub returns : goal.returns
 returns c =

@@ -20,11 +20,11 @@ put_number-end-requires c =
 
 pub shape_of-out : goal.shape_of-out
 shape_of-out c =
-    simp length-set (c.put_number-end.auto.0 ∙ simp length-set)
+    simp length-set (c.put_number-end.auto.line ∙ simp length-set)
 
 pub bounds-out-end : goal.bounds-out-end
 bounds-out-end c =
-    omega (arith, number_fits (goal.at.bounds-out-end c).Start, c.put_number-end.auto.0 ∙ length-set c.args.out.now c.args.at 82)
+    omega (arith, number_fits (goal.at.bounds-out-end c).Start, c.put_number-end.auto.line ∙ length-set c.args.out.now c.args.at 82)
 
 pub overflow_add-result : goal.overflow_add-result
 overflow_add-result c =
@@ -33,4 +33,4 @@ overflow_add-result c =
 pub returns : goal.returns
 returns c =
     refusal_placed _ _ _ c.put_number-end.ensures (omega arith)
-    (omega (arith, number_fits (goal.at.returns c).Start, c.put_number-end.auto.0 ∙ length-set c.args.out.now c.args.at 82))
+    (omega (arith, number_fits (goal.at.returns c).Start, c.put_number-end.auto.line ∙ length-set c.args.out.now c.args.at 82))

@@ -1,6 +1,5 @@
 -- `summary::search_target` meets its contract: the hop table holds the distances over the link table, and the eccentricity to the targets says which count
 -- grows.
---
 use mathlib.Core.Path.{ap}
 use Prim.Native.Nat.{ℕ}
 use native.Mathlib.Omega.{arith}

@@ -1,5 +1,4 @@
 -- `summary::summarise` meets its contract: refused, nothing is changed; without a refusal the totals are the network's, and there is a pair to divide by.
---
 use mathlib.Core.Path.{◌≡◌, sym, ◌∙◌}
 use Prim.Native.Nat.{◌<◌}
 use native.Mathlib.Omega.{arith}

@@ -1,5 +1,4 @@
 -- `summary::summary_refusal` meets its contract: short counts come first, then what refuses the lent map, then the number of the depots that deliver.
---
 use mathlib.Core.Path.{refl, sym, ◌∙◌}
 use native.Mathlib.Omega.{arith}
 use Rattle.lists.proofs.Tests.{clash}

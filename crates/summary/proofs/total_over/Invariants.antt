@@ -1,6 +1,5 @@
 -- `summary::total_over` meets its contract. The loop's invariant: what is done, with the targets from `from` on, gives what all give. The measure is the
 -- codes left.
---
 use mathlib.Core.Path.{◌≡◌}
 use mathlib.Core.List.{[]}
 use Prim.Native.Nat.{◌-◌, ◌≤◌}

@@ -1,5 +1,4 @@
 -- `targets::above` meets its contract: `&` with 1 at the places above b alone keeps those bits.
---
 use Rattle.targets.proofs.Masks.{word_above}
 use Rattle.targets.proofs.above.Goals as goal
 

@@ -1,5 +1,4 @@
 -- `targets::farthest` meets its contract: by the one test.
---
 use Rattle.targets.proofs.Partners.{farthest_last, farthest_pass}
 use Rattle.targets.proofs.farthest.Goals as goal
 

@@ -1,5 +1,4 @@
 -- `targets::greatest_hop` meets its contract: after a search that reached all targets none lies past its depth.
---
 use mathlib.Core.Path.{◌∙◌}
 use Rattle.targets.proofs.Partners.{farthest_is}
 use Rattle.targets.proofs.greatest_hop.Goals as goal

@@ -1,5 +1,4 @@
 -- `targets::put_both` meets its contract. The loop's invariant (Partners.antt): the first w words are put. The measure is the words left.
---
 use mathlib.Core.Bool.{◌&&◌}
 use Prim.Native.Nat.{◌-◌}
 use Rattle.rows.specs.Rows.{row_bit}

@@ -1,5 +1,4 @@
 -- `targets::reach` meets its contract: no partners for what is no target; the last layer's where they lie at the depth, and else by the pass.
---
 use Rattle.lists.proofs.Tests.{test_passed, test_failed}
 use Rattle.targets.proofs.Partners.{reach_none, reach_last, reach_pass}
 use Rattle.targets.proofs.reach.Goals as goal

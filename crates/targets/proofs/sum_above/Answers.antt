@@ -1,5 +1,4 @@
 -- `targets::sum_above` meets its contract. The loop's invariant (Rows.antt): the targets above u in the first w words. The measure is the words left.
---
 use mathlib.Core.Path.{refl}
 use Prim.Native.Nat.{◌-◌}
 use native.Mathlib.Omega.{arith}

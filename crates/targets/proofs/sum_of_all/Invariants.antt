@@ -1,5 +1,4 @@
 -- `targets::sum_of_all` meets its contract. The loop's invariant (Words.antt): the sum of the codes so far. The measure is the codes left.
---
 use Prim.Native.Nat.{◌-◌}
 use Rattle.targets.proofs.Words.{AllSummed}
 use Rattle.targets.proofs.sum_of_all.Given as goal

@@ -1,6 +1,5 @@
 -- `targets::sum_of_word` meets its contract. A full word is summed whole. The loop's invariant (Words.antt): the sum so far, with the hops of what is
 -- left of the word, is that of the word. The measure is what is left of the word.
---
 use Rattle.targets.proofs.Words.{BitsSummed}
 use Rattle.targets.proofs.sum_of_word.Given as goal
 

@@ -1,6 +1,5 @@
 -- `targets::word_at` meets its contract. The loop's invariant (Partners.antt): of the members that were looked at, those at e are left. The measure is what
 -- is left of the word.
---
 use mathlib.Core.Path.{◌∙◌}
 use mathlib.Core.Logic.{⊎_elim}
 use native.Mathlib.Omega.{arith}

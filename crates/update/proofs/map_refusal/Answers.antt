@@ -1,5 +1,4 @@
 -- `update::map_refusal` meets its contract: it is what refuses the lent map.
---
 use mathlib.Core.Path.{sym, ◌∙◌}
 use Rattle.map.specs.Memory.{base}
 use Rattle.map.proofs.Longs.{are_long_lem}

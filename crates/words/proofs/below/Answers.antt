@@ -1,5 +1,4 @@
 -- `words::below` meets its contract: `&` with 1 at the b places below b alone keeps those bits.
---
 use native.Mathlib.Omega.{arith}
 use lib.Pow.{pow_pos}
 use Rattle.words.proofs.Digits.{shl_one}

@@ -1,5 +1,4 @@
 -- `words::least` meets its contract: as many zeros as trail stand below the least set bit.
---
 use native.Mathlib.Omega.{arith}
 use lib.Count.{trailing_le}
 use Rattle.words.proofs.Lowest.{least_is}

@@ -1,5 +1,4 @@
 -- `words::with_bit` meets its contract: `|` with 1 at place b sets bit b and keeps the others.
---
 use Rattle.words.proofs.Digits.{shl_one}
 use Rattle.words.proofs.Bits.{word_with}
 use Rattle.words.proofs.with_bit.Goals as goal

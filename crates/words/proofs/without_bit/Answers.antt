@@ -1,5 +1,4 @@
 -- `words::without_bit` meets its contract: `&` with 0 at place b alone clears bit b and keeps the others.
---
 use Rattle.words.proofs.Digits.{shl_one}
 use Rattle.words.proofs.Bits.{word_without}
 use Rattle.words.proofs.without_bit.Goals as goal

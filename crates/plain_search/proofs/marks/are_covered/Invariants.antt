@@ -1,5 +1,4 @@
 -- `plain_search::marks::are_covered` is safe and ends: 256 turns at most.
---
 use Prim.Native.Nat.{◌≤◌, ◌-◌}
 use Rattle.plain_search.proofs.marks.are_covered.Given as goal
 

@@ -1,5 +1,4 @@
 -- `plain_search::marks::searched` is safe and ends: 256 turns.
---
 use Prim.Native.Nat.{◌≤◌, ◌-◌}
 use Rattle.plain_search.proofs.marks.searched.Given as goal
 

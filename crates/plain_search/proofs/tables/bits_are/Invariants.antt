@@ -1,5 +1,4 @@
 -- `plain_search::tables::bits_are` is safe and ends: n turns at most.
---
 use Prim.Native.Nat.{◌≤◌, ◌-◌}
 use Rattle.plain_search.proofs.tables.bits_are.Given as goal
 

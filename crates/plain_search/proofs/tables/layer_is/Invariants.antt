@@ -1,5 +1,4 @@
 -- `plain_search::tables::layer_is` is safe and ends: 256 turns at most.
---
 use Prim.Native.Nat.{◌≤◌, ◌-◌}
 use Rattle.plain_search.proofs.tables.layer_is.Given as goal
 

@@ -1,5 +1,4 @@
 -- `plain_search::tables::numbers_are` is safe and ends: 256 turns at most.
---
 use Prim.Native.Nat.{◌≤◌, ◌-◌}
 use Rattle.plain_search.proofs.tables.numbers_are.Given as goal
 

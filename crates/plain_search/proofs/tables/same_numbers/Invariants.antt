@@ -1,5 +1,4 @@
 -- `plain_search::tables::same_numbers` is safe and ends: 256 turns at most.
---
 use Prim.Native.Nat.{◌≤◌, ◌-◌}
 use Rattle.plain_search.proofs.tables.same_numbers.Given as goal
 

@@ -1,5 +1,4 @@
 -- `plain_search::tables::same_text` is safe and ends: a turn for each byte.
---
 use Prim.Native.Nat.{◌≤◌, ◌-◌}
 use lib.ListN.{length}
 use Rattle.plain_search.proofs.tables.same_text.Given as goal

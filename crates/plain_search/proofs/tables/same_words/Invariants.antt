@@ -1,5 +1,4 @@
 -- `plain_search::tables::same_words` is safe and ends: n turns at most.
---
 use Prim.Native.Nat.{◌≤◌, ◌-◌}
 use Rattle.plain_search.proofs.tables.same_words.Given as goal
 
