@@ -2,13 +2,13 @@
 -- at both moments of the call.
 -- Assumes nothing.
 use Rattle.std.specs.Prelude.{List, ℕ, length}
-use Rattle.std.specs.Borrow.{Bor}
+use Rattle.std.specs.Borrow.{MutBor}
 use denote.Triple.Both.{Both}
 use Rattle.map.specs.Room.{Tables, tables, Lent, lent, Sizes, sizes}
 
 -- a slice of numbers, and one at both moments
 abbrev pub Slice : Type 0
-Slice = Bor (List ℕ)
+Slice = MutBor (List ℕ)
 
 abbrev pub Moments : Type 0
 Moments = Both Slice Slice

@@ -9,7 +9,7 @@ use Rattle.admission.proofs.Listed.{listed_more, listed_end, listed_fault}
 use Rattle.admission.proofs.all_open.Goals as goal
 
 pub loop-i-init : goal.loop-i-init
-loop-i-init c = absurd (omega arith)
+loop-i-init c k l = absurd (omega arith)
 
 pub overflow_cast-v : goal.overflow_cast-v
 overflow_cast-v c =

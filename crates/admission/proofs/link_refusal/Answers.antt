@@ -4,11 +4,12 @@ use native.Mathlib.Omega.{arith}
 use Rattle.lists.proofs.Tests.{test_failed, test_passed}
 use Rattle.admission.proofs.Notices.{shown}
 use Rattle.admission.proofs.Links.{refused_first, refused_second, refused_itself, refused_linked, refused_neither}
+use Rattle.admission.proofs.Linking.{in_table}
 use Rattle.admission.proofs.link_refusal.Goals as goal
 
 pub row_test-requires : goal.row_test-requires
 row_test-requires c =
-    _table _ _ _ _ _ c.requires.3 refl (omega (arith, c.requires.0, c.ranges.first.fits)) (omega (arith, c.requires.0, c.ranges.second.fits))
+    in_table _ _ _ _ _ c.requires.3 refl (omega (arith, c.requires.0, c.ranges.first.fits)) (omega (arith, c.requires.0, c.ranges.second.fits))
 
 pub returns-then-not-is_open : goal.returns-then-not-is_open
 returns-then-not-is_open c = search (refused_first, shown, test_failed)

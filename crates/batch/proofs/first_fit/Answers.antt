@@ -39,7 +39,7 @@ fits-requires c =
 pub returns-then-fits : goal.returns-then-fits
 returns-then-fits c =
     let got = read (goal.at.returns-then-fits c).In-Frame in
-    (scan_found c.loop-at.invariant.0 got.1 got.2 c.fits2.ensures c.if-fits.true, placed (goal.at.returns-then-fits c).In-Frame)
+    (scan_found c.loop-at.invariant.0 got.1 got.2 c.fits.ensures c.if-fits.true, placed (goal.at.returns-then-fits c).In-Frame)
 
 pub overflow_add-at : goal.overflow_add-at
 overflow_add-at c =
@@ -57,7 +57,7 @@ loop-at-smaller c =
 pub loop-at-preserved : goal.loop-at-preserved
 loop-at-preserved c =
     let got = read (goal.at.loop-at-preserved c).In-Frame in (
-      scan_more c.loop-at.invariant.0 got.1 got.2 c.fits2.ensures c.if-fits.false,
+      scan_more c.loop-at.invariant.0 got.1 got.2 c.fits.ensures c.if-fits.false,
       omega (arith, c.loop-at.invariant.1, c.read_notice-got.auto),
     )
 

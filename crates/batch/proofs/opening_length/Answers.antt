@@ -11,17 +11,17 @@ use Rattle.batch.proofs.opening_length.Goals as goal
 pub returns-then-not-opens_depot : goal.returns-then-not-opens_depot
 returns-then-not-opens_depot c =
     other_length _
-    (frame_read _ _ (omega (arith, slice-aggregate-read-notice (goal.at.returns-then-not-opens_depot c).After-frame-1)) c.in-Frame.is c.read_notice-got.ensures)
+    (frame_read _ _ (omega arith) c.in-Frame.is c.read_notice-got.ensures)
     (test_failed c.opens_depot.ensures c.if-not-opens_depot.true-raw)
 
 pub returns-else-not-opens_depot : goal.returns-else-not-opens_depot
 returns-else-not-opens_depot c =
     opening-length _
-    (frame_read _ _ (omega (arith, slice-aggregate-read-notice (goal.at.returns-else-not-opens_depot c).After-frame-1)) c.in-Frame.is c.read_notice-got.ensures)
+    (frame_read _ _ (omega arith) c.in-Frame.is c.read_notice-got.ensures)
     (test_passed c.opens_depot.ensures c.if-not-opens_depot.false-raw)
 
 pub returns-in-Refused : goal.returns-in-Refused
 unfolding opening_length
 returns-in-Refused c =
-    sym (ap opening_length (garbled_read _ _ (omega (arith, slice-aggregate-read-notice (goal.at.returns-in-Refused c).After-frame-1)) c.in-Refused.is
+    sym (ap opening_length (garbled_read _ _ (omega arith) c.in-Refused.is
     c.read_notice-got.ensures).0)

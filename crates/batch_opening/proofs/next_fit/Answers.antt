@@ -4,4 +4,4 @@ use Rattle.batch_opening.proofs.next_fit.Goals as goal
 
 pub first_fit-requires : goal.first_fit-requires
 first_fit-requires c =
-    (omega arith, omega arith, omega (arith, slice-aggregate-first-fit (goal.at.first_fit-requires c).After-members-2-1), c.requires.0, c.requires.1, c.requires.2)
+    (omega arith, omega arith, omega arith, c.requires.0, c.requires.1, c.requires.2)

@@ -33,7 +33,7 @@ returns-in-Nothing c =
 -- a turn is left
 left : (c : After-slice_known-in-Line-7-1) → 0 < c.loop-turns.turns
 left c =
-    (before-fit BARE.After-next_fit-fit).loop-test.taken
+    c.loop-turns-test.true
 
 pub overflow_sub-turns : goal.overflow_sub-turns
 overflow_sub-turns c = omega (arith, left c)

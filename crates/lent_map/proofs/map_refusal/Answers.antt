@@ -34,7 +34,7 @@ returns-then-not-long c = refused_short base _ _ _ _ (not-true _ c.if-not-long.t
 
 pub links_are_sound-requires : goal.links_are_sound-requires
 links_are_sound-requires c =
-    let row = slice-aggregate-links-are-sound (goal.at.links_are_sound-requires c).After-members-2-1 in (
+    (
       record { positive = omega arith; most = omega arith; rows = c.requires.0 (long (goal.at.links_are_sound-requires c).Else-not-long); row = omega arith },
       omega (arith, slice_bounds-links_are_sound-end-2 c),
     )
@@ -44,7 +44,7 @@ returns-then-not-links_are_sound c =
     refused_links base _ _ _ _ (long (goal.at.returns-then-not-links_are_sound c).Else-not-long) (sym c.links_are_sound.ensures ∙ not-true _ c.if-not-links_are_sound.true-raw)
 
 pub stored_are_sound-requires : goal.stored_are_sound-requires
-stored_are_sound-requires c =
+stored_are_sound-requires c f =
     c.requires.1 (long (goal.at.stored_are_sound-requires c).Else-not-long) f
 
 pub returns-then-not-stored_are_sound : goal.returns-then-not-stored_are_sound

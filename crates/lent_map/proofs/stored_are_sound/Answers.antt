@@ -16,7 +16,7 @@ slice_bounds-keep_delivering-end-2 c = search rules
 
 pub keep_delivering-requires : goal.keep_delivering-requires
 keep_delivering-requires c =
-    (omega (arith, slice-aggregate-keep-delivering (goal.at.keep_delivering-requires c).After-delivering-2-1), omega (arith, slice_bounds-keep_delivering-end-2 c))
+    (omega arith, omega (arith, slice_bounds-keep_delivering-end-2 c))
 
 pub slice_bounds-figures_are_sound-end : goal.slice_bounds-figures_are_sound-end
 slice_bounds-figures_are_sound-end c = search rules

@@ -20,22 +20,18 @@ slice_bounds-keep_targets-end-2 c = search rules
 
 pub keep_targets-requires : goal.keep_targets-requires
 keep_targets-requires c =
-    (omega (arith, slice-aggregate-keep-targets (goal.at.keep_targets-requires c).After-targets-2-1), omega (arith, slice_bounds-keep_targets-end-2 c))
+    (omega arith, omega (arith, slice_bounds-keep_targets-end-2 c))
 
 pub relink_codes-got-requires : goal.relink_codes-got-requires
 relink_codes-got-requires c =
-    let size = slice-aggregate-relink-codes (goal.at.relink_codes-got-requires c).After-members-2-1 in
-    let long = slice-aggregate-relink-codes-2 (goal.at.relink_codes-got-requires c).After-targets-4-1 in
     let lent = are_long_lem base _ (granted_long base base_shape _ _ _ _ _ c.requires) in (
       search rules,
-      relinkable base base_shape _ _ _ _ _ _ _ _ _ _ c.requires _ c.link_codes.ensures _ (omega (arith, size))
-          (omega (arith, long)) c.keep_targets.ensures.0,
+      relinkable base base_shape _ _ _ _ _ _ _ _ _ _ c.requires _ c.link_codes.ensures _ (omega arith)
+          (omega arith) c.keep_targets.ensures.0,
     )
 
 pub returns : goal.returns
 returns c =
-    let size = slice-aggregate-relink-codes (goal.at.returns c).After-members-2-1 in
-    let long = slice-aggregate-relink-codes-2 (goal.at.returns c).After-targets-4-1 in
-    joined_is base base_shape _ _ _ _ _ _ _ _ _ _ c.requires _ c.link_codes.ensures _ (omega (arith, size))
-    (omega (arith, long)) c.keep_targets.ensures.0
+    joined_is base base_shape _ _ _ _ _ _ _ _ _ _ c.requires _ c.link_codes.ensures _ (omega arith)
+    (omega arith) c.keep_targets.ensures.0
     c.relink_codes-got.ensures.1 c.keep_targets.ensures.1 _ _ c.relink_codes-got.ensures.0

@@ -9,7 +9,7 @@ use Rattle.linking.proofs.link_sound.Goals as goal
 
 pub link_refusal-refusal-requires : goal.link_refusal-refusal-requires
 link_refusal-refusal-requires c =
-    (omega arith, omega arith, omega (arith, slice-aggregate-link-refusal (goal.at.link_refusal-refusal-requires c).After-members-2-1), (are_long_lem base _ (map_long base _ _ _ _ c.requires)).links)
+    (omega arith, omega arith, omega arith, (are_long_lem base _ (map_long base _ _ _ _ c.requires)).links)
 
 pub returns-then-refusal-ne0 : goal.returns-then-refusal-ne0
 returns-then-refusal-ne0 c =

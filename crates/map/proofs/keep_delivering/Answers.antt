@@ -1,7 +1,7 @@
 -- `map::keep_delivering` meets its contract: after j turns the first j words are without their yards. The measure is the words left.
 use Prim.Native.Nat.{◌-◌}
 use native.Mathlib.Omega.{arith}
-use Rattle.map.proofs.Yards.{delivering_start, delivering_next}
+use Rattle.map.proofs.Yards.{delivering_start, delivering_next, delivering_end}
 use Rattle.map.proofs.keep_delivering.Goals as goal
 
 pub loop-j-preserved : goal.loop-j-preserved
@@ -12,3 +12,6 @@ loop-j-preserved c =
 
 pub loop-j-init : goal.loop-j-init
 loop-j-init c = search delivering_start
+
+pub returns : goal.returns
+returns c = search delivering_end

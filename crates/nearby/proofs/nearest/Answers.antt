@@ -47,7 +47,7 @@ search_sound-distance-requires c =
 
 pub slice_bounds-nearest_listed-end : goal.slice_bounds-nearest_listed-end
 slice_bounds-nearest_listed-end c =
-    omega (arith, slice-aggregate-first-listed (goal.at.slice_bounds-nearest_listed-end c).After-members-2-1)
+    omega arith
 
 -- the first listed code that is open
 is-first : (c : In-At) → (rest : List ℕ) × (filterb (row_bit 4 c.args.rec.members) c.args.listed.now ≡ c.in-At.first ∷ rest)
@@ -58,7 +58,7 @@ pub nearest_listed-found-requires : goal.nearest_listed-found-requires
 nearest_listed-found-requires c =
     let f = is-first (goal.at.nearest_listed-found-requires c).In-At in
     let g = granted base _ _ _ _ _ _ base_shape (unrefused (goal.at.nearest_listed-found-requires c).Else-refusal-ne0) in (
-      omega (arith, slice-aggregate-first-listed (goal.at.nearest_listed-found-requires c).After-members-2-1),
+      omega arith,
       omega (arith, c.search_sound-distance.auto, g.long.hops),
       listed_below 4 _ _ _ f.0 f.1,
     )

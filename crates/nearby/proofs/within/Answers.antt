@@ -30,7 +30,7 @@ search_sound-requires c =
 pub list_within-count-requires : goal.list_within-count-requires
 list_within-count-requires c =
     let g = granted base _ _ _ _ _ _ base_shape (unrefused (goal.at.list_within-count-requires c).Else-refusal-ne0) in (
-      omega (arith, slice-aggregate-list-within (goal.at.list_within-count-requires c).After-members-2-1),
+      omega arith,
       omega (arith, c.search_sound.auto, g.long.hops),
       omega (arith, c.if-codes-lt-PLACES.false),
     )

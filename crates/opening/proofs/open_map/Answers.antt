@@ -33,7 +33,7 @@ put_yard-requires c = omega (arith, slice_bounds-put_yard-end c)
 
 pub keep_delivering-requires : goal.keep_delivering-requires
 keep_delivering-requires c =
-    (omega (arith, slice-aggregate-keep-delivering (goal.at.keep_delivering-requires c).After-targets-1), omega (arith, slice_bounds-keep_delivering-end-2 c))
+    (omega arith, omega (arith, slice_bounds-keep_delivering-end-2 c))
 
 pub refigure-got-requires : goal.refigure-got-requires
 refigure-got-requires c =
@@ -41,8 +41,8 @@ refigure-got-requires c =
       search rules,
       figurable base base_shape _ _ _ _ _ _ _ _ _ _ _ c.requires c.ranges.code.fits
           (λ k l. (c.shared_slice_known-1.given k).fits) _ _ _ c.put_code.ensures
-          c.put_yard.ensures c.link_depot.ensures _ (omega (arith, slice-aggregate-refigure (goal.at.refigure-got-requires c).After-members-4-1))
-          (omega (arith, slice-aggregate-refigure-2 (goal.at.refigure-got-requires c).After-targets-3-1)) c.keep_delivering.ensures,
+          c.put_yard.ensures c.link_depot.ensures _ (omega arith)
+          (omega arith) c.keep_delivering.ensures,
       search rules,
     )
 
@@ -62,5 +62,5 @@ pub returns : goal.returns
 returns c =
     opened_is base base_shape _ _ _ _ _ _ _ _ _ _ _ c.requires c.ranges.code.fits
     (λ k l. (c.shared_slice_known-1.given k).fits) _ _ _ c.put_code.ensures
-    c.put_yard.ensures c.link_depot.ensures _ (omega (arith, slice-aggregate-refigure (goal.at.returns c).After-members-4-1))
-    (omega (arith, slice-aggregate-refigure-2 (goal.at.returns c).After-targets-3-1)) c.keep_delivering.ensures _ _ c.refigure-got.ensures
+    c.put_yard.ensures c.link_depot.ensures _ (omega arith)
+    (omega arith) c.keep_delivering.ensures _ _ c.refigure-got.ensures

@@ -12,26 +12,22 @@ slice_bounds-keep_delivering-end-2 c = search rules
 
 pub keep_delivering-requires : goal.keep_delivering-requires
 keep_delivering-requires c =
-    (omega (arith, slice-aggregate-keep-delivering (goal.at.keep_delivering-requires c).After-targets-2-1), omega (arith, slice_bounds-keep_delivering-end-2 c))
+    (omega arith, omega (arith, slice_bounds-keep_delivering-end-2 c))
 
 pub reckon_map-got-requires : goal.reckon_map-got-requires
 reckon_map-got-requires c =
     let z = sym c.reckon_refusal-refusal.ensures ∙ c.if-refusal-ne0.false in
-    let size = slice-aggregate-reckon-map (goal.at.reckon_map-got-requires c).After-members-2-1 in
-    let long = slice-aggregate-reckon-map-2 (goal.at.reckon_map-got-requires c).After-targets-4-1 in
     let kept = c.keep_delivering.ensures in (
       granted_long base _ _ _ z,
-      granted_targets base _ _ _ base_shape z (omega (arith, size)) (omega (arith, long)) kept,
-      granted_target_net base _ _ _ base_shape z (omega (arith, size)) (omega (arith, long)) kept,
+      granted_targets base _ _ _ base_shape z (omega arith) (omega arith) kept,
+      granted_target_net base _ _ _ base_shape z (omega arith) (omega arith) kept,
     )
 
 pub returns : goal.returns
 returns c =
     let z = sym c.reckon_refusal-refusal.ensures ∙ c.if-refusal-ne0.false in
-    let size = slice-aggregate-reckon-map (goal.at.returns c).After-members-2-1 in
-    let long = slice-aggregate-reckon-map-2 (goal.at.returns c).After-targets-4-1 in
     accepted_call base base_shape _ _ _ _ _ _ _ _ (sym z) _
-    (granted_same base _ _ _ base_shape z (omega (arith, size)) (omega (arith, long)) c.keep_delivering.ensures) _ _ _ _
+    (granted_same base _ _ _ base_shape z (omega arith) (omega arith) c.keep_delivering.ensures) _ _ _ _
     c.reckon_map-got.ensures
 
 pub returns-then-refusal-ne0 : goal.returns-then-refusal-ne0

@@ -23,7 +23,7 @@ reach_by-f-requires c =
 
 pub slice_bounds-settle-end : goal.slice_bounds-settle-end
 slice_bounds-settle-end c =
-    omega (arith, c.search_sound-d.auto, slice-aggregate-search-sound (goal.at.slice_bounds-settle-end c).After-near-1)
+    omega (arith, c.search_sound-d.auto)
 
 pub slice_bounds-settle-end-3 : goal.slice_bounds-settle-end-3
 slice_bounds-settle-end-3 c = search rules
@@ -42,8 +42,8 @@ settle-requires c =
       },
       pre.1.are,
       record { ends = pre.1.ends },
-      omega (arith, slice-aggregate-settle (goal.at.settle-requires c).After-near-4-1),
-      omega (arith, slice-aggregate-settle-2 (goal.at.settle-requires c).After-nears-3-1),
+      omega arith,
+      omega arith,
       omega (arith, slice_bounds-settle-end-3 c),
       both_stand base base_shape _ _ _ pre.1.are _ _ _ _ _ _ _ _ pre.1.net pre.1.lower pre.1.higher pre.1.apart
           c.search_sound-d.ensures c.search_sound-b.ensures _ _

@@ -13,12 +13,12 @@ slice_bounds-keep_delivering-end-2 c = search rules
 
 pub keep_delivering-requires : goal.keep_delivering-requires
 keep_delivering-requires c =
-    (omega (arith, slice-aggregate-keep-delivering (goal.at.keep_delivering-requires c).After-delivering-2-1), omega (arith, slice_bounds-keep_delivering-end-2 c))
+    (omega arith, omega (arith, slice_bounds-keep_delivering-end-2 c))
 
 pub search_to-found-requires : goal.search_to-found-requires
 search_to-found-requires c =
     let g = granted base _ _ _ _ _ _ base_shape (sym c.search_refusal-refusal.ensures ∙ c.if-refusal-ne0.false) in (
-      omega (arith, slice-aggregate-search-to (goal.at.search_to-found-requires c).After-delivering-4-1),
+      omega arith,
       g.long.links,
       g.long.hops,
       g.long.even,

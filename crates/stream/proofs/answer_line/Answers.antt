@@ -14,16 +14,15 @@ use Rattle.stream.proofs.answer_line.Goals.{In-Frame}
 -- the frame that was read
 read : (c : In-Frame) → (f : List ℕ) × (read_line c.args.text.now ≡ frame f c.in-Frame.field-1) × FrameStands f c.in-Frame.n c.read_notice-got.last.0
 read c =
-    frame_read _ _ (omega (arith, slice-aggregate-read-notice BARE.After-frame-1)) c.in-Frame.is
+    frame_read _ _ (omega arith) c.in-Frame.is
     c.read_notice-got.ensures
 
 pub slice_bounds-frame-end : goal.slice_bounds-frame-end
 slice_bounds-frame-end c =
-    omega (arith, (read (goal.at.slice_bounds-frame-end c).In-Frame).2.fits, slice-aggregate-read-notice (goal.at.slice_bounds-frame-end c).After-frame-1, c.read_notice-got.auto)
+    omega (arith, (read (goal.at.slice_bounds-frame-end c).In-Frame).2.fits, c.read_notice-got.auto)
 
 pub slice_bounds-answer_frame-end : goal.slice_bounds-answer_frame-end
 slice_bounds-answer_frame-end c =
-    let fits = array-share-prefix-frame (goal.at.slice_bounds-answer_frame-end c).After-answer_frame-arg-in-Frame-6-1 in
     search (length-take-le, rules)
 
 pub answer_frame-requires : goal.answer_frame-requires
@@ -37,5 +36,5 @@ returns-in-Frame c =
 pub returns-in-Refused : goal.returns-in-Refused
 returns-in-Refused c =
     answered-garbled _ _ _ _
-    (garbled_read _ _ (omega (arith, slice-aggregate-read-notice (goal.at.returns-in-Refused c).After-frame-1)) c.in-Refused.is
+    (garbled_read _ _ (omega arith) c.in-Refused.is
     c.read_notice-got.ensures) c.refused.ensures

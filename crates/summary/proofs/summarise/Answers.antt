@@ -22,12 +22,12 @@ slice_bounds-keep_delivering-end-2 c = search rules
 
 pub keep_delivering-requires : goal.keep_delivering-requires
 keep_delivering-requires c =
-    (omega (arith, slice-aggregate-keep-delivering (goal.at.keep_delivering-requires c).After-targets-2-1), omega (arith, slice_bounds-keep_delivering-end-2 c))
+    (omega arith, omega (arith, slice_bounds-keep_delivering-end-2 c))
 
 pub total_over-t-requires : goal.total_over-t-requires
 total_over-t-requires c =
     let g = granted base _ _ _ _ _ _ base_shape (unrefused (goal.at.total_over-t-requires c).Else-refusal-ne0) in (
-      omega (arith, slice-aggregate-total-over (goal.at.total_over-t-requires c).After-targets-4-1),
+      omega arith,
       g.long.links,
       g.long.hops,
       g.long.even,
@@ -39,7 +39,7 @@ total_over-t-requires c =
 -- there is a pair
 paired : (c : After-total_over-t) → 0 < c.total_over-t.result.pairs
 paired c =
-    some_pair base _ _ _ _ base_shape (unrefused BARE.Else-refusal-ne0) c.keep_delivering.ensures c.total_over-t.ensures
+    some_pair base _ _ _ _ base_shape (sym c.summary_refusal-refusal.ensures ∙ c.if-refusal-ne0.false) c.keep_delivering.ensures c.total_over-t.ensures
 
 pub nonzero_div-result : goal.nonzero_div-result
 nonzero_div-result c =

@@ -19,7 +19,7 @@ slice_bounds-keep_delivering-end-2 c = search rules
 
 pub keep_delivering-requires : goal.keep_delivering-requires
 keep_delivering-requires c =
-    (omega (arith, slice-aggregate-keep-delivering (goal.at.keep_delivering-requires c).After-delivering-2-1), omega (arith, slice_bounds-keep_delivering-end-2 c))
+    (omega arith, omega (arith, slice_bounds-keep_delivering-end-2 c))
 
 pub slice_bounds-degree-end : goal.slice_bounds-degree-end
 slice_bounds-degree-end c = search rules
