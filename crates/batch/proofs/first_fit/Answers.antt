@@ -13,7 +13,7 @@ use Rattle.batch.proofs.first_fit.Goals as goal
 use Rattle.batch.proofs.first_fit.Goals.{In-Frame}
 
 -- the frame that was read from the line reached
-read : (c : In-Frame) → (f : List ℕ) × LineReads (drop c.loop-at.at c.args.lines.now) f c.in-Frame.used × FrameStands f c.in-Frame.n c.read_notice-got.last.0
+read : (c : In-Frame) → (f : List ℕ) × LineReads (drop c.loop-at.at c.args.lines.now) f c.in-Frame.used × FrameStands f c.in-Frame.n c.read_notice-got.new.frame
 read c =
     let got = frame_read _ _ (omega (arith, c.loop-at.invariant.1, c.requires.3)) c.in-Frame.is c.read_notice-got.ensures in
     (got.0, scan_line c.loop-at.invariant.0 got.1, got.2)
@@ -23,7 +23,7 @@ loop-at-init c =
     (scan_none _ _ _ c.requires.5, refl)
 
 -- its number is that of a line, and its notice stands in the frame
-placed : (c : In-Frame) → (c.loop-at.number < batch_limit) × (3 ≤ c.in-Frame.n) × (c.in-Frame.n ≤ length c.read_notice-got.last.0)
+placed : (c : In-Frame) → (c.loop-at.number < batch_limit) × (3 ≤ c.in-Frame.n) × (c.in-Frame.n ≤ length c.read_notice-got.new.frame)
 placed c =
     let got = read c in (
       omega (arith, scan_number c.loop-at.invariant.0 got.1, c.requires.4),

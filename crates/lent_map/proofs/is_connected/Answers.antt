@@ -33,5 +33,5 @@ returns c =
     let pre = c.requires in
     let n = is-next (goal.at.returns c).In-At in
     c.all_reached.ensures
-    ∙ all_reached_is _ _ _ pre.0.positive pre.0.most pre.6 _ n.here c.search_table.last.1.0
+    ∙ all_reached_is _ _ _ pre.0.positive pre.0.most pre.6 _ n.here c.search_table.new.hops
     (hops_of _ _ _ pre.0.positive pre.0.most pre.6 _ n.here _ _ _ _ _ c.search_table.ensures)

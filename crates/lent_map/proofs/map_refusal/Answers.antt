@@ -60,9 +60,15 @@ map_is_connected-requires c = (
 pub returns-then-not-map_is_connected : goal.returns-then-not-map_is_connected
 returns-then-not-map_is_connected c =
     let connected = sym c.map_is_connected.ensures ∙ not-true _ c.if-not-map_is_connected.true-raw in
-    search (refused_apart, long, sound, figured, connected)
+    let lengths = long (goal.at.returns-then-not-map_is_connected c).Else-not-long in
+    let links = sound (goal.at.returns-then-not-map_is_connected c).Else-not-links_are_sound in
+    let figures = figured (goal.at.returns-then-not-map_is_connected c).Else-not-stored_are_sound in
+    search (refused_apart, lengths, links, figures, connected)
 
 pub returns : goal.returns
 returns c =
     let connected = sym c.map_is_connected.ensures ∙ not-false _ c.if-not-map_is_connected.false-raw in
-    search (refused_never, long, sound, figured, connected)
+    let lengths = long (goal.at.returns c).Else-not-long in
+    let links = sound (goal.at.returns c).Else-not-links_are_sound in
+    let figures = figured (goal.at.returns c).Else-not-stored_are_sound in
+    search (refused_never, lengths, links, figures, connected)

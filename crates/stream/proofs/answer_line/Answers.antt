@@ -12,7 +12,7 @@ use Rattle.stream.proofs.answer_line.Goals as goal
 use Rattle.stream.proofs.answer_line.Goals.{In-Frame}
 
 -- the frame that was read
-read : (c : In-Frame) → (f : List ℕ) × (read_line c.args.text.now ≡ frame f c.in-Frame.field-1) × FrameStands f c.in-Frame.n c.read_notice-got.last.0
+read : (c : In-Frame) → (f : List ℕ) × (read_line c.args.text.now ≡ frame f c.in-Frame.field-1) × FrameStands f c.in-Frame.n c.read_notice-got.new.frame
 read c =
     frame_read _ _ (omega arith) c.in-Frame.is
     c.read_notice-got.ensures
