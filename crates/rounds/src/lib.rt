@@ -8,7 +8,7 @@ ghost use Rattle.ranks.specs.Ranks.{AreRanks, AreThinned};
 ghost use Rattle.bounds.specs.Bounds.{Fits};
 ghost use Rattle.targets.specs.Reach.{reached};
 ghost use Rattle.rounds.specs.Workspace.{reach_in, absorbed, absorbing, holding, round_of, run_of, rounds_begun, rounds_begin_of, RoundRoom};
-ghost use Rattle.map.specs.Slices.{tables_before};
+ghost use Rattle.map.specs.Room.{tables};
 ghost use Rattle.bounds.specs.Slices.{marks_before, marks_after};
 ghost use Rattle.rounds.specs.Slices.{workspace_before, workspace_after};
 
@@ -35,7 +35,7 @@ pub fn reach_by(
         × (words ≤ length partners.old)
         × (words < 2 ^ 32)
         × (r < 64 * words) }
-    ensures { let T = tables_before hops even odd in
+    ensures { let T = tables hops.now even.now odd.now in
         reached result.ecc result.own partners.new
         ≡ reach_in words targets.now r depth T partners.old }
 {
