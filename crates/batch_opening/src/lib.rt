@@ -123,7 +123,7 @@ fn take_line(
     number: u8,
     n: usize,
 ) -> BatchProgress
-    requires { let long = sizes_at links pairs hops bounds skips even odd in
+    requires { let long = sizes_at links.old pairs hops bounds skips even odd in
         (map_refusal base progress.after links.old pairs.old long ≡ 0)
         × (number < batch_limit)
         × (3 ≤ n)
@@ -170,7 +170,7 @@ fn open_lines(
     count: usize,
     lines: &[u8],
 ) -> BatchProgress
-    requires { let long = sizes_at links pairs hops bounds skips even odd in
+    requires { let long = sizes_at links.old pairs hops bounds skips even odd in
         (map_refusal base rec links.old pairs.old long ≡ 0)
         × (length (lines_of lines.now) ≤ batch_limit)
         × (allb is_opening (lines_of lines.now) ≡ true) }

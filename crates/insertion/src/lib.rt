@@ -87,7 +87,7 @@ fn shrink(
 ) -> RoundFigures
     requires { let given = lent_at pairs hops bounds skips even odd in
         let G = target_network base.words members.now targets.now links.now in
-        AreLong base (sizes_at links pairs hops bounds skips even odd)
+        AreLong base (sizes_at links.now pairs hops bounds skips even odd)
         × AreTargets base.words members.now targets.now
         × (base.words ≤ length partners.old)
         × HoldsSearch base G given a (reached span.ecc span.own partners.old)
@@ -172,7 +172,7 @@ fn settle_low(
 ) -> Figures
     requires { let given = lent_at pairs hops bounds skips even odd in
         let G = target_network base.words members.now targets.now links.now in
-        AreLong base (sizes_at links pairs hops bounds skips even odd)
+        AreLong base (sizes_at links.now pairs hops bounds skips even odd)
         × AreTargets base.words members.now targets.now
         × (base.words ≤ length partners.old)
         × AreOpen base G pairs.old
@@ -240,7 +240,7 @@ pub fn refigure(
     count: u32,
 ) -> Figures
     requires { let given = lent_at pairs hops bounds skips even odd in
-        AreLong base (sizes_at links pairs hops bounds skips even odd)
+        AreLong base (sizes_at links.now pairs hops bounds skips even odd)
         × IsFigurable base members.now targets.now links.now given a chain count
         × (a < places base) }
     ensures { let before = lent_before pairs hops bounds skips even odd in

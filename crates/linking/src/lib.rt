@@ -70,7 +70,7 @@ fn relink_codes(
     chain: u16,
 ) -> Figures
     requires { let given = lent_at pairs hops bounds skips even odd in
-        AreLong base (sizes_at links pairs hops bounds skips even odd)
+        AreLong base (sizes_at links.now pairs hops bounds skips even odd)
         × IsRelinkable base members.now targets.now links.now given (min first second) (max first second) }
     ensures { let before = lent_before pairs hops bounds skips even odd in
         let after = lent_after pairs hops bounds skips even odd in
@@ -110,7 +110,7 @@ fn link_map(
     first: u8,
     second: u8,
 ) -> Returned
-    requires { let long = sizes_at links pairs hops bounds skips even odd in
+    requires { let long = sizes_at links.old pairs hops bounds skips even odd in
         update_refusal base rec links.old pairs.old long (joins first second) ≡ 0 }
     ensures { let before = lent_before pairs hops bounds skips even odd in
         let after = lent_after pairs hops bounds skips even odd in
@@ -152,7 +152,7 @@ pub fn link_sound(
     first: u8,
     second: u8,
 ) -> Returned
-    requires { let long = sizes_at links pairs hops bounds skips even odd in
+    requires { let long = sizes_at links.old pairs hops bounds skips even odd in
         map_refusal base rec links.old pairs.old long ≡ 0 }
     ensures { let before = lent_before pairs hops bounds skips even odd in
         let after = lent_after pairs hops bounds skips even odd in

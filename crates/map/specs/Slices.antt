@@ -37,12 +37,12 @@ abbrev pub lent_after : Moments → Moments → Moments → Moments → Moments 
 lent_after pairs hops bounds skips even odd =
     lent_at pairs.exit hops.exit bounds.exit skips.exit even.exit odd.exit
 
--- ---- the lengths: links, pairs, hops, bounds, skips, even, odd
+-- ---- the lengths: links, which is lent either way, so its list; pairs, hops, bounds, skips, even, odd
 
-abbrev pub sizes_at : Slice → Slice → Slice → Slice → Slice → Slice → Slice → Sizes
+abbrev pub sizes_at : List ℕ → Slice → Slice → Slice → Slice → Slice → Slice → Sizes
 sizes_at links pairs hops bounds skips even odd =
     sizes
-    (length links.now)
+    (length links)
     (length pairs.now)
     (length hops.now)
     (length bounds.now)

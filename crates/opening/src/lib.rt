@@ -52,7 +52,7 @@ fn open_map(
     code: u8,
     neighbours: &[u8],
 ) -> Returned
-    requires { let long = sizes_at links pairs hops bounds skips even odd in
+    requires { let long = sizes_at links.old pairs hops bounds skips even odd in
         update_refusal base rec links.old pairs.old long (opens (notice_of yard code neighbours.now)) ≡ 0 }
     ensures { let before = lent_before pairs hops bounds skips even odd in
         let after = lent_after pairs hops bounds skips even odd in
@@ -111,7 +111,7 @@ pub fn open_sound(
     code: u8,
     neighbours: &[u8],
 ) -> Returned
-    requires { let long = sizes_at links pairs hops bounds skips even odd in
+    requires { let long = sizes_at links.old pairs hops bounds skips even odd in
         map_refusal base rec links.old pairs.old long ≡ 0 }
     ensures { let before = lent_before pairs hops bounds skips even odd in
         let after = lent_after pairs hops bounds skips even odd in

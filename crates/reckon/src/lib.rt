@@ -59,7 +59,7 @@ fn reckon_map(
     even: &mut [u64],
     odd: &mut [u64],
 ) -> RoundFigures
-    requires { AreLong base (sizes_at links pairs hops bounds skips even odd)
+    requires { AreLong base (sizes_at links.now pairs hops bounds skips even odd)
         × AreTargets base.words members.now targets.now
         × IsNet (target_network base.words members.now targets.now links.now) }
     ensures { let before = lent_before pairs hops bounds skips even odd in

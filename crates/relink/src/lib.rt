@@ -212,7 +212,7 @@ fn shrink(
         let G = target_network base.words members.now targets.now links.now in
         let R = reached e.ecc e.own nears.now in
         let Q = reached f.ecc f.own fars.old in
-        AreLong base (sizes_at links pairs hops bounds skips even odd)
+        AreLong base (sizes_at links.now pairs hops bounds skips even odd)
         × AreTargets base.words members.now targets.now
         × (places base ≤ length near.now)
         × (base.words ≤ length nears.now)
@@ -279,7 +279,7 @@ fn settle(
         let G = target_network base.words members.now targets.now links.now in
         let R = reached e.ecc e.own nears.now in
         let Q = reached f.ecc f.own fars.old in
-        AreLong base (sizes_at links pairs hops bounds skips even odd)
+        AreLong base (sizes_at links.now pairs hops bounds skips even odd)
         × AreTargets base.words members.now targets.now
         × AreOpen base G pairs.old
         × (places base ≤ length near.now)
@@ -332,7 +332,7 @@ pub fn relink(
     chain: u16,
 ) -> Figures
     requires { let given = lent_at pairs hops bounds skips even odd in
-        AreLong base (sizes_at links pairs hops bounds skips even odd)
+        AreLong base (sizes_at links.now pairs hops bounds skips even odd)
         × IsRelinkable base members.now targets.now links.now given low high
         × (low < places base)
         × (high < places base) }

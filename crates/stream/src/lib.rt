@@ -61,7 +61,7 @@ fn answer_frame(
     odd: &mut [u64],
     frame: &[u8],
 ) -> Returned
-    requires { let long = sizes_at links pairs hops bounds skips even odd in
+    requires { let long = sizes_at links.old pairs hops bounds skips even odd in
         (map_refusal base rec links.old pairs.old long ≡ 0) × (3 ≤ length frame.now) }
     ensures { let before = lent_before pairs hops bounds skips even odd in
         let after = lent_after pairs hops bounds skips even odd in
@@ -103,7 +103,7 @@ fn answer_line(
     odd: &mut [u64],
     text: &[u8],
 ) -> Returned
-    requires { let long = sizes_at links pairs hops bounds skips even odd in
+    requires { let long = sizes_at links.old pairs hops bounds skips even odd in
         map_refusal base rec links.old pairs.old long ≡ 0 }
     ensures { let before = lent_before pairs hops bounds skips even odd in
         let after = lent_after pairs hops bounds skips even odd in
@@ -140,7 +140,7 @@ fn take_line(
     line: &[u8],
     out: &mut [u8],
 ) -> Fed
-    requires { let long = sizes_at links pairs hops bounds skips even odd in
+    requires { let long = sizes_at links.old pairs hops bounds skips even odd in
         (map_refusal base fed.progress.rec links.old pairs.old long ≡ 0)
         × (fed.progress.held ≤ length line.now)
         × (fed.progress.lines < lines_limit)

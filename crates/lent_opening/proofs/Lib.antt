@@ -1,2 +1,0 @@
--- A record as machine values, and in a local that is lent.
-pub mod Records
