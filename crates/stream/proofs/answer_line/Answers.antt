@@ -1,8 +1,9 @@
 -- `stream::answer_line` meets its contract: the reader says whether the line is a frame, and then the step for its frame answers.
 use mathlib.Core.Path.{◌≡◌}
 use mathlib.Core.List.{List}
-use Prim.Native.Nat.{ℕ}
+use Prim.Native.Nat.{ℕ, ◌≤◌}
 use native.Mathlib.Omega.{arith}
+use lib.ListN.{length}
 use lib.Seq.{length-take-le}
 use Rattle.notice.specs.Lines.{frame, read_line}
 use Rattle.notice.proofs.Readings.{FrameStands, frame_read, garbled_read}
@@ -23,6 +24,8 @@ slice_bounds-frame-end c =
 
 pub slice_bounds-answer_frame-end : goal.slice_bounds-answer_frame-end
 slice_bounds-answer_frame-end c =
+    let frame_fits : c.in-Frame.n ≤ length c.read_notice-got.new.frame =
+        omega (arith, (read (goal.at.slice_bounds-answer_frame-end c).In-Frame).2.fits, c.read_notice-got.auto) in
     search (length-take-le, rules)
 
 pub answer_frame-requires : goal.answer_frame-requires
