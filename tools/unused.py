@@ -1,12 +1,10 @@
 #!/usr/bin/env python3
-"""unused.py [--fix]: imports that their file does not cite (--fix takes them out), and laws and definitions that no file cites.
+"""unused.py [--fix]: imports that their file does not cite (--fix takes them out; `rt tidy` does, in a crate that proves), and laws and definitions that
+no file cites.
 Run it in the repository's root. A law that a page under docs/ names is a promise and counts as cited; so does one that a must-fail edit names."""
 import glob
-import os
 import re
 import sys
-
-
 
 BREAK = re.compile(r'[\s(){};,.⌜⌝]+')
 USE = re.compile(r'^((?:ghost )?use )(\S+)\.\{(.*)\}(;?)$')
@@ -63,7 +61,7 @@ def main():
             counts[word] = counts.get(word, 0) + 1
     idle = 0
     for path, text in sorted(texts.items()):
-        if not path.endswith('.antt') or os.path.basename(path) in ('Proof.antt','Invariants.antt','Answers.antt'):
+        if not re.fullmatch(r'crates/\w+/(specs/.*|proofs/[^/]*)\.antt', path):
             continue
         for match in re.finditer(r'^( *)(?:unfoldable |abbrev )?pub ([^\s:]+) :', text, re.M):
             indent, name = match.groups()
