@@ -19,24 +19,24 @@ import sys
 # what is counted: the crates of public calls, and theorems, by what they make good
 GROUPS = [
     ('the calls on a map, and demands 1 to 3', 'map search nearby summary reckon opening lent_opening linking batch_opening', [
-        'empty-refusals', 'search-refusals', 'within-refusals', 'nearest-refusals', 'summary-refusals', 'reckon-refusals', 'update-refusals', 'batch-refusals',  # demand 1
-        'search-demand2', 'within-demand2', 'nearest-demand2', 'summary-demand2', 'reckon-demand2', 'update-demand2', 'update-tables', 'emptied-is-empty', 'batch-demand2', 'batch-most',  # demand 2
+        'empty_refusals', 'search_refusals', 'within_refusals', 'nearest_refusals', 'summary_refusals', 'reckon_refusals', 'update_refusals', 'batch_refusals',  # demand 1
+        'search_demand2', 'within_demand2', 'nearest_demand2', 'summary_demand2', 'reckon_demand2', 'update_demand2', 'update_tables', 'emptied_is_empty', 'batch_demand2', 'batch_most',  # demand 2
         'demand3']),
-    ('lines', 'notice report', ['one-line', 'round-trip', 'line-injective']),
-    ('the stream', 'stream', ['pieces-alike', 'rest-unread', 'turn-uses', 'turn-all']),
-    ('reports on files', '', ['run-written', 'run-first']),
-    ('the calls for C', 'c_maps c_updates c_streams', ['updated-words', 'batched-words']),
-    ('the table of cases', '', ['cases-hold']),
-    ('what stands without yards', '', ['stands-as-before']),
-    ('how far one notice moves the chain', '', ['opening-moves', 'linking-moves', 'map-moves', 'call-moves', 'demand3-moves']),
+    ('lines', 'notice report', ['one_line', 'round_trip', 'line_injective']),
+    ('the stream', 'stream', ['pieces_alike', 'rest_unread', 'turn_uses', 'turn_all']),
+    ('reports on files', '', ['run_written_lem', 'run_first']),
+    ('the calls for C', 'c_maps c_updates c_streams', ['updated_words', 'batched_words']),
+    ('the table of cases', '', ['cases_hold']),
+    ('what stands without yards', '', ['stands_as_before']),
+    ('how far one notice moves the chain', '', ['opening_moves', 'linking_moves', 'map_moves', 'call_moves', 'demand3_moves']),
 ]
 
 USE = re.compile(r'^\s*(?:ghost )?use (\S+?)(?:\.\{(.*)\}| as (\S+));?$')
-SPECS = re.compile(r'^Rattle·(\w+?)(?:·specs)?\.specs\.(.+)$')
+SPECS = re.compile(r'^Rattle\.(\w+)\.specs\.(.+)$')
 START = re.compile(r'^( *)(?:(?:abbrev|unfoldable|pub) )*(?:(record|data) ([^\s{]+)|([^\s:(){}]+) :(?= |$))')
 KEY = re.compile(r'(?:(?<=[{;])|^) *[^\s(){};,]+ =(?= )', re.M)  # of a record
-PROJECTION = re.compile(r'(?<![^\s(])\.[^\s(){};,.]+')
-TOKEN = re.compile(r'[^\s(){};,⌜⌝]+')
+PROJECTION = re.compile(r'(?<![^\s(){}])\.[^\s(){};,.]+')  # of a term in brackets; that of a name is cut off it
+TOKEN = re.compile(r'[^\s(){};,⟨⟩]+')
 
 
 def read(path):
@@ -98,7 +98,7 @@ class File:
         for name, _, local in given:
             if match:
                 self.imported[local or name] = match.groups() + (name,)
-            elif where.startswith('Rattle·'):
+            elif where.startswith('Rattle.') and not where.startswith('Rattle.std.'):
                 self.laws.add(local or name)
 
     def cited(self, text):
@@ -107,7 +107,9 @@ class File:
             head, dot, rest = token.partition('.')
             if dot and head in self.modules:
                 yield self.modules[head] + (rest,)
-            elif token in self.imported:
+                continue
+            token = head or token
+            if token in self.imported:
                 yield self.imported[token]
             elif token in self.texts or token in self.owner:
                 yield None, None, self.owner.get(token, token)
@@ -142,7 +144,7 @@ class Reading:
 
     def __init__(self):
         self.files = {}  # (crate, file) -> File, in order
-        for crate in re.findall(r'^(\w+):', read('crates.txt'), re.M):
+        for crate in re.findall(r'^(\w+)(?: [^:#]*)?:', read('crates.txt'), re.M):
             lib = f'crates/{crate}/specs/Lib.antt'
             if os.path.exists(lib):
                 for name in re.findall(r'^pub mod (\S+)', read(lib), re.M):

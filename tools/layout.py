@@ -1,5 +1,12 @@
-"""Breaks long lines of a proof without a change of what they say. Used by places.py, thin.py and walks.py."""
+#!/usr/bin/env python3
+"""Breaks the lines over 160 characters in the files of the functions' proofs (Answers.antt, Invariants.antt, Proof.antt), without a change of what they
+say. Then `rt fmt`. A line that it finds no place in is left as it is; tools/style names it.
+
+    tools/layout.py [CRATE..]      in the repository's root; all crates if none is named
+"""
+import glob
 import re
+import sys
 
 LONG = 160  # a line of more characters is broken
 WIDE = 140  # into lines of at most this many, where it can be
@@ -47,13 +54,13 @@ def wrapped(line):
     deeper = pad if len(pad) >= DEEP else pad + '    '
     if len(line) <= LONG or text.startswith('--'):
         return line
-    imported = re.match(r'use (.*)\.\{(.*)\}$', text)
+    imported = re.match(r'use (\S*)\.\{(.*)\}$', text)
     if imported:
         return wrapped_import(imported.group(1), split_at(imported.group(2), ','))
     named = re.match(r'(let (?:(?! in ).)* in) (.*)$', text)
     if named:
         return wrapped(pad + named.group(1)) + '\n' + wrapped(pad + named.group(2))
-    clause = re.match(r'([^(]*? =) (.*)$', text)
+    clause = re.match(r'([^({]*? =) (.*)$', text)
     if clause and not text.startswith('let '):
         return pad + clause.group(1) + '\n' + wrapped(pad + '    ' + clause.group(2))
     end = text[-1] if text[-1] in ',;' else ''
@@ -95,3 +102,20 @@ def broken(pad, text, deeper):
         return pad + text
     place = -min(ends)[2]
     return pad + text[:place] + '\n' + wrapped(deeper + text[place + 1:])
+
+
+def main():
+    for crate in sys.argv[1:] or ['*']:
+        for name in ('Answers.antt', 'Invariants.antt', 'Proof.antt'):
+            for path in sorted(glob.glob(f'crates/{crate}/proofs/*/**/{name}', recursive=True)):
+                with open(path, encoding='utf8') as file:
+                    text = file.read()
+                new = '\n'.join(wrapped(line) for line in text.split('\n'))
+                if new != text:
+                    with open(path, 'w', encoding='utf8') as file:
+                        file.write(new)
+                    print(f'wrote {path}')
+
+
+if __name__ == '__main__':
+    main()

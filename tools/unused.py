@@ -1,5 +1,6 @@
 #!/usr/bin/env python3
-"""unused.py [--fix]: imports that their file does not cite (--fix takes them out), and laws and definitions that no file cites.
+"""unused.py [--fix]: imports that their file does not cite (--fix takes them out; `rt tidy` does, in a crate that proves), and laws and definitions that
+no file cites.
 Run it in the repository's root. A law that a page under docs/ names is a promise and counts as cited; so does one that a must-fail edit names."""
 import glob
 import re
@@ -17,7 +18,7 @@ def read(path):
 def parts(name):
     """the words by which a file cites an imported name: those of an operator, the alias of a renamed one"""
     name = name.split(' as ')[-1].strip()
-    return [p for p in name.split('_') if p] if '_' in name and not name[0].isalpha() else [name]
+    return [p for p in name.split('◌') if p]
 
 
 def thinned(path, text):
@@ -60,7 +61,7 @@ def main():
             counts[word] = counts.get(word, 0) + 1
     idle = 0
     for path, text in sorted(texts.items()):
-        if not path.endswith('.antt') or path.endswith('/Proof.antt'):
+        if not re.fullmatch(r'crates/\w+/(specs/.*|proofs/[^/]*)\.antt', path):
             continue
         for match in re.finditer(r'^( *)(?:unfoldable |abbrev )?pub ([^\s:]+) :', text, re.M):
             indent, name = match.groups()

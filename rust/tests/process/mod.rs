@@ -9,11 +9,11 @@ pub fn repository() -> PathBuf {
     Path::new(env!("CARGO_MANIFEST_DIR")).join("..")
 }
 
-/// The program of this name: ZORPEDI_ and its name in capitals says where it is, else it stands where `rt check` puts it.
+/// The program of this name: ZORPEDI_ and its name in capitals says where it is, else it stands where `tools/programs` puts it.
 pub fn program(name: &str) -> PathBuf {
     let variable = format!("ZORPEDI_{}", name.to_uppercase());
     let path = env::var_os(&variable).map_or_else(|| repository().join("target/bin").join(name), PathBuf::from);
-    assert!(path.is_file(), "{} is not there. Run `rt check {name}` in the repository, or set {variable} to the program.", path.display());
+    assert!(path.is_file(), "{} is not there. Run `tools/programs {name}` in the repository, or set {variable} to the program.", path.display());
     path
 }
 

@@ -58,7 +58,7 @@ fn main() -> Outcome<()> {
         work,
     };
     if !places.follow.is_file() {
-        return Err("target/bin/follow is not there: run `rt check follow`".into());
+        return Err("target/bin/follow is not there: run `tools/programs`".into());
     }
     let inputs = make_inputs(&places)?;
     for input in &inputs {

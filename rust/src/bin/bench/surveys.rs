@@ -76,7 +76,7 @@ pub fn print(root: &Path, work: &Path) -> Outcome<()> {
         tables: compile(root, work, "survey_tables")?,
     };
     if !programs.zorpedi.is_file() {
-        return Err("target/bin/survey is not there: run `rt check survey`".into());
+        return Err("target/bin/survey is not there: run `tools/programs`".into());
     }
     let files = make_files(work)?;
     check_outputs(&programs, &files)?;
