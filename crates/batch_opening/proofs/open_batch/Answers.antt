@@ -10,7 +10,9 @@ use Rattle.batch_opening.proofs.open_batch.Goals as goal
 use Rattle.batch_opening.proofs.open_batch.Goals.{Else-refusal-ne0}
 
 -- what no refusal says
-passed : (c : Else-refusal-ne0) → let a = c.args in let long = sizes (length a.links.now) (length a.pairs.now) (length a.hops.now) (length a.bounds.now) (length a.skips.now) (length a.even.now) (length a.odd.now) in IsGranted base a.rec a.links.now a.pairs.now long (length a.left.now) a.lines.now
+passed : (c : Else-refusal-ne0) → let a = c.args in let long = sizes (length a.links.now) (length a.pairs.now) (length a.hops.now)
+    (length a.bounds.now) (length a.skips.now) (length a.even.now) (length a.odd.now) in IsGranted base a.rec a.links.now a.pairs.now long
+    (length a.left.now) a.lines.now
 passed c =
     granted base _ _ _ _ _ _ (sym c.batch_refusal-refusal.ensures ∙ c.if-refusal-ne0.false)
 

@@ -11,7 +11,8 @@ use Rattle.batch_opening.proofs.open_lines.Given as goal
 
 abbrev pub invariant-loop-turns : goal.invariant-loop-turns
 invariant-loop-turns l =
-    IsUnderWay base (batch_standing l.initial.progress l.initial.links (lent l.initial.pairs (tables l.initial.hops l.initial.even l.initial.odd) l.initial.bounds l.initial.skips) l.lines) l.initial.turns
+    IsUnderWay base (batch_standing l.initial.progress l.initial.links
+    (lent l.initial.pairs (tables l.initial.hops l.initial.even l.initial.odd) l.initial.bounds l.initial.skips) l.lines) l.initial.turns
     (batch_standing l.progress l.links (lent l.pairs (tables l.hops l.even l.odd) l.bounds l.skips) l.lines) l.turns
     × ((length l.links ≡ length l.initial.links)
     × (length l.pairs ≡ length l.initial.pairs)

@@ -25,7 +25,8 @@ sound : (c : Else-not-links_are_sound) → sound_links 256 (map_network base c.a
 sound c =
     sym c.links_are_sound.ensures ∙ not-false _ c.if-not-links_are_sound.false-raw
 
-figured : (c : Else-not-stored_are_sound) → let G = map_network base c.args.rec [] in (not c.args.figured || sound_figures 256 G (table_bit 4 c.args.pairs.now) c.args.rec.chain c.args.rec.count) ≡ true
+figured : (c : Else-not-stored_are_sound) → let G = map_network base c.args.rec []
+    in (not c.args.figured || sound_figures 256 G (table_bit 4 c.args.pairs.now) c.args.rec.chain c.args.rec.count) ≡ true
 figured c =
     sym c.stored_are_sound.ensures ∙ not-false _ c.if-not-stored_are_sound.false-raw
 
@@ -33,15 +34,15 @@ pub returns-then-not-long : goal.returns-then-not-long
 returns-then-not-long c = refused_short base _ _ _ _ (not-true _ c.if-not-long.true-raw)
 
 pub links_are_sound-requires : goal.links_are_sound-requires
-links_are_sound-requires c =
-    (
-      record { positive = omega arith; most = omega arith; rows = c.requires.0 (long (goal.at.links_are_sound-requires c).Else-not-long); row = omega arith },
-      omega (arith, slice_bounds-links_are_sound-end-2 c),
-    )
+links_are_sound-requires c = (
+  record { positive = omega arith; most = omega arith; rows = c.requires.0 (long (goal.at.links_are_sound-requires c).Else-not-long); row = omega arith },
+  omega (arith, slice_bounds-links_are_sound-end-2 c),
+)
 
 pub returns-then-not-links_are_sound : goal.returns-then-not-links_are_sound
 returns-then-not-links_are_sound c =
-    refused_links base _ _ _ _ (long (goal.at.returns-then-not-links_are_sound c).Else-not-long) (sym c.links_are_sound.ensures ∙ not-true _ c.if-not-links_are_sound.true-raw)
+    refused_links base _ _ _ _ (long (goal.at.returns-then-not-links_are_sound c).Else-not-long)
+    (sym c.links_are_sound.ensures ∙ not-true _ c.if-not-links_are_sound.true-raw)
 
 pub stored_are_sound-requires : goal.stored_are_sound-requires
 stored_are_sound-requires c f =
@@ -49,11 +50,18 @@ stored_are_sound-requires c f =
 
 pub returns-then-not-stored_are_sound : goal.returns-then-not-stored_are_sound
 returns-then-not-stored_are_sound c =
-    refused_figures base _ _ _ _ (long (goal.at.returns-then-not-stored_are_sound c).Else-not-long) (sound (goal.at.returns-then-not-stored_are_sound c).Else-not-links_are_sound) (sym c.stored_are_sound.ensures ∙ not-true _ c.if-not-stored_are_sound.true-raw)
+    refused_figures base _ _ _ _ (long (goal.at.returns-then-not-stored_are_sound c).Else-not-long)
+    (sound (goal.at.returns-then-not-stored_are_sound c).Else-not-links_are_sound)
+    (sym c.stored_are_sound.ensures ∙ not-true _ c.if-not-stored_are_sound.true-raw)
 
 pub map_is_connected-requires : goal.map_is_connected-requires
 map_is_connected-requires c = (
-  record { positive = omega arith; most = omega arith; rows = c.requires.0 (long (goal.at.map_is_connected-requires c).Else-not-long); row = omega (arith, slice_bounds-map_is_connected-end c) },
+  record {
+    positive = omega arith;
+    most = omega arith;
+    rows = c.requires.0 (long (goal.at.map_is_connected-requires c).Else-not-long);
+    row = omega (arith, slice_bounds-map_is_connected-end c);
+  },
   sound_plain _ _ _ _ _ (sound (goal.at.map_is_connected-requires c).Else-not-links_are_sound),
 )
 

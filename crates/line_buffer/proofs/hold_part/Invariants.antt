@@ -7,7 +7,8 @@ use Rattle.line_buffer.proofs.hold_part.Given as goal
 
 abbrev pub invariant-loop-at : goal.invariant-loop-at
 invariant-loop-at l =
-    (part_from l.at (holding l.line l.count) (drop l.at l.piece) ≡ part_from l.initial.at (holding l.initial.line l.initial.count) (drop l.initial.at l.piece)) × (length l.line ≡ length l.initial.line)
+    (part_from l.at (holding l.line l.count) (drop l.at l.piece) ≡ part_from l.initial.at (holding l.initial.line l.initial.count) (drop l.initial.at l.piece))
+    × (length l.line ≡ length l.initial.line)
 
 abbrev pub decreases-loop-at : goal.decreases-loop-at
 decreases-loop-at l = length l.piece - l.at

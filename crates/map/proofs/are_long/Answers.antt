@@ -5,7 +5,8 @@ use Rattle.map.proofs.are_long.Goals as goal
 
 pub returns : goal.returns
 returns c =
-    long_odd base _ _ _ _ _ _ _ c.if-links-lt-TABLE.false c.if-pairs-lt-TABLE.false c.if-hops-lt-PLACES.false c.if-bounds-lt-PLACES.false c.if-skips-lt-PLACES.false
+    long_odd base _ _ _ _ _ _ _ c.if-links-lt-TABLE.false c.if-pairs-lt-TABLE.false c.if-hops-lt-PLACES.false c.if-bounds-lt-PLACES.false
+    c.if-skips-lt-PLACES.false
     c.if-even-lt-WORDS.false
 
 pub returns-then-links-lt-TABLE : goal.returns-then-links-lt-TABLE

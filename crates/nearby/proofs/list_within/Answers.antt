@@ -47,7 +47,13 @@ bounds-hops-v c =
 pub put_near-count-requires : goal.put_near-count-requires
 put_near-count-requires c =
     let w = c.loop-v.invariant.0 in (
-      λ l. omega (arith, writing_room _ _ _ w (is-next (goal.at.put_near-count-requires c).In-At) (le-leb _ _ l), network_most 4 c.args.members.now [], c.requires.2, w.size),
+      λ l. omega (
+        arith,
+        writing_room _ _ _ w (is-next (goal.at.put_near-count-requires c).In-At) (le-leb _ _ l),
+        network_most 4 c.args.members.now [],
+        c.requires.2,
+        w.size,
+      ),
       is_code (goal.at.put_near-count-requires c).In-At,
     )
 

@@ -22,7 +22,8 @@ returns-then-refusal-ne0 c =
     nearest_refused base _ _ _ _ _ (nearest_as_search base _ _ _ _ _ c.search_refusal-refusal.ensures c.if-refusal-ne0.true) c.if-refusal-ne0.true
 
 -- what refuses a search does not hold
-unrefused : (c : Else-refusal-ne0) → let a = c.args in search_refusal base a.rec a.links.now (length a.hops.now) (length a.even.now) (length a.odd.now) a.code ≡ 0
+unrefused : (c : Else-refusal-ne0) → let a = c.args in search_refusal base a.rec a.links.now (length a.hops.now) (length a.even.now)
+    (length a.odd.now) a.code ≡ 0
 unrefused c =
     sym c.search_refusal-refusal.ensures ∙ c.if-refusal-ne0.false
 

@@ -31,7 +31,8 @@ loop-i-preserved c =
     let open_code = row_bit 4 c.args.members.now (get_or c.args.listed.now c.loop-i.i 0) in (
       rw c.nearer_open-found.ensures (choosing_more _ _ _ _ w.0 c.loop-i-test.true),
       rw c.nearer_open-found.ensures
-          (choosing_below (λ u. get_or c.args.hops.now u 0) open_code _ _ 256 w.1 (code_fits (goal.at.loop-i-preserved c).After-shared_slice_known-in-loop-i-1)),
+          (choosing_below (λ u. get_or c.args.hops.now u 0) open_code _ _ 256 w.1
+          (code_fits (goal.at.loop-i-preserved c).After-shared_slice_known-in-loop-i-1)),
     )
 
 pub returns : goal.returns

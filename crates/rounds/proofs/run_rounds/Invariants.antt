@@ -16,7 +16,8 @@ use Rattle.rounds.proofs.run_rounds.Given as goal
 abbrev pub invariant-loop-r : goal.invariant-loop-r
 invariant-loop-r l =
     AtRound l.words l.targets l.links l.mark
-    (workspace (tally l.initial.pairs l.initial.now.count) (tables l.initial.hops l.initial.even l.initial.odd) (marks l.initial.bounds l.initial.skips (waiting_of l.words l.initial.ranks)) l.initial.now.candidate l.initial.now.searches)
+    (workspace (tally l.initial.pairs l.initial.now.count) (tables l.initial.hops l.initial.even l.initial.odd)
+    (marks l.initial.bounds l.initial.skips (waiting_of l.words l.initial.ranks)) l.initial.now.candidate l.initial.now.searches)
     (workspace (tally l.pairs l.now.count) (tables l.hops l.even l.odd) (marks l.bounds l.skips (waiting_of l.words l.ranks)) l.now.candidate l.now.searches)
     × ((length l.hops ≡ length l.initial.hops)
     × (length l.even ≡ length l.initial.even)

@@ -17,9 +17,9 @@ use Rattle.rows.proofs.clear_table.Goals.{Joined-not-all_zero, then-not-all_zero
 group : (c : Joined-not-all_zero) → Zeroed (64 * c.loop-g.g) 64 c.loop-g.t c.if-not-all_zero.t
 group c =
     elim c.if-not-all_zero.branch [
-      then-not-all_zero w ↦ subst (λ (l : List ℕ). Zeroed (64 * c.loop-g.g) 64 c.loop-g.t l) (sym w.t-is) w.clear_part.ensures
-    | else-not-all_zero w ↦ subst (λ (l : List ℕ). Zeroed (64 * c.loop-g.g) 64 c.loop-g.t l) (sym w.t-is)
-      (zeroed_already _ _ _ (test_passed c.all_zero.ensures w.if-not-all_zero.false-raw))
+      | then-not-all_zero w ↦ subst (λ (l : List ℕ). Zeroed (64 * c.loop-g.g) 64 c.loop-g.t l) (sym w.t-is) w.clear_part.ensures
+      | else-not-all_zero w ↦ subst (λ (l : List ℕ). Zeroed (64 * c.loop-g.g) 64 c.loop-g.t l) (sym w.t-is)
+          (zeroed_already _ _ _ (test_passed c.all_zero.ensures w.if-not-all_zero.false-raw))
     ]
 
 pub loop-g-preserved : goal.loop-g-preserved

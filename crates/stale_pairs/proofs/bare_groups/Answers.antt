@@ -58,7 +58,8 @@ loop-p-smaller c =
 
 pub loop-p-preserved : goal.loop-p-preserved
 loop-p-preserved c =
-    group_bare _ _ _ _ (one-group (goal.at.loop-p-preserved c).Else-not-all_zero) c.requires.2 (omega (arith, c.loop-p-test.true)) c.all_zero-in-loop-p.ensures c.if-not-all_zero-2.false-raw
+    group_bare _ _ _ _ (one-group (goal.at.loop-p-preserved c).Else-not-all_zero) c.requires.2 (omega (arith, c.loop-p-test.true))
+    c.all_zero-in-loop-p.ensures c.if-not-all_zero-2.false-raw
 
 pub loop-p-init : goal.loop-p-init
 loop-p-init c = search bare_start

@@ -25,7 +25,7 @@ slice_bounds-frame-end c =
 pub slice_bounds-answer_frame-end : goal.slice_bounds-answer_frame-end
 slice_bounds-answer_frame-end c =
     let frame_fits : c.in-Frame.n ≤ length c.read_notice-got.new.frame =
-        omega (arith, (read (goal.at.slice_bounds-answer_frame-end c).In-Frame).2.fits, c.read_notice-got.auto) in
+    omega (arith, (read (goal.at.slice_bounds-answer_frame-end c).In-Frame).2.fits, c.read_notice-got.auto) in
     search (length-take-le, rules)
 
 pub answer_frame-requires : goal.answer_frame-requires

@@ -10,7 +10,8 @@ use Rattle.stream.proofs.feed.Given as goal
 
 abbrev pub invariant-loop-now : goal.invariant-loop-now
 invariant-loop-now l =
-    AtTurn l.piece (feeding l.initial.now l.initial.links (lent l.initial.pairs (tables l.initial.hops l.initial.even l.initial.odd) l.initial.bounds l.initial.skips) l.initial.line l.initial.out)
+    AtTurn l.piece (feeding l.initial.now l.initial.links
+    (lent l.initial.pairs (tables l.initial.hops l.initial.even l.initial.odd) l.initial.bounds l.initial.skips) l.initial.line l.initial.out)
     (feeding l.now l.links (lent l.pairs (tables l.hops l.even l.odd) l.bounds l.skips) l.line l.out)
     × ((length l.links ≡ length l.initial.links)
     × (length l.pairs ≡ length l.initial.pairs)

@@ -33,19 +33,42 @@ put_field-b-requires c =
 
 pub put_field-c-requires : goal.put_field-c-requires
 put_field-c-requires c =
-    omega (arith, sum_fits (goal.at.put_field-c-requires c).Start, pairs-fit (goal.at.put_field-c-requires c).Start, quotient_fits (goal.at.put_field-c-requires c).Start)
+    omega (
+      arith,
+      sum_fits (goal.at.put_field-c-requires c).Start,
+      pairs-fit (goal.at.put_field-c-requires c).Start,
+      quotient_fits (goal.at.put_field-c-requires c).Start,
+    )
 
 pub put_field-d-requires : goal.put_field-d-requires
 put_field-d-requires c =
-    omega (arith, sum_fits (goal.at.put_field-d-requires c).Start, pairs-fit (goal.at.put_field-d-requires c).Start, quotient_fits (goal.at.put_field-d-requires c).Start, remainder-fits (goal.at.put_field-d-requires c).Start)
+    omega (
+      arith,
+      sum_fits (goal.at.put_field-d-requires c).Start,
+      pairs-fit (goal.at.put_field-d-requires c).Start,
+      quotient_fits (goal.at.put_field-d-requires c).Start,
+      remainder-fits (goal.at.put_field-d-requires c).Start,
+    )
 
 pub bounds-out-d : goal.bounds-out-d
 bounds-out-d c =
-    omega (arith, sum_fits (goal.at.bounds-out-d c).Start, pairs-fit (goal.at.bounds-out-d c).Start, quotient_fits (goal.at.bounds-out-d c).Start, remainder-fits (goal.at.bounds-out-d c).Start)
+    omega (
+      arith,
+      sum_fits (goal.at.bounds-out-d c).Start,
+      pairs-fit (goal.at.bounds-out-d c).Start,
+      quotient_fits (goal.at.bounds-out-d c).Start,
+      remainder-fits (goal.at.bounds-out-d c).Start,
+    )
 
 pub overflow_add-result : goal.overflow_add-result
 overflow_add-result c =
-    omega (arith, sum_fits (goal.at.overflow_add-result c).Start, pairs-fit (goal.at.overflow_add-result c).Start, quotient_fits (goal.at.overflow_add-result c).Start, remainder-fits (goal.at.overflow_add-result c).Start)
+    omega (
+      arith,
+      sum_fits (goal.at.overflow_add-result c).Start,
+      pairs-fit (goal.at.overflow_add-result c).Start,
+      quotient_fits (goal.at.overflow_add-result c).Start,
+      remainder-fits (goal.at.overflow_add-result c).Start,
+    )
 
 pub shape_of-out : goal.shape_of-out
 shape_of-out c =
@@ -59,4 +82,10 @@ pub returns : goal.returns
 returns c =
     numbers_placed _ _ _ _ c.put_number-a.ensures c.put_field-b.ensures c.put_field-c.ensures
     c.put_field-d.ensures (omega arith)
-    (omega (arith, sum_fits (goal.at.returns c).Start, pairs-fit (goal.at.returns c).Start, quotient_fits (goal.at.returns c).Start, remainder-fits (goal.at.returns c).Start))
+    (omega (
+      arith,
+      sum_fits (goal.at.returns c).Start,
+      pairs-fit (goal.at.returns c).Start,
+      quotient_fits (goal.at.returns c).Start,
+      remainder-fits (goal.at.returns c).Start,
+    ))

@@ -13,7 +13,8 @@ use Rattle.summary.proofs.summarise.Goals as goal
 use Rattle.summary.proofs.summarise.Goals.{After-total_over-t, Else-refusal-ne0}
 
 -- no refusal holds
-unrefused : (c : Else-refusal-ne0) → let a = c.args in summary_refusal base a.rec a.links.now (length a.hops.now) (length a.even.now) (length a.odd.now) (length a.counts.now) ≡ 0
+unrefused : (c : Else-refusal-ne0) → let a = c.args in summary_refusal base a.rec a.links.now (length a.hops.now) (length a.even.now)
+    (length a.odd.now) (length a.counts.now) ≡ 0
 unrefused c =
     sym c.summary_refusal-refusal.ensures ∙ c.if-refusal-ne0.false
 

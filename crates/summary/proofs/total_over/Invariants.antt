@@ -15,7 +15,8 @@ abbrev pub invariant-loop-u : goal.invariant-loop-u
 invariant-loop-u l =
     let N = table_network 4 l.links in
     let G = network_of 4 l.targets [] in
-    IsTotalling (λ u. tally_of (dist N u) u (vertices G)) 4 N G (tables l.initial.hops l.initial.even l.initial.odd) l.initial.counts l.sum l.pairs (tables l.hops l.even l.odd) l.counts l.from
+    IsTotalling (λ u. tally_of (dist N u) u (vertices G)) 4 N G (tables l.initial.hops l.initial.even l.initial.odd) l.initial.counts l.sum
+    l.pairs (tables l.hops l.even l.odd) l.counts l.from
     × (l.from ≤ 256)
     × (length l.hops ≡ length l.initial.hops)
     × (length l.even ≡ length l.initial.even)

@@ -10,8 +10,8 @@ pub loop-x-preserved : goal.loop-x-preserved
 loop-x-preserved c =
     let g = c.loop-x.invariant in
     elim c.if-hops-w.branch [
-      then-hops-w w ↦ kept_leaves _ _ _ _ g c.least-b.ensures c.drop_least-x.ensures w.if-hops-w.true (w.here-is ∙ w.without_bit-here.ensures)
-    | else-hops-w w ↦ kept_stays _ _ _ _ g c.least-b.ensures c.drop_least-x.ensures w.if-hops-w.false w.here-is
+      | then-hops-w w ↦ kept_leaves _ _ _ _ g c.least-b.ensures c.drop_least-x.ensures w.if-hops-w.true (w.here-is ∙ w.without_bit-here.ensures)
+      | else-hops-w w ↦ kept_stays _ _ _ _ g c.least-b.ensures c.drop_least-x.ensures w.if-hops-w.false w.here-is
     ]
 
 pub returns : goal.returns
