@@ -11,7 +11,7 @@ use lib.ListN.{length}
 use borrow.Author.Tests.{ltb-true, lt-ltb, eqb-true, eq-eqb}
 use Rattle.lists.proofs.Tests.{t→true, true→t, and-true, and_intro, same_test}
 use Rattle.graph.specs.Network.{Network, IsDist, delivers, IsGreatest, IsEcc, IsDiameter, IsFarthest}
-use Rattle.graph.specs.Distance.{vertices, dist, connected}
+use Rattle.graph.specs.Distance.{vertices, dist}
 use Rattle.graph.specs.Chart.{chart, ecc, greatest_ecc, diameter, Pairs, farthest}
 use Rattle.graph.specs.Correct.{IsNet}
 use Rattle.graph.proofs.Walks.{cast, walk_zero, dist_unique, dist_triangle, dist_self, dist-sym}

@@ -4,7 +4,6 @@ use mathlib.Core.Logic.{◌⊎◌, inl, inr}
 use mathlib.Core.Bool.{Bool, true, false, not, ◌&&◌, ◌||◌}
 use mathlib.Core.List.Memᴰ
 use mathlib.Core.List.{List, [], ◌∷◌, Memᴰ}
-use mathlib.Core.Option.{some}
 use Prim.Native.Nat.{ℕ, suc, ◌+◌, ◌<◌, min}
 use native.Mathlib.Omega.{arith}
 use lib.Dec.{T, eqb, ltb}
@@ -15,7 +14,7 @@ use Rattle.lists.proofs.Tests.{t→true, true→t, false→not, clash, and-true,
 use Rattle.lists.proofs.Members.{first_zero, all_elim, memb_in, in_memb}
 use Rattle.lists.proofs.Distinct.{insert_memb, insert_distinct, insert_length}
 use Rattle.graph.specs.Network.{Network, IsSound, Walk, stay, delivers}
-use Rattle.graph.specs.Distance.{vertices, unreached, connected}
+use Rattle.graph.specs.Distance.{vertices, unreached}
 use Rattle.graph.specs.Chart.{chart}
 use Rattle.graph.specs.Opening.{Notice, add_depot, strictly_rising, is_empty, notice_faults, open_faults}
 use Rattle.graph.specs.Correct.{IsNet}

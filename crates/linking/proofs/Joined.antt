@@ -23,7 +23,7 @@ use Rattle.map.specs.Room.{tables, Lent, lent, Sizes, sizes}
 use Rattle.map.specs.Memory.{Shape, IsShape, places, network_of, map_network}
 use Rattle.map.specs.declared.Record.{Record}
 use Rattle.map.proofs.Theorems.{network_linked_below}
-use Rattle.rounds.specs.Leaves.{Ran, ran, ran_by}
+use Rattle.rounds.specs.Leaves.{Ran, ran_by}
 use Rattle.rounds.specs.Targets.{target_network}
 use Rattle.rounds.proofs.Targets.{delivering_targets, delivering_network}
 use Rattle.outcome.specs.declared.Change.{Change}

@@ -13,7 +13,6 @@ use Rattle.lists.proofs.Tests.{or_left, true→t}
 use Rattle.graph.specs.Network.{Network, IsSound, delivers}
 use Rattle.graph.specs.Chart.{chart}
 use Rattle.graph.specs.Opening.{Notice, by_code, with_depot, opening}
-use Rattle.graph.specs.Opening as Graph
 use Rattle.graph.specs.Correct.{IsNet}
 use Rattle.rows.specs.Rows.{row_bit, table_bit, encode_row, encode_table, put_bit}
 use Rattle.rows.proofs.Puts.{put_row_lem}
@@ -24,7 +23,7 @@ use Rattle.map.specs.Memory.{Shape, IsShape, places, network_of, yard_network, m
 use Rattle.checks.specs.Sound.{AreFiguresSound}
 use Rattle.map.specs.declared.Record.{Record}
 use Rattle.map.proofs.Theorems.{network_linked_below}
-use Rattle.rounds.specs.Leaves.{Ran, ran, ran_by}
+use Rattle.rounds.specs.Leaves.{Ran, ran_by}
 use Rattle.rounds.specs.Targets.{target_network}
 use Rattle.rounds.proofs.Targets.{delivering_targets, delivering_network}
 use Rattle.outcome.specs.declared.Change.{Change}

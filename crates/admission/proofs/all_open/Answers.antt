@@ -1,7 +1,5 @@
 -- `admission::all_open` meets its contract. The loop's invariant: each code before place i is open. The measure is the places left.
 use mathlib.Core.Path.{sym}
-use mathlib.Core.Bool.{true}
-use Prim.Native.Nat.{◌-◌}
 use native.Mathlib.Omega.{arith}
 use Rattle.rows.specs.Rows.{row_bit}
 use Rattle.lists.proofs.Tests.{test_failed, test_passed}

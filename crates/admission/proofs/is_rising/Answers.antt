@@ -1,6 +1,5 @@
 -- `admission::is_rising` meets its contract. The loop's invariant: each code before place i is above the one before it. The measure is the places left.
 use mathlib.Core.Path.{sym}
-use Prim.Native.Nat.{◌-◌}
 use Rattle.admission.proofs.Listed.{risen_more, risen_all, fault_before}
 use borrow.Author.Rules.{rules}
 use Rattle.admission.proofs.is_rising.Goals as goal

@@ -1,7 +1,6 @@
 -- `admission::link_depot` meets its contract. The loop's invariant: the table is the old one with the links to the neighbours before place i. The
 -- measure is the places left.
 use mathlib.Core.Path.{◌∙◌}
-use Prim.Native.Nat.{◌-◌}
 use native.Mathlib.Omega.{arith}
 use Rattle.admission.proofs.Linking.{in_table, linked_start, linked_turn, linked_end}
 use borrow.Author.Rules.{rules}

@@ -1,6 +1,6 @@
 -- `batch::all_open` meets its contract. The invariant: all lines open something exactly if those left do. The measure is what is left of the
 -- length; a line that reads is not empty.
-use Prim.Native.Nat.{◌+◌, ◌-◌, ◌<◌}
+use Prim.Native.Nat.{◌+◌, ◌<◌}
 use native.Mathlib.Omega.{arith}
 use Rattle.batch.proofs.Lines.{AreRead, read_none, read_more, read_fails, read_all}
 use Rattle.batch.proofs.all_open.Goals as goal

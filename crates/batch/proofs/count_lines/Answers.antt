@@ -1,6 +1,5 @@
 -- `batch::count_lines` meets its contract. The invariant: the lines are those counted and those that begin in what is left. The measure is what is
 -- left of the length.
-use Prim.Native.Nat.{◌-◌}
 use native.Mathlib.Omega.{arith}
 use Rattle.batch.proofs.Counting.{counted_none, counted_more, counted_all}
 use Rattle.batch.proofs.count_lines.Goals as goal

@@ -1,7 +1,6 @@
 -- `batch::put_left` meets its contract. The invariant: the numbers left over of the lines looked at stand in the first places. The measure is how
 -- many lines are left.
 use mathlib.Core.Path.{refl}
-use Prim.Native.Nat.{◌-◌}
 use native.Mathlib.Omega.{arith}
 use Rattle.batch.proofs.Scans.{put_none, put_more, put_few, put_all}
 use borrow.Author.Rules.{rules}

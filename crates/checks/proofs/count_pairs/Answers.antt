@@ -1,7 +1,6 @@
 -- `checks::count_pairs` meets its contract: after u rows the sum is the count of their ones. The measure is the rows left.
 use native.Mathlib.Omega.{arith}
 use Rattle.rows.proofs.Places.{row_fits}
-use Prim.Native.Nat.{◌-◌}
 use borrow.Author.Rules.{rules}
 use Rattle.checks.proofs.Sums.{counted_start, counted_next, counted_whole}
 use Rattle.checks.proofs.count_pairs.Goals as goal

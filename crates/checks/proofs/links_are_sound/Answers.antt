@@ -1,7 +1,6 @@
 -- `checks::links_are_sound` meets its contract: the number is compared first, and the yards are looked at; then rows, words and set bits that are
 -- done have passed, so the scan ends with the whole table passed, or at a bit that refutes the test. Measures: rows, words and what is left of the
 -- word.
-use Prim.Native.Nat.{◌-◌}
 use Rattle.checks.proofs.Scans.{bits_start, bits_next, words_start, words_next, rows_start, rows_next}
 use Rattle.checks.proofs.Scans.{scan_whole, scan_fault}
 use Rattle.checks.proofs.Checks.{links_miscounted, links_closed_yard, links_scanned}

@@ -1,6 +1,5 @@
 -- `frontier::reach_layer` meets its contract. The loop's invariant (Visits.antt): the members in the first w words are visited. The measure is the words
 -- left.
-use Prim.Native.Nat.{◌-◌}
 use borrow.Author.Rules.{rules}
 use Rattle.frontier.proofs.Visits.{words_start, words_fit, words_next, words_end}
 use Rattle.frontier.proofs.reach_layer.Goals as goal

@@ -1,7 +1,6 @@
 -- `frontier::visit` meets its contract. The loop's invariant (Visits.antt): the words before j are next's, and the hops are in place. The measure is the
 -- words left.
 use mathlib.Core.Path.{◌∙◌}
-use Prim.Native.Nat.{◌-◌}
 use Rattle.frontier.proofs.Visits.{fours_start, fours_next, fours_end}
 use Rattle.frontier.proofs.visit.Goals as goal
 

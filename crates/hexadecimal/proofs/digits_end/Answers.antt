@@ -1,11 +1,8 @@
 -- `hexadecimal::digits_end` meets its contract. The invariant: all before the place reached are digits.
 -- The measure is what is left of the length.
 use mathlib.Core.Path.{refl, sym, ◌∙◌}
-use mathlib.Core.Bool.{true}
-use Prim.Native.Nat.{◌-◌}
 use native.Mathlib.Omega.{arith}
 use Rattle.lists.specs.Lists.{allb}
-use Rattle.hexadecimal.specs.Hex.{is_digit}
 use Rattle.hexadecimal.proofs.Digits.{digits_more}
 use borrow.Author.Tests.{not-true, not-false}
 use borrow.Author.Rules.{rules}

@@ -1,6 +1,5 @@
 -- `notice::read_bytes` meets its contract. The invariant: the first i bytes spelt are written, and the rest is as it was.
 -- The measure is what is left to write.
-use Prim.Native.Nat.{◌-◌}
 use native.Mathlib.Omega.{arith}
 use Rattle.hexadecimal.proofs.Spelling.{length_bytes, bytes_more}
 use Rattle.lists.proofs.Copies.{copied_none, copied_all}

@@ -1,6 +1,5 @@
 -- `notice::write_digits` meets its contract. The invariant: the digits of the first i bytes are written, and the rest is as it was.
 -- The measure is what is left of the frame.
-use Prim.Native.Nat.{◌-◌}
 use native.Mathlib.Omega.{arith}
 use Rattle.hexadecimal.proofs.Spelling.{length_digits, digits_more}
 use Rattle.lists.proofs.Copies.{copied_none, copied_all}

@@ -1,7 +1,6 @@
 -- `layers::search_table` meets its contract. The loop's invariant is `AtLayer` (Searching.antt): layer k is not empty, and hops, rows and seen are
 -- those of k layers. Each layer adds a code, so k stays below the number of codes, which gives the measure.
 use mathlib.Core.Path.{refl, ◌∙◌}
-use Prim.Native.Nat.{◌-◌}
 use native.Mathlib.Omega.{arith}
 use borrow.Author.Tests.{not-true, not-false}
 use Rattle.layers.proofs.Turning.{turn_even, turn_odd, end_even, end_odd, at_loop, from_loop}

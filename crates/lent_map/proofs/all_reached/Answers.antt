@@ -1,7 +1,5 @@
 -- `search::all_reached` meets its contract. The loop's invariant: every code below v passes. The measure is the codes left.
 use mathlib.Core.Path.{sym, ◌∙◌}
-use mathlib.Core.Bool.{true}
-use Prim.Native.Nat.{◌-◌}
 use borrow.Author.Tests.{not-true, not-false}
 use Rattle.lent_map.proofs.Connects.{all_none, all_more, all_end, all_fault}
 use borrow.Author.Rules.{rules}

@@ -1,5 +1,4 @@
 -- `line_buffer::hold_part` meets its contract. The invariant: from here the part ends where it ends from the start.
-use Prim.Native.Nat.{◌-◌}
 use borrow.Author.Rules.{rules}
 use Rattle.line_buffer.proofs.Holding.{part_out, part_here, part_on}
 use Rattle.line_buffer.proofs.hold_part.Goals as goal

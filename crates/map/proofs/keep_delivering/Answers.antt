@@ -1,5 +1,4 @@
 -- `map::keep_delivering` meets its contract: after j turns the first j words are without their yards. The measure is the words left.
-use Prim.Native.Nat.{◌-◌}
 use native.Mathlib.Omega.{arith}
 use Rattle.map.proofs.Yards.{delivering_start, delivering_next, delivering_end}
 use Rattle.map.proofs.keep_delivering.Goals as goal

@@ -1,6 +1,5 @@
 -- `nearby::first_listed` meets its contract. The loop's invariant: no code before place i is open. The measure is the codes left.
 use mathlib.Core.Path.{refl, sym, ◌∙◌}
-use Prim.Native.Nat.{◌-◌}
 use native.Mathlib.Omega.{arith}
 use borrow.Author.Rules.{rules}
 use Rattle.lists.proofs.Scans.{filter-took, filter-passed, filter-done}

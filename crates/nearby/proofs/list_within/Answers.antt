@@ -1,7 +1,7 @@
 -- `nearby::list_within` meets its contract. The loop's invariant: the depots before `from` that pass are written. The measure is the codes left.
 use mathlib.Core.Path.{subst}
 use mathlib.Core.List.{[]}
-use Prim.Native.Nat.{◌-◌, ◌<◌}
+use Prim.Native.Nat.{◌<◌}
 use native.Mathlib.Omega.{arith}
 use borrow.Author.Rules.{rules}
 use borrow.Author.Tests.{le-leb}

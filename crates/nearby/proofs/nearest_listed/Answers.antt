@@ -1,6 +1,6 @@
 -- `nearby::nearest_listed` meets its contract. The loop's invariant: what is found so far with the rest of the list gives what the whole list gives.
 -- The measure is the codes left.
-use Prim.Native.Nat.{◌-◌, ◌<◌}
+use Prim.Native.Nat.{◌<◌}
 use native.Mathlib.Omega.{arith}
 use lib.ListN.{get_or}
 use borrow.Author.Rules.{rules}

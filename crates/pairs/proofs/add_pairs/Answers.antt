@@ -1,6 +1,5 @@
 -- `pairs::add_pairs` meets its contract. The loop's invariant (Adding.antt): the pairs of r with the members in the words passed are in the table,
 -- and the sum counts them all. The measure is the words left.
-use Prim.Native.Nat.{◌-◌}
 use native.Mathlib.Omega.{arith}
 use Rattle.pairs.proofs.Tallies.{holds_whole, holds_length, holds_counted}
 use Rattle.pairs.proofs.Adding.{add_start, add_upper, add_word, lower_bits, upper_bits, add_end}

@@ -1,5 +1,4 @@
 -- `rows::all_zero` meets its contract. The loop's invariant (Zeros.antt): the union is 0 where the words passed are. The measure is the words left.
-use Prim.Native.Nat.{◌-◌}
 use Rattle.rows.proofs.Zeros.{union_start, union_more, union_end}
 use Rattle.rows.proofs.all_zero.Goals as goal
 

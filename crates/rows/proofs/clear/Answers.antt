@@ -1,6 +1,5 @@
 -- `rows::clear` meets its contract: after j turns the first j words encode the set that is ensured. The measure is the words left.
 use mathlib.Core.Path.{◌≡◌}
-use Prim.Native.Nat.{◌-◌}
 use native.Mathlib.Omega.{arith}
 use borrow.Author.Rules.{rules}
 use Rattle.rows.proofs.Turns.{turn_none, turn_clear}

@@ -1,6 +1,5 @@
 -- `rows::clear_part` meets its contract: after j turns j words are made 0. The measure is the words left.
 use mathlib.Core.Path.{◌≡◌}
-use Prim.Native.Nat.{◌-◌}
 use native.Mathlib.Omega.{arith}
 use borrow.Author.Rules.{rules}
 use Rattle.rows.proofs.Zeros.{zeroed_start, zeroed_more}

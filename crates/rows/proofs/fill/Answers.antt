@@ -1,7 +1,7 @@
 -- `rows::fill` meets its contract. The loop's invariant: the first v places hold x, and the others are as they were. The measure is the places left.
 use mathlib.Core.Path.{◌≡◌, ap, ◌∙◌}
 use mathlib.Core.List.{List}
-use Prim.Native.Nat.{ℕ, ◌-◌}
+use Prim.Native.Nat.{ℕ}
 use native.Mathlib.Omega.{arith}
 use native.Mathlib.Nat.{le_antisymm}
 use lib.ListN.{set}

@@ -1,7 +1,6 @@
 -- `rows::is_empty` meets its contract: no number below the word that is next is a member. The measure is the words left.
 use mathlib.Core.Path.{sym, ap}
 use mathlib.Core.Bool.{not}
-use Prim.Native.Nat.{◌-◌}
 use native.Mathlib.Omega.{arith}
 use borrow.Author.Rules.{rules}
 use Rattle.rows.proofs.Scan.{passed_more, any_word, any_none}

@@ -1,6 +1,5 @@
 -- `rows::next_member` meets its contract: no number from `from` on, below the word that is next, is a member. The measure is the words left.
-use mathlib.Core.Bool.{false}
-use Prim.Native.Nat.{◌-◌, ◌/◌}
+use Prim.Native.Nat.{◌/◌}
 use native.Mathlib.Omega.{arith}
 use borrow.Author.Rules.{rules}
 use Rattle.rows.proofs.Scan.{passed_more, passed_all, passed_next, shifted_zero, shifted_next}

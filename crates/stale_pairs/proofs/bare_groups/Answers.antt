@@ -1,6 +1,6 @@
 -- `stale_pairs::bare_groups` meets its contract. The loop's invariant: the rows from `u` to `p` have no pair (BareRows.antt).
 -- The measure is the rows left.
-use Prim.Native.Nat.{◌+◌, ◌-◌}
+use Prim.Native.Nat.{◌+◌}
 use native.Mathlib.Omega.{arith}
 use Rattle.stale_pairs.specs.Stale.{Bare}
 use Rattle.stale_pairs.proofs.BareRows.{bare_start, group_bare, group_inside}

@@ -1,6 +1,5 @@
 -- `stale_pairs::drop_row` meets its contract. The loop's invariant (StaleRow.antt): the row's pairs in the words passed are dropped or counted, and their
 -- greatest way is known. The measure is the words left.
-use Prim.Native.Nat.{◌-◌}
 use native.Mathlib.Omega.{arith}
 use Rattle.rows.proofs.Places.{row_fits}
 use Rattle.stale_pairs.proofs.StaleRow.{row_start, row_word, row_skip, row_end, gone_fits, count_fits}

@@ -1,5 +1,4 @@
 -- `stale_pairs::drop_row_either` meets its contract: invariant, measure and laws are those of `drop_row`, over the way by either search.
-use Prim.Native.Nat.{◌-◌}
 use native.Mathlib.Omega.{arith}
 use Rattle.rows.proofs.Places.{row_fits}
 use Rattle.stale_pairs.proofs.StaleRow.{row_start, row_word, row_skip, row_end, gone_fits, count_fits}

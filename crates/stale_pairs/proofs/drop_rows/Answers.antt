@@ -1,6 +1,6 @@
 -- `stale_pairs::drop_rows` meets its contract. The loop's invariant (StaleTable.antt) is the contract itself, for the rows done. The measure is the rows
 -- left.
-use Prim.Native.Nat.{◌+◌, ◌-◌, ◌^◌, ◌<◌}
+use Prim.Native.Nat.{◌+◌, ◌^◌, ◌<◌}
 use native.Mathlib.Omega.{arith}
 use Rattle.stale_pairs.proofs.StaleTable.{rows_start, row_few, rows_few, rows_met, rows_bare, rows_more, rows_end}
 use Rattle.stale_pairs.proofs.drop_rows.Goals as goal

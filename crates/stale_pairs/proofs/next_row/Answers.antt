@@ -1,6 +1,5 @@
 -- `stale_pairs::next_row` meets its contract. The loop's invariant: the rows from `u` to `p` have no pair (BareRows.antt).
 -- The measure is the rows left.
-use Prim.Native.Nat.{◌-◌}
 use native.Mathlib.Omega.{arith}
 use Rattle.stale_pairs.proofs.BareRows.{row_bare, row_inside}
 use Rattle.stale_pairs.proofs.next_row.Goals as goal

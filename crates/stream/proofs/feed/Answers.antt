@@ -2,7 +2,6 @@
 -- nothing refuses the map. The measure is what is left of the piece.
 use borrow.Author.Tests.{not-true, not-false}
 use mathlib.Core.Path.{sym, ap, ◌∙◌, subst}
-use Prim.Native.Nat.{◌-◌}
 use native.Mathlib.Omega.{arith}
 use Rattle.stream.specs.Feeding.{Feeding}
 use Rattle.line_buffer.proofs.Stops.{going}

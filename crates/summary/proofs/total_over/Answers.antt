@@ -2,7 +2,7 @@
 -- codes left.
 use mathlib.Core.Path.{ap, ◌∙◌, subst}
 use mathlib.Core.List.{List, [], Memᴰ}
-use Prim.Native.Nat.{ℕ, ◌-◌, ◌<◌}
+use Prim.Native.Nat.{ℕ, ◌<◌}
 use native.Mathlib.Omega.{arith}
 use lib.ListN.{get_or}
 use borrow.Author.Rules.{rules}

@@ -1,5 +1,5 @@
 -- `targets::sum_of_all` meets its contract. The loop's invariant (Words.antt): the sum of the codes so far. The measure is the codes left.
-use Prim.Native.Nat.{◌+◌, ◌-◌, ◌*◌}
+use Prim.Native.Nat.{◌+◌, ◌*◌}
 use native.Mathlib.Omega.{arith}
 use Rattle.targets.proofs.Words.{all_none, all_next, all_most, all_end}
 use Rattle.targets.proofs.sum_of_all.Goals as goal
