@@ -1,6 +1,5 @@
 // The files of a run, by the arguments that name them. What fails is said on standard error: the program, the file's name and the system's words.
-ghost use Rattle.std.specs.Prelude.{◌≤◌, length};
-ghost use Rattle.io.specs.Counts.{IsPrefixLen};
+ghost use Rattle.std.specs.Prelude.{◌≡◌, ◌≤◌, length, take};
 
 use std::env::{Env, FillError};
 use std::fs::File;
@@ -47,7 +46,8 @@ fn open_named(rt: &HostRuntime, name: &[u8]) -> io::Result<File> {
 
 // Opens the file that argument i names, and puts its name into the buffer. A name that does not fit there opens no file, and is said as far as it does.
 pub fn open_argument(rt: &HostRuntime, name: &mut [u8], i: usize) -> Opened
-    ensures { IsPrefixLen result.named name.new }
+    ensures within { result.named ≤ length name.new }
+    ensures whole { result.named ≡ length (take result.named name.new) }
 {
     let Ok(n) = rt.arg(i, name) else {
         say(rt, &*name, io::Error::from_raw_os_error(TOO_LONG));
