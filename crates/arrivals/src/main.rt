@@ -1,28 +1,29 @@
 // The arrival orders of the customer's first sentence: two notices A and B, three scanner lines with a map each, eight orders. It prints each order
 // with the figures of its three lines (depots open, chain, pairs), and whether the three maps are equal word for word. The third time each line hands
 // its two notices over as one batch, so that nothing is refused. The fourth time a link between their depots is a third notice, which makes six orders.
+#![tactic(auto)]
+
 mod maps;
 
 use maps::{Map, Notice, first_answer, hand_over, line, link_answer, linked_line};
 use plain_search::tables::same_words;
 
-fn print_order(a_first: bool) {
+// The lines below are written as far as standard output takes them: where it does not, nothing is left to say it to.
+
+fn print_order(rt: &impl Print, a_first: bool) {
     if a_first {
-        io::write_all(1, b"AB ");
+        let _ = rt.print("AB ");
     } else {
-        io::write_all(1, b"BA ");
+        let _ = rt.print("BA ");
     }
 }
 
-fn print_figures(m: Map) {
+fn print_figures(rt: &impl Print, m: Map) {
     let rec = m.rec;
-    io::write_all(1, b"(");
-    io::print_decimal(1, rec.number as u64);
-    io::write_all(1, b" ");
-    io::print_decimal(1, rec.chain as u64);
-    io::write_all(1, b" ");
-    io::print_decimal(1, rec.count as u64);
-    io::write_all(1, b") ");
+    let number = rec.number;
+    let chain = rec.chain;
+    let count = rec.count;
+    let _ = print!(rt; "({number} {chain} {count}) ");
 }
 
 // Whether both tests hold.
@@ -50,80 +51,77 @@ fn same(a: Map, b: Map) -> bool {
     )
 }
 
-fn print_agreement(agree: bool) {
+fn print_agreement(rt: &impl Print, agree: bool) {
     if agree {
-        io::write_all(1, b"equal\n");
+        let _ = rt.println("equal");
     } else {
-        io::write_all(1, b"DIFFERENT\n");
+        let _ = rt.println("DIFFERENT");
     }
 }
 
 // The figures of three lines' maps, and whether they agree.
-fn print_lines(one: Map, two: Map, three: Map) {
-    print_figures(one);
-    print_figures(two);
-    print_figures(three);
-    print_agreement(both(same(one, two), same(two, three)));
+fn print_lines(rt: &impl Print, one: Map, two: Map, three: Map) {
+    print_figures(rt, one);
+    print_figures(rt, two);
+    print_figures(rt, three);
+    print_agreement(rt, both(same(one, two), same(two, three)));
 }
 
 // One order of the three lines, B being beside the depot `near`.
-fn try_order(first: bool, second: bool, third: bool, near: u8) {
-    print_order(first);
-    print_order(second);
-    print_order(third);
-    print_lines(line(first, near), line(second, near), line(third, near));
+fn try_order(rt: &impl Print, first: bool, second: bool, third: bool, near: u8) {
+    print_order(rt, first);
+    print_order(rt, second);
+    print_order(rt, third);
+    print_lines(rt, line(first, near), line(second, near), line(third, near));
 }
 
 // The same with batches.
-fn try_batches(first: bool, second: bool, third: bool) {
+fn try_batches(rt: &impl Print, first: bool, second: bool, third: bool) {
     let one = hand_over(first);
     let two = hand_over(second);
     let three = hand_over(third);
-    print_order(first);
-    print_order(second);
-    print_order(third);
-    print_lines(one.map, two.map, three.map);
+    print_order(rt, first);
+    print_order(rt, second);
+    print_order(rt, third);
+    print_lines(rt, one.map, two.map, three.map);
 }
 
 // The eight orders.
-fn all_orders(near: u8) {
-    try_order(true, true, true, near);
-    try_order(true, true, false, near);
-    try_order(true, false, true, near);
-    try_order(true, false, false, near);
-    try_order(false, true, true, near);
-    try_order(false, true, false, near);
-    try_order(false, false, true, near);
-    try_order(false, false, false, near);
+fn all_orders(rt: &impl Print, near: u8) {
+    try_order(rt, true, true, true, near);
+    try_order(rt, true, true, false, near);
+    try_order(rt, true, false, true, near);
+    try_order(rt, true, false, false, near);
+    try_order(rt, false, true, true, near);
+    try_order(rt, false, true, false, near);
+    try_order(rt, false, false, true, near);
+    try_order(rt, false, false, false, near);
 }
 
-fn all_batches() {
-    try_batches(true, true, true);
-    try_batches(true, true, false);
-    try_batches(true, false, true);
-    try_batches(true, false, false);
-    try_batches(false, true, true);
-    try_batches(false, true, false);
-    try_batches(false, false, true);
-    try_batches(false, false, false);
+fn all_batches(rt: &impl Print) {
+    try_batches(rt, true, true, true);
+    try_batches(rt, true, true, false);
+    try_batches(rt, true, false, true);
+    try_batches(rt, true, false, false);
+    try_batches(rt, false, true, true);
+    try_batches(rt, false, true, false);
+    try_batches(rt, false, false, true);
+    try_batches(rt, false, false, false);
 }
 
 // What a batch is answered in either order: its refusal, 0 for none, and how many lines are left over.
-fn print_batch(a_first: bool) {
+fn print_batch(rt: &impl Print, a_first: bool) {
     let got = hand_over(a_first);
-    print_order(a_first);
-    io::write_all(1, b"as a batch is refused with: ");
-    io::print_decimal(1, got.refusal as u64);
-    io::write_all(1, b" (0: accepted), left over: ");
-    io::print_decimal(1, got.left as u64);
-    io::write_all(1, b"\n");
+    print_order(rt, a_first);
+    let refusal = got.refusal;
+    let left = got.left;
+    let _ = println!(rt; "as a batch is refused with: {refusal} (0: accepted), left over: {left}");
 }
 
 // What B is answered where it comes first, 0 for an opening that is accepted.
-fn print_first(near: u8) {
-    io::write_all(1, b"B first is refused with: ");
-    io::print_decimal(1, first_answer(near) as u64);
-    io::write_all(1, b" (0: accepted)\n");
+fn print_first(rt: &impl Print, near: u8) {
+    let refusal = first_answer(near);
+    let _ = println!(rt; "B first is refused with: {refusal} (0: accepted)");
 }
 
 // Whether a map equals those of all six orders.
@@ -144,42 +142,37 @@ fn same_as_all(m: Map) -> bool {
 }
 
 // One order of the three on a line, beside each of the six on two other lines: where each of these equals the first, they equal each other.
-fn try_links(order: &[u8], first: Notice, second: Notice, third: Notice) {
+fn try_links(rt: &impl Print, order: &str, first: Notice, second: Notice, third: Notice) {
     let map = linked_line(first, second, third);
-    io::write_all(1, order);
-    print_figures(map);
-    print_agreement(same_as_all(map));
+    let _ = rt.print(order);
+    print_figures(rt, map);
+    print_agreement(rt, same_as_all(map));
 }
 
-fn all_links() {
-    io::write_all(1, b"L first is refused with: ");
-    io::print_decimal(1, link_answer() as u64);
-    io::write_all(1, b"\n");
-    try_links(b"ABL ", Notice::A, Notice::B, Notice::L);
-    try_links(b"ALB ", Notice::A, Notice::L, Notice::B);
-    try_links(b"BAL ", Notice::B, Notice::A, Notice::L);
-    try_links(b"BLA ", Notice::B, Notice::L, Notice::A);
-    try_links(b"LAB ", Notice::L, Notice::A, Notice::B);
-    try_links(b"LBA ", Notice::L, Notice::B, Notice::A);
+fn all_links(rt: &impl Print) {
+    let refusal = link_answer();
+    let _ = println!(rt; "L first is refused with: {refusal}");
+    try_links(rt, "ABL ", Notice::A, Notice::B, Notice::L);
+    try_links(rt, "ALB ", Notice::A, Notice::L, Notice::B);
+    try_links(rt, "BAL ", Notice::B, Notice::A, Notice::L);
+    try_links(rt, "BLA ", Notice::B, Notice::L, Notice::A);
+    try_links(rt, "LAB ", Notice::L, Notice::A, Notice::B);
+    try_links(rt, "LBA ", Notice::L, Notice::B, Notice::A);
 }
 
-fn main() {
-    io::write_all(1, b"A opens 3 beside 2, B opens 4 beside 1\n");
-    print_first(1);
-    all_orders(1);
-    io::write_all(1, b"A opens 3 beside 2, B opens 4 beside 3\n");
-    print_first(3);
-    all_orders(3);
-    io::write_all(
-        1,
-        b"A opens 3 beside 2, B opens 4 beside 3, handed over together\n",
+fn main(rt: HostRuntime) {
+    let _ = rt.println("A opens 3 beside 2, B opens 4 beside 1");
+    print_first(&rt, 1);
+    all_orders(&rt, 1);
+    let _ = rt.println("A opens 3 beside 2, B opens 4 beside 3");
+    print_first(&rt, 3);
+    all_orders(&rt, 3);
+    let _ = rt.println("A opens 3 beside 2, B opens 4 beside 3, handed over together");
+    print_batch(&rt, true);
+    print_batch(&rt, false);
+    all_batches(&rt);
+    let _ = rt.println(
+        "A opens 3 beside 2, B opens 4 beside 0, L links 3 and 4: each order beside all six on two other lines",
     );
-    print_batch(true);
-    print_batch(false);
-    all_batches();
-    io::write_all(
-        1,
-        b"A opens 3 beside 2, B opens 4 beside 0, L links 3 and 4: each order beside all six on two other lines\n",
-    );
-    all_links();
+    all_links(&rt);
 }

@@ -1,14 +1,18 @@
-// The reading loop of the programs that follow notices: the bytes of a descriptor, fed to the stream as they come. What a read brings is answered, and
+// The reading loop of the programs that follow notices: the bytes of an input, fed to the stream as they come. What a read brings is answered, and
 // written where its reports are wanted, before the next read, so that a person or a scanner on a pipe sees each report at once; a file goes through in
 // large pieces.
+#![tactic(auto)]
+
 ghost use Rattle.map.specs.Slices.{lent_at, lent_after};
 ghost use Rattle.stream.specs.Feeding.{IsReady};
 
 pub mod system;
 
+use std::io;
+use std::io::Read;
 use stream::Progress;
 
-// Where a descriptor stands: the stream's progress, and whether to go on.
+// Where an input stands: the stream's progress, and whether to go on.
 #[derive(Clone, Copy)]
 struct Answered {
     progress: Progress,
@@ -18,6 +22,7 @@ struct Answered {
 // Answers a piece; the reports, if they are wanted, are written to standard output as the buffer fills. It goes on unless a write failed, or the stream has had
 // its lines: then nothing more is read. The name is what a failing write is said of.
 fn answer(
+    rt: &HostRuntime,
     progress: Progress,
     links: &mut [u64],
     pairs: &mut [u64],
@@ -55,7 +60,7 @@ fn answer(
         let written = fed.written;
         let used = fed.used;
         if reporting {
-            if !system::write_out(&out[..written], name) {
+            if !system::write_out(rt, &out[..written], name) {
                 return Answered {
                     progress: now,
                     going: false,
@@ -77,17 +82,18 @@ fn answer(
     }
 }
 
-// How the input ended: the stream's progress, whether what it holds of a last line is to be reported, and whether a read failed, by the system's last error.
+// How the input ended: the stream's progress, whether what it holds of a last line is to be reported, and why a read failed, if it did.
 #[derive(Clone, Copy)]
 pub struct Ended {
     pub progress: Progress,
     pub finishing: bool,
-    pub failed: bool,
+    pub failure: Option<io::Error>,
 }
 
-// Answers a descriptor to its end. A proved loop has to end, and nothing says that the input does: so the loop counts its turns down, from a
+// Answers an input to its end. A proved loop has to end, and nothing says that the input does: so the loop counts its turns down, from a
 // number that no run uses up.
-pub fn answer_all(
+pub fn answer_all<R: Read>(
+    rt: &HostRuntime,
     progress: Progress,
     links: &mut [u64],
     pairs: &mut [u64],
@@ -99,7 +105,7 @@ pub fn answer_all(
     line: &mut [u8],
     out: &mut [u8],
     input: &mut [u8],
-    descriptor: i32,
+    from: &mut R,
     name: &[u8],
     reporting: bool,
 ) -> Ended
@@ -109,16 +115,25 @@ pub fn answer_all(
     let mut now = progress;
     let mut turns = u64::MAX;
     while turns > 0 {
-        let got = system::read_some(input, descriptor);
-        let n = got.count;
+        let n = match system::read_some(input, from) {
+            Ok(n) => n,
+            Err(why) => {
+                return Ended {
+                    progress: now,
+                    finishing: true,
+                    failure: Some(why),
+                };
+            }
+        };
         if n == 0 {
             return Ended {
                 progress: now,
                 finishing: true,
-                failed: got.failed,
+                failure: None,
             };
         }
         let answered = answer(
+            rt,
             now,
             links,
             pairs,
@@ -138,7 +153,7 @@ pub fn answer_all(
             return Ended {
                 progress: now,
                 finishing: false,
-                failed: false,
+                failure: None,
             };
         }
         turns -= 1;
@@ -146,6 +161,6 @@ pub fn answer_all(
     Ended {
         progress: now,
         finishing: true,
-        failed: false,
+        failure: None,
     }
 }

@@ -1,71 +1,82 @@
 // Reads and writes that fail aloud: a call that was interrupted is tried again, any other failure is said on standard error in one line, with the
 // system's words. Both loops count down the times they try again, since a proved loop has to end; no run uses them up.
-ghost use Rattle.std.specs.Prelude.{◌≤◌, length};
-ghost use Rattle.io.specs.Counts.{IsPrefixLen};
+ghost use Rattle.std.specs.Prelude.{◌≤◌, ◌<◌, length, IfOk};
+ghost use Rattle.std.specs.Io.{ReadsAtMost};
 
-// What a read brought: so many bytes; none at the end of the input, or where the read failed.
-#[derive(Clone, Copy)]
-pub struct Got {
-    pub count: usize,
-    pub failed: bool,
-}
+use std::io;
+use std::io::{ErrorKind, Read};
 
-// Reads what a descriptor has, as far as the buffer holds it.
-pub fn read_some(input: &mut [u8], descriptor: i32) -> Got
-    ensures { IsPrefixLen result.count input.new }
+// Reads what the input has, as far as the buffer holds it: how many bytes, 0 at its end.
+pub fn read_some<R: Read>(input: &mut [u8], from: &mut R) -> io::Result<usize>
+    ensures { ReadsAtMost result input.new }
 {
     let mut tries = u64::MAX;
     while tries > 0 {
-        let got = libc::read(descriptor, input);
-        if got >= 0 {
-            let n = io::count(got, &*input);
-            return Got {
-                count: n,
-                failed: false,
-            };
-        }
-        if os::errno() != libc::EINTR {
-            return Got {
-                count: 0,
-                failed: true,
-            };
+        match from.read(input) {
+            Ok(n) => return Ok(n),
+            Err(why) => {
+                if why.kind() != ErrorKind::Interrupted {
+                    return Err(why);
+                }
+            }
         }
         tries -= 1;
     }
-    Got {
-        count: 0,
-        failed: true,
-    }
+    Err(io::Error::from(ErrorKind::Interrupted))
 }
 
-// Writes what standard output takes of the bytes, which are some, at once; how many it took, 0 where the write failed.
-fn write_some(out: &[u8]) -> usize
-    ensures { result ≤ length out.now }
+// Writes what standard output takes of the bytes, which are some, at once: how many it took, at least one.
+fn write_some(rt: &impl Print, out: &[u8]) -> io::Result<usize>
+    ensures { IfOk result (λ n. (0 < n) × (n ≤ length out.now)) }
 {
     let mut tries = u64::MAX;
     while tries > 0 {
-        let got = libc::write(1, out);
-        if got >= 0 {
-            return io::count(got, out);
-        }
-        if os::errno() != libc::EINTR {
-            return 0;
+        match rt.write_some(out) {
+            Ok(0) => return Err(io::Error::from(ErrorKind::WriteZero)),
+            Ok(n) => return Ok(n),
+            Err(why) => {
+                if why.kind() != ErrorKind::Interrupted {
+                    return Err(why);
+                }
+            }
         }
         tries -= 1;
     }
-    0
+    Err(io::Error::from(ErrorKind::Interrupted))
 }
 
 // Writes all of the bytes to standard output. Where that fails it is said of the name, and the answer is false.
-pub fn write_out(out: &[u8], name: &[u8]) -> bool {
+pub fn write_out(rt: &HostRuntime, out: &[u8], name: &[u8]) -> bool {
     let mut at: usize = 0;
     while at < out.len() {
-        let n = write_some(&out[at..]);
-        if n == 0 {
-            os::fail(name);
-            return false;
+        match write_some(rt, &out[at..]) {
+            Ok(n) => at += n,
+            Err(why) => {
+                say(rt, name, why);
+                return false;
+            }
         }
-        at += n;
     }
     true
+}
+
+// Says on standard error in one line that what has this name failed, and why, in the system's words. Where that fails too, nothing is left to say it to.
+pub fn say(rt: &HostRuntime, name: &[u8], why: io::Error) {
+    let to = rt.stderr();
+    let _ = to.write_all(name);
+    let _ = match format!(in rt.alloc(); "{why}") {
+        Ok(text) => {
+            let said = words(text.as_str());
+            println!(to; ": {said}")
+        }
+        Err(_) => println!(to; ": {why}"),
+    };
+}
+
+// The system's words for an error, without the number that stands behind them.
+fn words(text: &str) -> &str {
+    match text.split_once(" (os error ") {
+        Some((said, _)) => said,
+        None => text,
+    }
 }

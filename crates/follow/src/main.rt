@@ -1,23 +1,27 @@
 // The program: notice lines from standard input, a report line for each to standard output. A read or write that fails is said on standard error.
+#![tactic(auto)]
+
 ghost use Rattle.map.specs.Slices.{lent_at};
 ghost use Rattle.stream.specs.Feeding.{IsReady};
 
 mod usage;
 
+use std::env::{Env, FillError};
+use std::io;
 use stream::Progress;
 
-// Says that a read failed, if it did, by what the system's last error was: so nothing that fails may come between. Where the reports before it
-// could not be written, that has been said instead.
-fn say_read(told: bool, failed: bool) {
+// Says that a read failed, if it did, and why. Where the reports before it could not be written, that has been said instead.
+fn say_read(rt: &HostRuntime, told: bool, failure: Option<io::Error>) {
     if told {
-        if failed {
-            os::fail(b"follow: standard input");
+        if let Some(why) = failure {
+            feeding::system::say(rt, b"follow: standard input", why);
         }
     }
 }
 
 // Reports a last stretch without an ending, and says then that a read failed, if it did.
 fn end(
+    rt: &HostRuntime,
     progress: Progress,
     links: &mut [u64],
     pairs: &mut [u64],
@@ -28,7 +32,7 @@ fn end(
     odd: &mut [u64],
     line: &[u8],
     out: &mut [u8],
-    failed: bool,
+    failure: Option<io::Error>,
 )
     requires { IsReady progress links.old (lent_at pairs hops bounds skips even odd) line.now }
 {
@@ -36,12 +40,13 @@ fn end(
         progress, links, pairs, hops, bounds, skips, even, odd, line, out,
     );
     let written = fed.written;
-    let told = feeding::system::write_out(&out[..written], b"follow: standard output");
-    say_read(told, failed);
+    let told = feeding::system::write_out(rt, &out[..written], b"follow: standard output");
+    say_read(rt, told, failure);
 }
 
 // Follows standard input.
 fn follow(
+    rt: &HostRuntime,
     progress: Progress,
     links: &mut [u64],
     pairs: &mut [u64],
@@ -56,7 +61,9 @@ fn follow(
 )
     requires { IsReady progress links.old (lent_at pairs hops bounds skips even odd) line.old }
 {
+    let mut from = rt.stdin();
     let ended = feeding::answer_all(
+        rt,
         progress,
         links,
         pairs,
@@ -68,13 +75,14 @@ fn follow(
         line,
         out,
         input,
-        libc::STDIN_FILENO,
+        &mut from,
         b"follow: standard output",
         true,
     );
     if ended.finishing {
         let now = ended.progress;
         end(
+            rt,
             now,
             links,
             pairs,
@@ -85,14 +93,22 @@ fn follow(
             odd,
             &*line,
             out,
-            ended.failed,
+            ended.failure,
         );
     }
 }
 
-fn main() {
-    if os::arg_count() > 1 {
-        usage::print();
+// Whether there is an argument behind the program's name, whatever it is.
+fn has_argument(rt: &impl Env) -> bool {
+    match rt.arg(1, &mut []) {
+        Err(FillError::NotPresent) => false,
+        _ => true,
+    }
+}
+
+fn main(rt: HostRuntime) {
+    if has_argument(&rt) {
+        usage::print(&rt);
         return;
     }
     let mut links = [0u64; map::TABLE];
@@ -107,6 +123,7 @@ fn main() {
     let mut input = [0u8; 65536];
     let progress = stream::begin(&mut links, &mut pairs);
     follow(
+        &rt,
         progress,
         &mut links,
         &mut pairs,

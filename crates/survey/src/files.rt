@@ -1,37 +1,72 @@
 // The files of a run, by the arguments that name them. What fails is said on standard error: the program, the file's name and the system's words.
-ghost use Rattle.io.specs.Counts.{IsPrefixLen};
+ghost use Rattle.std.specs.Prelude.{◌≡◌, ◌≤◌, length, take};
 
-// A file's descriptor, negative where it cannot be opened, and how many bytes its name has.
-#[derive(Clone, Copy)]
+use std::env::{Env, FillError};
+use std::fs::File;
+use std::io;
+
+// As many bytes as the system takes for a file's name.
+pub const NAME_LIMIT: usize = 4096;
+
+// The system's numbers for a name that is too long, and for bytes that are no text.
+const TOO_LONG: i32 = 36;
+
+const NO_TEXT: i32 = 84;
+
+// A file, if it can be opened, and how many bytes its name has.
+#[derive(Drop)]
 pub struct Opened {
-    pub descriptor: i32,
+    pub file: Option<File>,
     pub named: usize,
 }
 
-// Says that the file of this name failed, by the system's last error: so nothing that fails may come between.
-pub fn say(name: &[u8]) {
-    io::write_all(libc::STDERR_FILENO, b"survey: ");
-    os::fail(name);
+// Says that the file of this name failed, and why.
+pub fn say(rt: &HostRuntime, name: &[u8], why: io::Error) {
+    let _ = rt.stderr().write_all(b"survey: ");
+    feeding::system::say(rt, name, why);
+}
+
+// How many arguments there are, with the program's name.
+pub fn count_arguments(rt: &impl Env) -> usize {
+    for i in 0..usize::MAX {
+        if let Err(FillError::NotPresent) = rt.arg(i, &mut []) {
+            return i;
+        }
+    }
+    usize::MAX
+}
+
+// Opens the file of this name, which has to be text.
+fn open_named(rt: &HostRuntime, name: &[u8]) -> io::Result<File> {
+    match str::from_utf8(name) {
+        Ok(path) => File::open(rt, path),
+        Err(_) => Err(io::Error::from_raw_os_error(NO_TEXT)),
+    }
 }
 
 // Opens the file that argument i names, and puts its name into the buffer. A name that does not fit there opens no file, and is said as far as it does.
-pub fn open_argument(name: &mut [u8], i: usize) -> Opened
-    ensures { IsPrefixLen result.named name.new }
+pub fn open_argument(rt: &HostRuntime, name: &mut [u8], i: usize) -> Opened
+    ensures within { result.named ≤ length name.new }
+    ensures whole { result.named ≡ length (take result.named name.new) }
 {
-    let n = os::arg(i, name);
-    if os::errno() != 0 {
-        say(&*name);
+    let Ok(n) = rt.arg(i, name) else {
+        say(rt, &*name, io::Error::from_raw_os_error(TOO_LONG));
         return Opened {
-            descriptor: -1,
-            named: n,
+            file: None,
+            named: 0,
         };
-    }
-    let descriptor = os::open_read(&name[..n]);
-    if descriptor < 0 {
-        say(&name[..n]);
-    }
-    Opened {
-        descriptor: descriptor,
-        named: n,
+    };
+    match open_named(rt, &name[..n]) {
+        Ok(file) => Opened {
+            file: Some(file),
+            named: n,
+        },
+        Err(why) => {
+            say(rt, &name[..n], why);
+            Opened {
+                file: None,
+                named: n,
+            }
+        }
     }
 }

@@ -1,5 +1,7 @@
 // The program: the network report of each notice file that is named as an argument, a line for each, and a last line that totals them. A file that cannot
 // be read is said on standard error, and counts as far as it was read; a write that fails is said too, and ends the run.
+#![tactic(auto)]
+
 ghost use Rattle.std.specs.Prelude.{◌≡◌, ◌+◌, ◌≤◌, ◌<◌, length};
 ghost use Rattle.map.specs.Slices.{lent_at, lent_after};
 ghost use Rattle.stream.specs.Feeding.{IsReady};
@@ -13,6 +15,7 @@ use summaries::Totals;
 
 // Follows the file that argument i names, as far as it can be read.
 fn follow_file(
+    rt: &HostRuntime,
     progress: Progress,
     links: &mut [u64],
     pairs: &mut [u64],
@@ -29,13 +32,14 @@ fn follow_file(
     requires { IsReady progress links.old (lent_at pairs hops bounds skips even odd) line.old }
     ensures { IsReady result links.new (lent_after pairs hops bounds skips even odd) line.new }
 {
-    let mut name = [0u8; libc::PATH_MAX];
-    let opened = files::open_argument(&mut name, i);
-    let descriptor = opened.descriptor;
-    if descriptor < 0 {
+    let mut name = [0u8; files::NAME_LIMIT];
+    let opened = files::open_argument(rt, &mut name, i);
+    let named = opened.named;
+    let Some(mut file) = opened.file else {
         return progress;
-    }
+    };
     let ended = feeding::answer_all(
+        rt,
         progress,
         links,
         pairs,
@@ -47,15 +51,13 @@ fn follow_file(
         line,
         out,
         input,
-        descriptor,
+        &mut file,
         b"survey: standard output",
         false,
     );
-    if ended.failed {
-        let named = opened.named;
-        files::say(&name[..named]);
+    if let Some(why) = ended.failure {
+        files::say(rt, &name[..named], why);
     }
-    libc::close(descriptor);
     ended.progress
 }
 
@@ -67,7 +69,13 @@ struct Surveyed {
 }
 
 // Reports on the file that argument i names, followed from an empty map, and adds it to the totals.
-fn survey_file(out: &mut [u8], input: &mut [u8], totals: Totals, i: usize) -> Surveyed
+fn survey_file(
+    rt: &HostRuntime,
+    out: &mut [u8],
+    input: &mut [u8],
+    totals: Totals,
+    i: usize,
+) -> Surveyed
     requires { (room ≤ length out.old) × AreOfFiles totals × (totals.files < files_limit) }
     ensures { AreOfFiles result.totals × (result.totals.files ≡ totals.files + 1) }
 {
@@ -82,6 +90,7 @@ fn survey_file(out: &mut [u8], input: &mut [u8], totals: Totals, i: usize) -> Su
     let mut counts = [0u16; map::PLACES];
     let begun = stream::begin(&mut links, &mut pairs);
     let followed = follow_file(
+        rt,
         begun,
         &mut links,
         &mut pairs,
@@ -99,7 +108,7 @@ fn survey_file(out: &mut [u8], input: &mut [u8], totals: Totals, i: usize) -> Su
     let answer = summary::summarise(rec, &links, &mut hops, &mut even, &mut odd, &mut counts);
     let put = summaries::put_file(out, 0, totals, answer);
     let end = put.at;
-    let told = feeding::system::write_out(&out[..end], b"survey: standard output");
+    let told = feeding::system::write_out(rt, &out[..end], b"survey: standard output");
     let with = put.totals;
     Surveyed {
         totals: with,
@@ -108,7 +117,7 @@ fn survey_file(out: &mut [u8], input: &mut [u8], totals: Totals, i: usize) -> Su
 }
 
 // Reports on so many files, as long as their lines can be written.
-fn survey_files(out: &mut [u8], input: &mut [u8], count: u32) -> Surveyed
+fn survey_files(rt: &HostRuntime, out: &mut [u8], input: &mut [u8], count: u32) -> Surveyed
     requires { (room ≤ length out.old) × (count ≤ files_limit) }
 {
     let none = Totals {
@@ -122,7 +131,7 @@ fn survey_files(out: &mut [u8], input: &mut [u8], count: u32) -> Surveyed
     };
     while now.totals.files < count {
         let totals = now.totals;
-        now = survey_file(out, input, totals, totals.files as usize + 1);
+        now = survey_file(rt, out, input, totals, totals.files as usize + 1);
         if !now.going {
             return now;
         }
@@ -130,14 +139,14 @@ fn survey_files(out: &mut [u8], input: &mut [u8], count: u32) -> Surveyed
     now
 }
 
-fn main() {
+fn main(rt: HostRuntime) {
     let mut out = [0u8; 65536];
     let mut input = [0u8; 65536];
-    let count = summaries::files_read(os::arg_count());
-    let surveyed = survey_files(&mut out, &mut input, count);
+    let count = summaries::files_read(files::count_arguments(&rt));
+    let surveyed = survey_files(&rt, &mut out, &mut input, count);
     if surveyed.going {
         let totals = surveyed.totals;
         let end = summaries::put_total(&mut out, 0, totals);
-        feeding::system::write_out(&out[..end], b"survey: standard output");
+        feeding::system::write_out(&rt, &out[..end], b"survey: standard output");
     }
 }

@@ -30,13 +30,12 @@ pub fn both(a: bool, b: bool) -> bool {
     if a { b } else { false }
 }
 
-// A line for a group: what was tried, how many cases, and whether all came out as expected.
-pub fn print(what: &[u8], t: Tally) {
-    io::write_all(1, what);
-    io::print_decimal(1, t.tried as u64);
-    if t.ok {
-        io::write_all(1, b" cases, ok\n");
+// A line for a group: what was tried, how many cases, and whether all came out as expected. Where it cannot be written, nothing is left to say it to.
+pub fn print(rt: &impl Print, what: &str, t: Tally) {
+    let tried = t.tried;
+    let _ = if t.ok {
+        println!(rt; "{what}{tried} cases, ok")
     } else {
-        io::write_all(1, b" cases, DIFFERENT\n");
-    }
+        println!(rt; "{what}{tried} cases, DIFFERENT")
+    };
 }
