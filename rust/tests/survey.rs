@@ -17,7 +17,6 @@ use std::fs::{self, File};
 use std::io::Write;
 use std::os::unix::ffi::OsStrExt;
 use std::os::unix::fs::PermissionsExt;
-use std::os::unix::process::ExitStatusExt;
 use std::path::{Path, PathBuf};
 use std::process::{Child, Command, Stdio};
 use std::sync::atomic::{AtomicUsize, Ordering};
@@ -359,7 +358,9 @@ fn a_name_that_is_no_text() {
     let folder = Folder::new();
     let name = OsStr::from_bytes(b"a\xFF \n\xC3");
     folder.put(name, PAIR);
-    assert_eq!(folder.run(&[name]), ("1 1 1 0\n1 1 1 0\n".into(), "".into()));
+    let output = folder.start(&[name]).wait_with_output().expect("it ends");
+    assert_eq!((output.status.code(), output.stdout.as_slice()), (Some(0), b"R15\n0 0 0 0\n".as_slice()));
+    assert_eq!(output.stderr, b"survey: a\xFF \n\xC3: Invalid or incomplete multibyte or wide character\n");
 }
 
 /// 4,095 bytes name a file; with one more, or with 256 between two slashes, they are too long for the system.
@@ -521,7 +522,7 @@ fn a_million_lines_of_a_fifo_that_stays_open() {
     drop(kept);
 }
 
-/// A closed pipe ends the program by its signal, 13.
+/// On a closed pipe the write fails: that is said, and ends the run.
 #[test]
 fn a_closed_pipe() {
     let folder = Folder::with_two();
@@ -530,5 +531,5 @@ fn a_closed_pipe() {
     drop(child.stdout.take());
     feed(fifo, drop);
     let output = child.wait_with_output().expect("it ends");
-    assert_eq!((output.status.signal(), output.stderr.as_slice()), (Some(13), b"".as_slice()));
+    assert_eq!((output.status.code(), output.stderr.as_slice()), (Some(0), b"survey: standard output: Broken pipe\n".as_slice()));
 }
