@@ -1,4 +1,4 @@
-// The opening on a record that is lent by `&mut` (rule 12.9): a thin function over the step by value, whose proof is a walk of its code by hand.
+// The opening on a record that is lent by `&mut` (rule 12.9): a thin function over the step by value.
 
 #![tactic(auto)]
 
