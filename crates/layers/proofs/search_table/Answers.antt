@@ -13,7 +13,7 @@ loop-k-init c =
 pub returns-then-not-step : goal.returns-then-not-step
 returns-then-not-step c =
     end_even _ _ _ c.requires.0.most _ _ _ _ _ _ _ c.loop-k.invariant.0 _ _ _ _ c.step.ensures
-    (not-true _ c.if-not-step.true-raw) c.if-k-eq0.true
+    (not-true _ c.if-not-step.true-raw) (omega arith)
     ∙ from_loop _ _ _ _ _ _ _ _ _ c.begin.ensures
 
 pub overflow_add-k : goal.overflow_add-k

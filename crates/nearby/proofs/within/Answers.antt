@@ -15,7 +15,7 @@ returns-then-codes-lt-PLACES c = within_refused base _ _ _ _ _ _ (within_short b
 
 pub returns-then-refusal-ne0 : goal.returns-then-refusal-ne0
 returns-then-refusal-ne0 c =
-    within_refused base _ _ _ _ _ _ (c.search_refusal-refusal.ensures ∙ within_as_search base _ _ _ _ _ c.if-codes-lt-PLACES.false) c.if-refusal-ne0.true
+    within_refused base _ _ _ _ _ _ (c.search_refusal-refusal.ensures ∙ within_as_search base _ _ _ _ _ (omega arith)) c.if-refusal-ne0.true
 
 -- what refuses a search does not hold
 unrefused : (c : Else-refusal-ne0) → let a = c.args in search_refusal base a.rec a.links.now (length a.hops.now) (length a.even.now)
@@ -33,10 +33,10 @@ list_within-count-requires c =
     let g = granted base _ _ _ _ _ _ base_shape (unrefused (goal.at.list_within-count-requires c).Else-refusal-ne0) in (
       omega arith,
       omega (arith, c.search_sound.auto, g.long.hops),
-      omega (arith, c.if-codes-lt-PLACES.false),
+      omega arith,
     )
 
 pub returns : goal.returns
 returns c =
     within_accepted base base_shape _ _ _ _ (unrefused (goal.at.returns c).Else-refusal-ne0) c.search_sound.ensures
-    _ _ c.if-codes-lt-PLACES.false c.list_within-count.ensures
+    _ _ (omega arith) c.list_within-count.ensures

@@ -50,4 +50,4 @@ pub returns : goal.returns
 unfolding written_of
 returns c =
     report_done_lem _ (line_placed _ c.put_number-a.ensures c.put_outcome-b.ensures.0
-    c.put_figures-end.ensures (omega (arith, number_fits (goal.at.returns c).Start, figures-fit (goal.at.returns c).Start))) c.if-line-lt-BUFFER_LIMIT.false
+    c.put_figures-end.ensures (omega (arith, number_fits (goal.at.returns c).Start, figures-fit (goal.at.returns c).Start))) (omega arith)
