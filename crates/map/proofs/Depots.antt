@@ -12,9 +12,8 @@ use Rattle.lists.specs.Lists.{from, range, filterb}
 use Rattle.lists.proofs.Tests.{look, clash, true→t, lt_or_ge}
 use Rattle.lists.proofs.Members.{filter-ext, filter_none, filter_out, from_out}
 use Rattle.rows.specs.Rows.{row_bit}
+use Rattle.std.specs.Prelude.{Option, Some, None}
 use Rattle.rows.specs.Next.{NextIs}
-use Rattle.rows.specs.declared.Next.{Next}
-use Rattle.rows.specs.declared.Next.TheVariants.{At, Nothing}
 use Rattle.map.specs.Memory.{network_of}
 use Rattle.map.specs.Depots.{depots_from, NextOpen}
 
@@ -67,11 +66,11 @@ none_of p start h xs =
 
 -- ---- the row's answer is the network's
 
-pub next_depot : (W : ℕ) (members links : List ℕ) (start : ℕ) (r : Next) → NextIs W members start r → NextOpen (network_of W members links) start r
+pub next_depot : (W : ℕ) (members links : List ℕ) (start : ℕ) (r : Option ℕ) → NextIs W members start r → NextOpen (network_of W members links) start r
 unfolding network_of depots_from range
-next_depot W members links start (At v) n = record {
+next_depot W members links start (Some v) n = record {
   after = n.after;
   is_open = true→t n.here;
   first = first_of (row_bit W members) start v n.here n.after n.first 0 (64 * W) (omega arith) (omega (arith, n.inside));
 }
-next_depot W members links start Nothing n = none_of (row_bit W members) start n (range (64 * W))
+next_depot W members links start None n = none_of (row_bit W members) start n (range (64 * W))

@@ -18,7 +18,7 @@ use Rattle.rows.proofs.Written.{row_in, row_past, table_read}
 use Rattle.map.specs.Memory.{Shape, table_words, base}
 use Rattle.map.specs.Empty.{zeros, empty_record, empty_refusal, empty_given, empty_call}
 use Rattle.map.specs.declared.Record.{Record}
-use Rattle.map.specs.declared.Emptying.TheVariants.{Done, Refused}
+use Rattle.map.specs.Empty.{Done, Refused}
 
 -- ---- zeros
 

@@ -1,12 +1,10 @@
 -- THE DEPOTS IN RISING CODE, one after the other, as `next_open` answers them. A caller goes by the list alone: how codes lie in rows is no matter of
 -- its proof. Nobody has to believe this file.
 -- Assumes nothing.
-use Rattle.std.specs.Prelude.{◌≡◌, List, [], ◌∷◌, ℕ, suc, ◌≤◌, T, leb}
+use Rattle.std.specs.Prelude.{◌≡◌, List, [], ◌∷◌, ℕ, suc, ◌≤◌, T, leb, Option, Some, None}
 use Rattle.lists.specs.Lists.{filterb}
 use Rattle.graph.specs.Network.{Network}
 use Rattle.graph.specs.Distance.{vertices}
-use Rattle.rows.specs.declared.Next.{Next}
-use Rattle.rows.specs.declared.Next.TheVariants.{At, Nothing}
 
 -- the open depots whose code is at or past start, in their order
 unfoldable pub depots_from : Network → ℕ → List ℕ
@@ -18,7 +16,7 @@ pub record IsNextOpen (G : Network) (start v : ℕ) : Type 0 where
   pub is_open : T (G.is_open v)
   pub first : depots_from G start ≡ v ∷ depots_from G (suc v)
 
--- The answer is the first of them, and Nothing where there is none.
-abbrev pub NextOpen : Network → ℕ → Next → Type 0
-NextOpen G start (At v) = IsNextOpen G start v
-NextOpen G start Nothing = depots_from G start ≡ []
+-- The answer is the first of them, and None where there is none.
+abbrev pub NextOpen : Network → ℕ → Option ℕ → Type 0
+NextOpen G start (Some v) = IsNextOpen G start v
+NextOpen G start None = depots_from G start ≡ []

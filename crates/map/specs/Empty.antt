@@ -1,6 +1,6 @@
 -- EMPTYING A MAP (rule 8.4). `emptied_is_empty` (proofs/Theorems) says what that means.
 -- Assumes nothing.
-use Rattle.std.specs.Prelude.{◌≡◌, false, not, ◌&&◌, List, [], ◌∷◌, ℕ, zero, suc, leb, length}
+use Rattle.std.specs.Prelude.{◌≡◌, false, not, ◌&&◌, List, [], ◌∷◌, ℕ, zero, suc, leb, length, Result, Ok, Err}
 use Rattle.lists.specs.Lists.{range, mapl, overwrite, first_of}
 use Rattle.lists.specs.Conditions.{Refuses, IsShort}
 use Rattle.outcome.specs.Numbers.{short_buffer}
@@ -8,15 +8,19 @@ use Rattle.rows.specs.Rows.{table_bit}
 use Rattle.graph.specs.Network.{HasNoYard}
 use Rattle.map.specs.Memory.{Shape, table_words, yard_network}
 use Rattle.map.specs.declared.Record.{Record}
-use Rattle.map.specs.declared.Emptied.{Emptied}
-use Rattle.map.specs.declared.Emptying.{Emptying}
-use Rattle.map.specs.declared.Emptying.TheVariants.{Done, Refused}
+use Rattle.outcome.specs.Refusals.{number_of}
+use Rattle.outcome.specs.declared.Refusal.{Refusal}
 
 unfoldable pub zeros : ℕ → List ℕ
 zeros n = mapl (λ i. 0) (range n)
 
 unfoldable pub empty_record : ℕ → Record
 empty_record W = record { members = zeros W; number = 0; chain = 0; count = 0; yards = zeros W }
+
+-- the answer: done, or the refusal's number
+pub data Emptying : Type 0 where
+  Done : Emptying
+  Refused : ℕ → Emptying
 
 -- the number for each case of the answer: the refusal, 0 for none
 abbrev pub emptying_number : Emptying → ℕ
@@ -30,8 +34,10 @@ pub record EmptyLeft : Type 0 where
   pub links : List ℕ
   pub pairs : List ℕ
 
-abbrev pub empty_left : Emptied → List ℕ → List ℕ → EmptyLeft
-empty_left r l p = record { answer = r.answer; after = r.after; links = l; pairs = p }
+-- of a call that was passed the record rec: one that is refused hands out none, and rec stands
+abbrev pub empty_left : Record → Result Record Refusal → List ℕ → List ℕ → EmptyLeft
+empty_left rec (Ok r) l p = record { answer = Done; after = r; links = l; pairs = p }
+empty_left rec (Err k) l p = record { answer = Refused (number_of k); after = rec; links = l; pairs = p }
 
 unfoldable pub empty_refusal : Shape → List ℕ → List ℕ → ℕ
 empty_refusal K links pairs = first_of ((not (leb (table_words K) (length links) && leb (table_words K) (length pairs)), short_buffer) ∷ [])

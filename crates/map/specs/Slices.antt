@@ -1,10 +1,55 @@
--- THE LENT SLICES AS ONE VALUE, so that a contract names them once: by the references that a `requires` sees, and by those of an `ensures`, each
+-- THE LENT SLICES AS ONE VALUE: what stands in those that travel together in a struct, and that it lends the same ones after a call; and of slices that a
+-- call is lent one by one, so that a contract names them once: by the references that a `requires` sees, and by those of an `ensures`, each
 -- at both moments of the call.
 -- Assumes nothing.
-use Rattle.std.specs.Prelude.{List, ℕ, length}
+use Rattle.std.specs.Prelude.{◌≡◌, List, ℕ, length}
 use Rattle.std.specs.Borrow.{MutBor}
 use denote.Triple.Both.{Both}
+use Rattle.map.specs.Memory.{base, places, table_words}
 use Rattle.map.specs.Room.{Tables, tables, Lent, lent, Sizes, sizes}
+use Rattle.map.specs.declared.Room.{Room}
+use Rattle.map.specs.declared.Scratch.{Scratch}
+
+-- ---- the slices of a struct
+
+-- what stands in the tables of a search, and in the lent tables
+abbrev pub tables_in : Scratch → Tables
+tables_in s = tables s.hops.now s.even.now s.odd.now
+
+abbrev pub lent_in : Room → Lent
+lent_in r = lent r.pairs.now (tables r.hops.now r.even.now r.odd.now) r.bounds.now r.skips.now
+
+-- their lengths, behind a link table of so many words; what a search is not lent counts as whole
+abbrev pub scratch_sizes : ℕ → Scratch → Sizes
+scratch_sizes links s =
+    sizes links (table_words base) (length s.hops.now) (places base) (places base) (length s.even.now) (length s.odd.now)
+
+abbrev pub room_sizes : ℕ → Room → Sizes
+room_sizes links r =
+    sizes
+    links
+    (length r.pairs.now)
+    (length r.hops.now)
+    (length r.bounds.now)
+    (length r.skips.now)
+    (length r.even.now)
+    (length r.odd.now)
+
+-- each field lends the buffer that it lent
+pub record IsSameScratch (s t : Scratch) : Type 0 where
+  pub hops : s.hops.ghost_name ≡ t.hops.ghost_name
+  pub even : s.even.ghost_name ≡ t.even.ghost_name
+  pub odd : s.odd.ghost_name ≡ t.odd.ghost_name
+
+pub record IsSameRoom (r q : Room) : Type 0 where
+  pub pairs : r.pairs.ghost_name ≡ q.pairs.ghost_name
+  pub hops : r.hops.ghost_name ≡ q.hops.ghost_name
+  pub bounds : r.bounds.ghost_name ≡ q.bounds.ghost_name
+  pub skips : r.skips.ghost_name ≡ q.skips.ghost_name
+  pub even : r.even.ghost_name ≡ q.even.ghost_name
+  pub odd : r.odd.ghost_name ≡ q.odd.ghost_name
+
+-- ---- slices one by one
 
 -- a slice of numbers, and one at both moments
 abbrev pub Slice : Type 0

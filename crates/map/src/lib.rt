@@ -8,11 +8,12 @@ ghost use Rattle.rows.specs.Rows.{row_bit, encode_row};
 ghost use Rattle.graph.specs.Network.{delivers};
 ghost use Rattle.map.specs.Memory.{base, network_of, yard_network};
 ghost use Rattle.map.specs.Room.{sizes, long_enough};
+ghost use Rattle.map.specs.Slices.{scratch_sizes, room_sizes};
 ghost use Rattle.map.specs.Bits.{IsLent, sound_link, sound_yards, sound_pair};
 ghost use Rattle.map.specs.Depots.{NextOpen};
 ghost use Rattle.map.specs.Empty.{empty_record, empty_left, empty_call};
 
-use rows::Next;
+use outcome::Refusal;
 
 // ---- the shape of a map, in specifications `base` (specs/Memory)
 
@@ -44,7 +45,7 @@ pub fn is_open(members: &[u64], words: usize, v: usize) -> bool
 }
 
 // The open depot with the lowest code at or past `from`. Whatever goes through the depots in rising code asks here.
-pub fn next_open(members: &[u64], words: usize, from: usize) -> Next
+pub fn next_open(members: &[u64], words: usize, from: usize) -> Option<usize>
     requires { (words ≤ length members.now) × (words < 2 ^ 32) }
     ensures { NextOpen (network_of words members.now []) from result }
 {
@@ -59,10 +60,8 @@ pub fn keep_delivering(members: &mut [u64], yards: &[u64], words: usize)
     ensures { let G = yard_network words members.old yards.now [] in
         members.new ≡ overwrite (encode_row words (delivers G)) members.old }
 {
-    let mut j = 0;
-    while j < words {
+    for j in 0..words {
         members[j] = members[j] & !yards[j];
-        j += 1;
     }
 }
 
@@ -71,12 +70,10 @@ pub fn yards_are_open(members: &[u64], yards: &[u64], words: usize) -> bool
     requires { (words ≤ length members.now) × (words ≤ length yards.now) }
     ensures { result ≡ sound_yards (64 * words) (yard_network words members.now yards.now []) }
 {
-    let mut j = 0;
-    while j < words {
+    for j in 0..words {
         if yards[j] & !members[j] != 0 {
             return false;
         }
-        j += 1;
     }
     true
 }
@@ -149,6 +146,59 @@ pub fn are_long(
     WORDS <= odd
 }
 
+// What a search is lent: the hop table and the two layer rows.
+#[derive(Drop)]
+pub struct Scratch<'a> {
+    pub hops: &'a mut [u16],
+    pub even: &'a mut [u64],
+    pub odd: &'a mut [u64],
+}
+
+impl Scratch<'_> {
+    // Whether these, and a link table of this length, have their named sizes.
+    pub fn is_long(&self, links: usize) -> bool
+        ensures { result ≡ long_enough base (scratch_sizes links self.now) }
+    {
+        are_long(
+            links,
+            TABLE,
+            self.hops.len(),
+            PLACES,
+            PLACES,
+            self.even.len(),
+            self.odd.len(),
+        )
+    }
+}
+
+// What a reckoning, an opening or a link is lent beside the link table: pair, hop, bound and skip table, and the two layer rows.
+#[derive(Drop)]
+pub struct Room<'a> {
+    pub pairs: &'a mut [u64],
+    pub hops: &'a mut [u16],
+    pub bounds: &'a mut [u16],
+    pub skips: &'a mut [u16],
+    pub even: &'a mut [u64],
+    pub odd: &'a mut [u64],
+}
+
+impl Room<'_> {
+    // Whether these, and a link table of this length, have their named sizes.
+    pub fn is_long(&self, links: usize) -> bool
+        ensures { result ≡ long_enough base (room_sizes links self.now) }
+    {
+        are_long(
+            links,
+            self.pairs.len(),
+            self.hops.len(),
+            self.bounds.len(),
+            self.skips.len(),
+            self.even.len(),
+            self.odd.len(),
+        )
+    }
+}
+
 // ---- emptying
 
 // The record of one map: the members of the open set (one row), number open, longest chain, pair count, and the yard set (one row).
@@ -174,42 +224,16 @@ pub fn empty_record() -> Record
     }
 }
 
-// The answer of emptying: done, or the refusal's number.
-#[derive(Clone, Copy)]
-pub enum Emptying {
-    Done,
-    Refused(u8),
-}
-
-// What emptying a map leaves: its answer and the record.
-#[derive(Clone, Copy)]
-pub struct Emptied {
-    pub answer: Emptying,
-    pub after: Record,
-}
-
-// Empties a map: both tables and the record become zero. Refused only with 1, where a table is short.
+// Empties a map: both tables become zero, and the record handed out is the empty map's. Refused only with 1, where a table is short: then the record
+// that was passed stands.
 // A table is cleared as one row of 1,024 words.
-pub fn empty_map(rec: Record, links: &mut [u64], pairs: &mut [u64]) -> Emptied
-    ensures { empty_left result links.new pairs.new ≡ empty_call base rec links.old pairs.old }
+pub fn empty_map(rec: Record, links: &mut [u64], pairs: &mut [u64]) -> Result<Record, Refusal>
+    ensures { empty_left rec result links.new pairs.new ≡ empty_call base rec links.old pairs.old }
 {
-    if links.len() < TABLE {
-        return Emptied {
-            answer: Emptying::Refused(outcome::SHORT),
-            after: rec,
-        };
-    }
-    if pairs.len() < TABLE {
-        return Emptied {
-            answer: Emptying::Refused(outcome::SHORT),
-            after: rec,
-        };
+    if links.len() < TABLE || pairs.len() < TABLE {
+        return Err(Refusal::Short);
     }
     rows::clear(links, TABLE);
     rows::clear(pairs, TABLE);
-    let none = empty_record();
-    Emptied {
-        answer: Emptying::Done,
-        after: none,
-    }
+    Ok(empty_record())
 }

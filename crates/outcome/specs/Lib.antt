@@ -2,3 +2,5 @@
 pub mod Outcome
 -- Numbers of the table of refusals.
 pub mod Numbers
+-- The number of each refusal, and of what a test answers.
+pub mod Refusals

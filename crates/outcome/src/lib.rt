@@ -1,41 +1,68 @@
-// What an opening call answers: the change of the longest chain, or the number of its refusal.
+// What calls answer: why one is refused, and of an opening how the longest chain changed.
 
 #![tactic(auto)]
 
 ghost use Rattle.std.specs.Prelude.{◌≡◌};
 ghost use Rattle.outcome.specs.Outcome.{letter_of};
+ghost use Rattle.outcome.specs.Refusals.{number_of};
 
-// ---- the numbers of the refusals (rule 8.1); in specifications, `specs/Numbers`
+use std::error::Error;
+use std::fmt;
 
-pub const SHORT: u8 = 1;
+// ---- the refusals (rule 8.1)
 
-pub const SPOILT: u8 = 2;
+// Why a call is refused: the first of these that holds. Each has the word that the scanner's trade has for it; in specifications, `specs/Numbers`.
+#[derive(Clone, Copy, Debug, PartialEq, Eq)]
+pub enum Refusal {
+    Short = 1,
+    Spoilt,
+    Apart,
+    Absent,
+    Taken,
+    Lonely,
+    Unsorted,
+    Unknown,
+    Garbled,
+    Nobody,
+    Overfull,
+    Bare,
+    Itself,
+    Linked,
+    TooFew,
+}
 
-pub const APART: u8 = 3;
+impl Refusal {
+    // The number that the scanner shows for a refusal.
+    pub fn number(self) -> u8
+        ensures { result ≡ number_of self }
+    {
+        self as u8
+    }
+}
 
-pub const ABSENT: u8 = 4;
+impl fmt::Display for Refusal {
+    fn fmt<W: fmt::Write>(&self, f: &mut fmt::Formatter<W>) -> fmt::Result {
+        f.write_str(match self {
+            Refusal::Short => "short",
+            Refusal::Spoilt => "spoilt",
+            Refusal::Apart => "apart",
+            Refusal::Absent => "absent",
+            Refusal::Taken => "taken",
+            Refusal::Lonely => "lonely",
+            Refusal::Unsorted => "unsorted",
+            Refusal::Unknown => "unknown",
+            Refusal::Garbled => "garbled",
+            Refusal::Nobody => "nobody",
+            Refusal::Overfull => "overfull",
+            Refusal::Bare => "bare",
+            Refusal::Itself => "itself",
+            Refusal::Linked => "linked",
+            Refusal::TooFew => "too few",
+        })
+    }
+}
 
-pub const TAKEN: u8 = 5;
-
-pub const LONELY: u8 = 6;
-
-pub const UNSORTED: u8 = 7;
-
-pub const UNKNOWN: u8 = 8;
-
-pub const GARBLED: u8 = 9;
-
-pub const NOBODY: u8 = 10;
-
-pub const OVERFULL: u8 = 11;
-
-pub const BARE: u8 = 12;
-
-pub const ITSELF: u8 = 13;
-
-pub const LINKED: u8 = 14;
-
-pub const TOO_FEW: u8 = 15;
+impl Error for Refusal {}
 
 // ---- the answer
 
@@ -47,7 +74,8 @@ pub enum Change {
     Shrank,
 }
 
-// An accepted call holds the change, a refused one its number.
+// An accepted call holds the change, a refused one its number. It is no `Result`: a rule of the project names this form, and a report line shows any number
+// of eight bits.
 #[derive(Clone, Copy)]
 pub enum Outcome {
     Accepted(Change),

@@ -45,35 +45,28 @@ pub fn degree(t: &[u64], words: usize, u: usize) -> usize
     sum
 }
 
-// A member of a row, or none.
-#[derive(Clone, Copy)]
-pub enum Next {
-    At(usize),
-    Nothing,
-}
-
 // The least member of a row that is at or past from. The bound on words keeps its number in a usize.
-pub fn next_member(row: &[u64], words: usize, from: usize) -> Next
+pub fn next_member(row: &[u64], words: usize, from: usize) -> Option<usize>
     requires { (words ≤ length row.now) × (words < 2 ^ 32) }
     ensures { NextIs words row.now from result }
 {
     let i = from / 64;
     if words <= i {
-        return Next::Nothing;
+        return None;
     }
     let w = row[i] >> (from % 64);
     if w != 0 {
-        return Next::At(from + words::least(w));
+        return Some(from + words::least(w));
     }
     let mut j = i + 1;
     while j < words {
         let x = row[j];
         if x != 0 {
-            return Next::At(64 * j + words::least(x));
+            return Some(64 * j + words::least(x));
         }
         j += 1;
     }
-    Next::Nothing
+    None
 }
 
 // Whether a row has no member.

@@ -1,4 +1,4 @@
--- `map::keep_delivering` meets its contract: after j turns the first j words are without their yards. The measure is the words left.
+-- `map::keep_delivering` meets its contract: after j turns the first j words are without their yards.
 use native.Mathlib.Omega.{arith}
 use Rattle.map.proofs.Yards.{delivering_start, delivering_next, delivering_end}
 use Rattle.map.proofs.keep_delivering.Goals as goal

@@ -1,4 +1,4 @@
--- `map::yards_are_open` meets its contract: the yards in the words that are done are open. The measure is the words left.
+-- `map::yards_are_open` meets its contract: the yards in the words that are done are open.
 use native.Mathlib.Omega.{arith}
 use Rattle.map.proofs.Yards.{yards_start, yards_next, yards_end, yards_fault}
 use Rattle.map.proofs.yards_are_open.Goals as goal

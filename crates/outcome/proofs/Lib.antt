@@ -1,0 +1,2 @@
+-- The discriminants of the refusals.
+pub mod Numbering
