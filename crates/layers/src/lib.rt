@@ -4,35 +4,29 @@
 
 ghost use Rattle.std.specs.Prelude.{◌≡◌, ◌*◌, ◌<◌, ◌≤◌, length};
 ghost use Rattle.layers.specs.Layers.{searched, search_table};
-ghost use Rattle.map.specs.Slices.{tables_before, tables_after};
+ghost use Rattle.map.specs.Slices.{tables_in, IsSameScratch};
 ghost use Rattle.frontier.specs.Steps.{SearchRoom};
 ghost use Rattle.layers.specs.Begin.{search_begun, search_begin_of};
 
+use map::Scratch;
+
 // The start of a search: no hop, the start alone in the even row and seen.
-fn begin(
-    hops: &mut [u16],
-    even: &mut [u64],
-    odd: &mut [u64],
-    seen: &mut [u64],
-    words: usize,
-    start: usize,
-)
+fn begin(scratch: &mut Scratch<'_>, seen: &mut [u64], words: usize, start: usize)
     requires { (0 < words)
         × (words < 513)
-        × (64 * words ≤ length hops.old)
-        × (words ≤ length even.old)
-        × (words ≤ length odd.old)
+        × (64 * words ≤ length scratch.old.hops.now)
+        × (words ≤ length scratch.old.even.now)
+        × (words ≤ length scratch.old.odd.now)
         × (words ≤ length seen.old)
         × (start < 64 * words) }
-    ensures { let before = tables_before hops even odd in
-        let after = tables_after hops even odd in
-        search_begun after seen.new ≡ search_begin_of words start before seen.old }
+    ensures same { IsSameScratch scratch.old scratch.new }
+    ensures begun { search_begun (tables_in scratch.new) seen.new ≡ search_begin_of words start (tables_in scratch.old) seen.old }
 {
-    rows::fill(hops, 64 * words, map::UNREACHED);
-    rows::clear(even, words);
-    rows::clear(odd, words);
+    rows::fill(scratch.hops, 64 * words, map::UNREACHED);
+    rows::clear(scratch.even, words);
+    rows::clear(scratch.odd, words);
     rows::clear(seen, words);
-    rows::row_set(even, words, 0, start);
+    rows::row_set(scratch.even, words, 0, start);
     rows::row_set(seen, words, 0, start);
 }
 
@@ -40,25 +34,25 @@ fn begin(
 // What stands in seen and next afterwards is free.
 pub fn search_table(
     links: &[u64],
-    hops: &mut [u16],
-    even: &mut [u64],
-    odd: &mut [u64],
+    scratch: &mut Scratch<'_>,
     seen: &mut [u64],
     next: &mut [u64],
     words: usize,
     start: usize,
 ) -> u16
-    requires { SearchRoom words links.now hops.old
-        × (words ≤ length even.old)
-        × (words ≤ length odd.old)
+    requires { SearchRoom words links.now scratch.old.hops.now
+        × (words ≤ length scratch.old.even.now)
+        × (words ≤ length scratch.old.odd.now)
         × (words ≤ length seen.old)
         × (words ≤ length next.old)
         × (start < 64 * words) }
-    ensures { let before = tables_before hops even odd in
-        let after = tables_after hops even odd in
-        searched result after ≡ search_table words links.now start before }
+    ensures same { IsSameScratch scratch.old scratch.new }
+    ensures left { searched result (tables_in scratch.new) ≡ search_table words links.now start (tables_in scratch.old) }
 {
-    begin(hops, even, odd, seen, words, start);
+    begin(scratch, seen, words, start);
+    let hops = &mut *scratch.hops;
+    let even = &mut *scratch.even;
+    let odd = &mut *scratch.odd;
     let mut k: u16 = 0;
     loop {
         if k % 2 == 0 {

@@ -10,6 +10,10 @@ use Rattle.map.specs.Room.{Tables, tables, Lent, lent, Sizes, sizes}
 use Rattle.map.specs.declared.Room.{Room}
 use Rattle.map.specs.declared.Scratch.{Scratch}
 
+-- a slice of numbers
+abbrev pub Slice : Type 0
+Slice = MutBor (List ℕ)
+
 -- ---- the slices of a struct
 
 -- what stands in the tables of a search, and in the lent tables
@@ -35,26 +39,28 @@ room_sizes links r =
     (length r.even.now)
     (length r.odd.now)
 
+-- it is the same buffer, of the same length
+pub record IsSameSlice (s t : Slice) : Type 0 where
+  pub name : s.ghost_name ≡ t.ghost_name
+  pub long : length s.now ≡ length t.now
+
 -- each field lends the buffer that it lent
 pub record IsSameScratch (s t : Scratch) : Type 0 where
-  pub hops : s.hops.ghost_name ≡ t.hops.ghost_name
-  pub even : s.even.ghost_name ≡ t.even.ghost_name
-  pub odd : s.odd.ghost_name ≡ t.odd.ghost_name
+  pub hops : IsSameSlice s.hops t.hops
+  pub even : IsSameSlice s.even t.even
+  pub odd : IsSameSlice s.odd t.odd
 
 pub record IsSameRoom (r q : Room) : Type 0 where
-  pub pairs : r.pairs.ghost_name ≡ q.pairs.ghost_name
-  pub hops : r.hops.ghost_name ≡ q.hops.ghost_name
-  pub bounds : r.bounds.ghost_name ≡ q.bounds.ghost_name
-  pub skips : r.skips.ghost_name ≡ q.skips.ghost_name
-  pub even : r.even.ghost_name ≡ q.even.ghost_name
-  pub odd : r.odd.ghost_name ≡ q.odd.ghost_name
+  pub pairs : IsSameSlice r.pairs q.pairs
+  pub hops : IsSameSlice r.hops q.hops
+  pub bounds : IsSameSlice r.bounds q.bounds
+  pub skips : IsSameSlice r.skips q.skips
+  pub even : IsSameSlice r.even q.even
+  pub odd : IsSameSlice r.odd q.odd
 
 -- ---- slices one by one
 
--- a slice of numbers, and one at both moments
-abbrev pub Slice : Type 0
-Slice = MutBor (List ℕ)
-
+-- a slice at both moments
 abbrev pub Moments : Type 0
 Moments = Both Slice Slice
 

@@ -2,8 +2,8 @@
 use Rattle.layers.proofs.Searching.{alone, begin_is}
 use Rattle.layers.proofs.begin.Goals as goal
 
-pub returns : goal.returns
-returns c =
+pub returns-clause-begun : goal.returns-clause-begun
+returns-clause-begun c =
     let low = c.requires.6 in
     begin_is _ _ _ _ _ _ _ _ c.fill.ensures
     (alone _ _ _ _ _ low c.clear.ensures c.row_set.ensures) c.clear-2.ensures

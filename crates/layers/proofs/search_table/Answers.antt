@@ -8,13 +8,13 @@ use Rattle.layers.proofs.search_table.Goals as goal
 
 pub loop-k-init : goal.loop-k-init
 loop-k-init c =
-    (at_loop _ _ _ _ _ _ _ _ _ c.begin.ensures c.requires.5, refl, refl, refl, refl, refl, omega arith)
+    (at_loop _ _ _ _ _ _ _ _ _ c.begin.ensures.begun c.requires.5, refl, refl, refl, refl, refl, omega arith)
 
-pub returns-then-not-step : goal.returns-then-not-step
-returns-then-not-step c =
+pub returns-then-not-step-clause-left : goal.returns-then-not-step-clause-left
+returns-then-not-step-clause-left c =
     end_even _ _ _ c.requires.0.most _ _ _ _ _ _ _ c.loop-k.invariant.0 _ _ _ _ c.step.ensures
     (not-true _ c.if-not-step.true-raw) (omega arith)
-    ∙ from_loop _ _ _ _ _ _ _ _ _ c.begin.ensures
+    ∙ from_loop _ _ _ _ _ _ _ _ _ c.begin.ensures.begun
 
 pub overflow_add-k : goal.overflow_add-k
 overflow_add-k c =
@@ -27,11 +27,11 @@ loop-k-preserved-then-k-eq0 c =
     let J = turn_even _ _ _ c.requires.0.most _ _ _ _ _ _ _ v.0 _ _ _ _ c.step.ensures (not-false _ c.if-not-step.false-raw) c.if-k-eq0.true in
     (J, omega (arith, k, v.1), v.2, omega (arith, k, v.3), omega (arith, k, v.4), omega (arith, k, v.5), J.few)
 
-pub returns-then-not-step-2 : goal.returns-then-not-step-2
-returns-then-not-step-2 c =
+pub returns-then-not-step-2-clause-left : goal.returns-then-not-step-2-clause-left
+returns-then-not-step-2-clause-left c =
     end_odd _ _ _ c.requires.0.most _ _ _ _ _ _ _ c.loop-k.invariant.0 _ _ _ _ c.step-else-k-eq0.ensures
     (not-true _ c.if-not-step-2.true-raw) (omega (arith, c.if-k-eq0.false))
-    ∙ from_loop _ _ _ _ _ _ _ _ _ c.begin.ensures
+    ∙ from_loop _ _ _ _ _ _ _ _ _ c.begin.ensures.begun
 
 pub overflow_add-k-else-k-eq0 : goal.overflow_add-k-else-k-eq0
 overflow_add-k-else-k-eq0 c =
