@@ -1,7 +1,8 @@
 -- THE REFUSALS 1 TO 3 (rule 8.1), with which nearly every call on a map begins: as tests, and in the published words. A call gives its own behind
 -- them. `lent_tells` (proofs/Refuses) joins the two.
 -- Assumes nothing.
-use Rattle.std.specs.Prelude.{Bool, true, false, cond, not, ◌&&◌, List, [], ◌∷◌, ℕ}
+use Rattle.std.specs.Prelude.{Bool, true, false, cond, not, ◌&&◌, List, [], ◌∷◌, ℕ, Option, Some, None}
+use Rattle.std.specs.Borrow.{Bor}
 use Rattle.lists.specs.Lists.{first_of}
 use Rattle.lists.specs.Conditions.{IsShort}
 use Rattle.outcome.specs.Numbers.{short_buffer, spoilt_map, apart_map}
@@ -32,3 +33,8 @@ abbrev pub lent_conditions : Shape → List (ℕ × ℕ) → Bool → Record →
 lent_conditions K buffers true rec links pairs =
     (IsShort buffers, short_buffer) ∷ map_conditions (places K) (map_network K rec links) rec.number (table_bit K.words pairs) rec.chain rec.count
 lent_conditions K buffers false rec links pairs = (IsShort buffers, short_buffer) ∷ link_conditions (places K) (map_network K rec links) rec.number
+
+-- the pairs that a call lends where it goes by the stored figures, and none elsewhere: these are not looked at
+abbrev pub pairs_in : Option (Bor (List ℕ)) → List ℕ
+pairs_in None = []
+pairs_in (Some p) = p.now

@@ -3,7 +3,7 @@
 
 #![tactic(auto)]
 
-ghost use Rattle.std.specs.Prelude.{[], ◌≡◌, true, not, ◌||◌, ◌*◌, ◌<◌, ◌≤◌, ltb, length, get_or};
+ghost use Rattle.std.specs.Prelude.{[], ◌≡◌, true, not, ◌||◌, ◌*◌, ◌<◌, ◌≤◌, ltb, length, get_or, is_some};
 ghost use Rattle.lists.specs.Lists.{range, allb};
 ghost use Rattle.graph.specs.Network.{IsSound};
 ghost use Rattle.graph.specs.Distance.{unreached, connected};
@@ -11,10 +11,12 @@ ghost use Rattle.rows.specs.Rows.{row_bit, table_bit};
 ghost use Rattle.map.specs.Memory.{base, places, table_words, network_of, map_network};
 ghost use Rattle.map.specs.Bits.{IsLent};
 ghost use Rattle.checks.specs.Sound.{sound_figures};
-ghost use Rattle.lent_map.specs.Faults.{lent_refusal};
+ghost use Rattle.outcome.specs.Refusals.{refused_by};
+ghost use Rattle.map.specs.Slices.{IsSameScratch};
+ghost use Rattle.lent_map.specs.Faults.{pairs_in, lent_refusal};
 
-use map::Record;
-use rows::Next;
+use map::{Record, Scratch};
+use outcome::Refusal;
 
 // ---- connectedness
 
@@ -49,28 +51,27 @@ fn all_reached(members: &[u64], hops: &[u16], words: usize) -> bool
 pub fn is_connected(
     members: &[u64],
     links: &[u64],
-    hops: &mut [u16],
-    even: &mut [u64],
-    odd: &mut [u64],
+    scratch: &mut Scratch<'_>,
     seen: &mut [u64],
     next: &mut [u64],
     words: usize,
 ) -> bool
     requires { IsLent words members.now links.now
-        × (64 * words ≤ length hops.old)
-        × (words ≤ length even.old)
-        × (words ≤ length odd.old)
+        × (64 * words ≤ length scratch.old.hops.now)
+        × (words ≤ length scratch.old.even.now)
+        × (words ≤ length scratch.old.odd.now)
         × (words ≤ length seen.old)
         × (words ≤ length next.old)
         × IsSound (network_of words members.now links.now) }
-    ensures { result ≡ connected (network_of words members.now links.now) }
+    ensures same { IsSameScratch scratch.old scratch.new }
+    ensures connected { result ≡ connected (network_of words members.now links.now) }
 {
     let lowest = rows::next_member(members, words, 0);
-    let Next::At(start) = lowest else {
+    let Some(start) = lowest else {
         return true;
     };
-    layers::search_table(links, hops, even, odd, seen, next, words, start);
-    all_reached(members, &*hops, words)
+    layers::search_table(links, scratch, seen, next, words, start);
+    all_reached(members, &*scratch.hops, words)
 }
 
 // The same for rows of four words, on local memory, so that a refused call changes nothing.
@@ -83,12 +84,15 @@ pub fn map_is_connected(members: &[u64], links: &[u64]) -> bool
     let mut odd = [0u64; map::WORDS];
     let mut seen = [0u64; map::WORDS];
     let mut next = [0u64; map::WORDS];
+    let mut scratch = Scratch {
+        hops: &mut hops,
+        even: &mut even,
+        odd: &mut odd,
+    };
     is_connected(
         members,
         links,
-        &mut hops,
-        &mut even,
-        &mut odd,
+        &mut scratch,
         &mut seen,
         &mut next,
         map::WORDS,
@@ -97,41 +101,47 @@ pub fn map_is_connected(members: &[u64], links: &[u64]) -> bool
 
 // ---- the refusal
 
-// Whether the stored figures are sound, where the call goes by them. Only there the yards are taken out of a copy of the open set: the check asks for
-// the depots that deliver.
-fn stored_are_sound(rec: Record, pairs: &[u64], figured: bool) -> bool
-    requires { figured ≡ true → table_words base ≤ length pairs.now }
+// Whether the stored figures are sound, where the call goes by them, and so is lent the pairs. Only there the yards are taken out of a copy of the open
+// set: the check asks for the depots that deliver.
+fn stored_are_sound(rec: Record, pairs: Option<&[u64]>) -> bool
+    requires { is_some pairs ≡ true → table_words base ≤ length (pairs_in pairs) }
     ensures { let G = map_network base rec [] in
-        result ≡ (not figured || sound_figures (places base) G (table_bit base.words pairs.now) rec.chain rec.count) }
+        result ≡ (not (is_some pairs.entry) || sound_figures (places base) G (table_bit base.words (pairs_in pairs.entry)) rec.chain rec.count) }
 {
-    if !figured {
+    let Some(stored) = pairs else {
         return true;
-    }
+    };
     let mut delivering = rec.members;
     let yards = rec.yards;
     map::keep_delivering(&mut delivering, &yards, map::WORDS);
-    checks::figures_are_sound(&delivering, pairs, map::WORDS, rec.chain, rec.count)
+    checks::figures_are_sound(&delivering, stored, map::WORDS, rec.chain, rec.count)
 }
 
-// The first refusal of lent memory that holds, whatever the call is asked; 0 for none. It only reads: `long` tells whether every buffer has its named
-// size, `figured` whether the call goes by the stored figures, and where it does not, the pairs are not looked at.
-pub fn map_refusal(rec: Record, links: &[u64], pairs: &[u64], long: bool, figured: bool) -> u8
-    requires { (long ≡ true → table_words base ≤ length links.now) × (long ≡ true → figured ≡ true → table_words base ≤ length pairs.now) }
-    ensures { result ≡ lent_refusal base long figured rec links.now pairs.now }
+// The first refusal of lent memory that holds, whatever the call is asked. It only reads: `long` tells whether every buffer has its named size; a call that
+// goes by the stored figures lends the pairs besides.
+pub fn map_refusal(
+    rec: Record,
+    links: &[u64],
+    pairs: Option<&[u64]>,
+    long: bool,
+) -> Result<(), Refusal>
+    requires { (long ≡ true → table_words base ≤ length links.now)
+        × (long ≡ true → is_some pairs ≡ true → table_words base ≤ length (pairs_in pairs)) }
+    ensures { refused_by result ≡ lent_refusal base long (is_some pairs.entry) rec links.now (pairs_in pairs.entry) }
 {
     if !long {
-        return outcome::SHORT;
+        return Err(Refusal::Short);
     }
     let members = rec.members;
     let yards = rec.yards;
     if !checks::links_are_sound(&members, &yards, links, map::WORDS, rec.number) {
-        return outcome::SPOILT;
+        return Err(Refusal::Spoilt);
     }
-    if !stored_are_sound(rec, pairs, figured) {
-        return outcome::SPOILT;
+    if !stored_are_sound(rec, pairs) {
+        return Err(Refusal::Spoilt);
     }
     if !map_is_connected(&members, links) {
-        return outcome::APART;
+        return Err(Refusal::Apart);
     }
-    0
+    Ok(())
 }

@@ -7,6 +7,8 @@ use borrow.Author.Tests.{not-true, not-false}
 use Rattle.rows.specs.Rows.{table_bit}
 use Rattle.map.specs.Memory.{base, map_network}
 use Rattle.checks.specs.Sound.{sound_links, sound_figures}
+use Rattle.std.specs.Prelude.{is_some}
+use Rattle.lent_map.specs.Faults.{pairs_in}
 use Rattle.lent_map.proofs.Refuses.{sound_plain, refused_short, refused_links, refused_figures, refused_apart, refused_never}
 use borrow.Author.Rules.{rules}
 use Rattle.lent_map.proofs.map_refusal.Goals as goal
@@ -26,7 +28,7 @@ sound c =
     sym c.links_are_sound.ensures ∙ not-false _ c.if-not-links_are_sound.false-raw
 
 figured : (c : Else-not-stored_are_sound) → let G = map_network base c.args.rec []
-    in (not c.args.figured || sound_figures 256 G (table_bit 4 c.args.pairs.now) c.args.rec.chain c.args.rec.count) ≡ true
+    in (not (is_some c.args.pairs) || sound_figures 256 G (table_bit 4 (pairs_in c.args.pairs)) c.args.rec.chain c.args.rec.count) ≡ true
 figured c =
     sym c.stored_are_sound.ensures ∙ not-false _ c.if-not-stored_are_sound.false-raw
 

@@ -1,15 +1,12 @@
 -- `lent_map::stored_are_sound` meets its contract: the check is made where the call goes by the figures, of the row of depots that deliver.
-use mathlib.Core.Path.{◌∙◌}
+use mathlib.Core.Path.{refl, ◌∙◌}
 use native.Mathlib.Omega.{arith}
 use borrow.Author.Rules.{rules}
-use borrow.Author.Tests.{not-true, not-false}
 use Rattle.checks.proofs.Theorems.{figures_delivering}
-use Rattle.lent_map.proofs.Refuses.{not-figured, is_figured}
 use Rattle.lent_map.proofs.stored_are_sound.Goals as goal
 
-pub returns-then-not-figured : goal.returns-then-not-figured
-returns-then-not-figured c =
-    not-figured c.args.figured _ (not-true c.args.figured c.if-not-figured.true-raw)
+pub returns-in_default : goal.returns-in_default
+returns-in_default c = rw c.in_default.is
 
 pub slice_bounds-keep_delivering-end-2 : goal.slice_bounds-keep_delivering-end-2
 slice_bounds-keep_delivering-end-2 c = search rules
@@ -27,10 +24,9 @@ figures_are_sound-requires c =
       positive = omega arith;
       most = omega arith;
       row = omega (arith, slice_bounds-figures_are_sound-end c);
-      rows = c.requires (not-false c.args.figured c.if-not-figured.false-raw);
+      rows = (rw c.in-Some.is at c.requires) refl;
     }
 
 pub returns : goal.returns
 returns c =
-    is_figured c.args.figured (not-false c.args.figured c.if-not-figured.false-raw)
-    (c.figures_are_sound.ensures ∙ figures_delivering _ _ _ _ _ c.keep_delivering.ensures _ _ _)
+    rw c.in-Some.is (c.figures_are_sound.ensures ∙ figures_delivering _ _ _ _ _ c.keep_delivering.ensures _ _ _)
