@@ -14,8 +14,8 @@ use Rattle.map.specs.declared.Record.{Record}
 use Rattle.map.specs.declared.Emptied.{Emptied}
 use Rattle.map.specs.declared.Emptying.TheVariants.{Done, Refused as NoEmptying}
 use Rattle.search.specs.SearchCall.{SearchLeft, search_left, search_sizes, search_refusal, search_given, search_call}
-use Rattle.search.specs.declared.Found.{Found}
-use Rattle.search.specs.declared.Found.TheVariants.{Reached, Refused as NoSearch}
+use Rattle.search.specs.SearchCall.{Found}
+use Rattle.search.specs.SearchCall.{Reached, Refused as NoSearch}
 use Rattle.reckon.specs.ReckonCall.{ReckonLeft, reckon_left, reckon_refusal, figured_by, reckon_given, reckon_call}
 use Rattle.reckon.specs.declared.Reckoned.{Reckoned}
 use Rattle.reckon.specs.declared.Reckoning.TheVariants.{Searches, Refused as NoReckoning}

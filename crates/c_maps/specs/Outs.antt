@@ -8,8 +8,8 @@ use Rattle.map.specs.Empty.{EmptyLeft, empty_call}
 use Rattle.map.specs.declared.Emptying.{Emptying}
 use Rattle.map.specs.declared.Emptying.TheVariants.{Done, Refused as NoEmptying}
 use Rattle.search.specs.SearchCall.{search_call}
-use Rattle.search.specs.declared.Found.{Found}
-use Rattle.search.specs.declared.Found.TheVariants.{Reached, Refused as NoSearch}
+use Rattle.search.specs.SearchCall.{Found}
+use Rattle.search.specs.SearchCall.{Reached, Refused as NoSearch}
 use Rattle.reckon.specs.ReckonCall.{ReckonLeft, reckon_call}
 use Rattle.reckon.specs.declared.Reckoning.{Reckoning}
 use Rattle.reckon.specs.declared.Reckoning.TheVariants.{Searches, Refused as NoReckoning}

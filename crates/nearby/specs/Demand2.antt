@@ -9,7 +9,7 @@ use Rattle.map.specs.Room.{Tables}
 use Rattle.map.specs.declared.Record.{Record}
 use Rattle.search.specs.SearchCall.{search_left}
 use Rattle.search.specs.Demand2.{KeepsPast, IsSearch}
-use Rattle.search.specs.declared.Found.TheVariants.{Reached}
+use Rattle.search.specs.SearchCall.{Reached}
 use Rattle.nearby.specs.WithinCall.{within_refusal, WithinLeft, within_call}
 use Rattle.nearby.specs.NearestCall.{nearest_refusal, NearestLeft, nearest_call}
 use Rattle.nearby.specs.declared.Listing.TheVariants.{Listed}

@@ -14,7 +14,7 @@ use Rattle.map.specs.Memory.{Shape, places, table_words, map_network}
 use Rattle.map.specs.declared.Record.{Record}
 use Rattle.search.specs.SearchCall.{search_left}
 use Rattle.search.specs.Demand2.{KeepsPast, IsSearch}
-use Rattle.search.specs.declared.Found.TheVariants.{Reached}
+use Rattle.search.specs.SearchCall.{Reached}
 use Rattle.map.specs.Room.{Lent, sizes_of}
 use Rattle.reckon.specs.ReckonCall.{reckon_refusal, ReckonLeft, reckoning_number, searches_of}
 use Rattle.reckon.specs.declared.Reckoning.TheVariants.{Searches, Refused}

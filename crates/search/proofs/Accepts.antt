@@ -23,9 +23,9 @@ use Rattle.map.specs.Memory.{Shape, places, IsShape, network_of, yard_network, m
 use Rattle.map.specs.declared.Record.{Record}
 use Rattle.map.proofs.Theorems.{network_open_below}
 use Rattle.outcome.specs.Numbers.{absent_code}
-use Rattle.search.specs.SearchCall.{search_sizes, search_refusal, SearchLeft, search_left, search_given, search_call, last_layer, rows_left, rows_of}
-use Rattle.search.specs.declared.Found.{Found}
-use Rattle.search.specs.declared.Found.TheVariants.{Reached, Refused}
+use Rattle.search.specs.SearchCall.{search_sizes, search_refusal, SearchLeft, search_left, search_given, search_call, last_layer}
+use Rattle.search.specs.SearchCall.{Found}
+use Rattle.search.specs.SearchCall.{Reached, Refused}
 use Rattle.map.proofs.Longs.{are_long_lem}
 use Rattle.lent_map.specs.Faults.{lent_faults, lent_refusal}
 use Rattle.lent_map.proofs.Passes.{lent_first, lent_then, lent-passed, passed_net}
@@ -59,25 +59,24 @@ module _ (K : Shape) (rec : Record) (links : List ℕ) (hops even odd code : ℕ
         present = not-false (G.is_open code) (first_zero (not (G.is_open code)) 3 [] p.others).0;
       }
 
-  -- ---- each refusal, by its test: those of the lent map, then the code's. The code lends the links for the pairs, which are not looked at
+  -- ---- each refusal, by its test: those of the lent map, then the code's
 
-  lent_is : {k : ℕ} {b : Bool} → b ≡ long → k ≡ lent_refusal K b false rec links links → k ≡ lent_refusal K long false rec links []
-  unfolding lent_refusal lent_faults
-  lent_is q e = e ∙ ap (λ (b : Bool). lent_refusal K b false rec links links) q
+  lent_is : {k : ℕ} {b : Bool} → b ≡ long → k ≡ lent_refusal K b false rec links [] → k ≡ lent_refusal K long false rec links []
+  lent_is q e = e ∙ ap (λ (b : Bool). lent_refusal K b false rec links []) q
 
-  pub refused_map : {k : ℕ} {b : Bool} → b ≡ long → k ≡ lent_refusal K b false rec links links → (k ≡ 0 → ⊥) → k ≡ search_refusal K rec links hops even odd code
+  pub refused_map : {k : ℕ} {b : Bool} → b ≡ long → k ≡ lent_refusal K b false rec links [] → (k ≡ 0 → ⊥) → k ≡ search_refusal K rec links hops even odd code
   unfolding search_refusal
   refused_map q e n = lent_first K long false rec links [] absent (lent_is q e) n
 
-  passed : {k : ℕ} {b : Bool} → b ≡ long → k ≡ lent_refusal K b false rec links links → k ≡ 0 → first_of absent ≡ search_refusal K rec links hops even odd code
+  passed : {k : ℕ} {b : Bool} → b ≡ long → k ≡ lent_refusal K b false rec links [] → k ≡ 0 → first_of absent ≡ search_refusal K rec links hops even odd code
   unfolding search_refusal
   passed q e z = lent_then K long false rec links [] absent (sym z ∙ lent_is q e)
 
-  pub refused_absent : {k : ℕ} {b : Bool} → b ≡ long → k ≡ lent_refusal K b false rec links links → k ≡ 0 → G.is_open code ≡ false → absent_code ≡ search_refusal K rec links hops even odd code
+  pub refused_absent : {k : ℕ} {b : Bool} → b ≡ long → k ≡ lent_refusal K b false rec links [] → k ≡ 0 → G.is_open code ≡ false → absent_code ≡ search_refusal K rec links hops even odd code
   unfolding first_of
   refused_absent q e z d = rw d at (passed q e z)
 
-  pub refused_never : {k : ℕ} {b : Bool} → b ≡ long → k ≡ lent_refusal K b false rec links links → k ≡ 0 → G.is_open code ≡ true → 0 ≡ search_refusal K rec links hops even odd code
+  pub refused_never : {k : ℕ} {b : Bool} → b ≡ long → k ≡ lent_refusal K b false rec links [] → k ≡ 0 → G.is_open code ≡ true → 0 ≡ search_refusal K rec links hops even odd code
   unfolding first_of
   refused_never q e z d = rw d at (passed q e z)
 
@@ -155,15 +154,3 @@ module _ (W d : ℕ) (even odd : List ℕ) where
 
   pub last_short_odd : (d % 2 ≡ 0 → ⊥) → length odd < W → odd ≡ last_layer W d even odd
   last_short_odd q l = sym (take_all W odd (omega arith)) ∙ last_odd q
-
--- ---- the call that hands back both rows, by the answer
-
-module _ (W : ℕ) (left : SearchLeft) (r : Found) (hops even odd : List ℕ) (old_ecc old_depth : ℕ) (is : search_left r (tables hops even odd) ≡ left) where
-  pub rows_reached : (e d : ℕ) (last : List ℕ) → r ≡ Reached e d → last ≡ last_layer W d even odd
-      → rows_left (last ∷ even ∷ odd ∷ []) hops 0 e d ≡ rows_of W left old_ecc old_depth
-  unfolding rows_of
-  rows_reached e d last q t = rw (← is, q, t)
-
-  pub rows_refused : (k : ℕ) → r ≡ Refused k → rows_left ([] ∷ even ∷ odd ∷ []) hops k old_ecc old_depth ≡ rows_of W left old_ecc old_depth
-  unfolding rows_of
-  rows_refused k q = rw (← is, q)

@@ -32,7 +32,7 @@ use Rattle.map.proofs.Theorems.{network_open_below}
 use Rattle.search.specs.SearchCall.{search_refusal, SearchLeft, search_left, search_given, search_call, last_layer, search_number}
 use Rattle.search.specs.Refusals.{search_buffers, search_conditions, SearchDemand1}
 use Rattle.search.specs.Demand2.{HoldsLayer, HoldsBefore, KeepsPast, IsSearch, SearchDemand2}
-use Rattle.search.specs.declared.Found.TheVariants.{Reached}
+use Rattle.search.specs.SearchCall.{Reached}
 use Rattle.outcome.specs.Numbers.{absent_code}
 use Rattle.search.proofs.Reaches.{part_is}
 use Rattle.search.proofs.Accepts.{granted}

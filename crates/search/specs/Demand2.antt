@@ -9,7 +9,7 @@ use Rattle.map.specs.Room.{Tables}
 use Rattle.map.specs.Memory.{Shape, places, map_network}
 use Rattle.map.specs.declared.Record.{Record}
 use Rattle.search.specs.SearchCall.{search_refusal, SearchLeft, search_call, last_layer}
-use Rattle.search.specs.declared.Found.TheVariants.{Reached}
+use Rattle.search.specs.SearchCall.{Reached}
 
 -- the row holds exactly the depots at distance d from s
 abbrev pub HoldsLayer : ℕ → Network → ℕ → ℕ → List ℕ → Type 0

@@ -1,6 +1,6 @@
 -- THE SEARCH CALL (rules 3.1 to 3.3) on lent memory, whole: its answer and every place that it leaves. The code's contract is one equation with `search_call`.
 -- Assumes nothing.
-use Rattle.std.specs.Prelude.{false, not, cond, List, [], ◌∷◌, ◌++◌, ℕ, zero, suc, ◌%◌, eqb, length, take}
+use Rattle.std.specs.Prelude.{false, not, cond, List, [], ◌∷◌, ◌++◌, ℕ, zero, suc, ◌%◌, eqb, length, take, Result, Ok, Err}
 use Rattle.lists.specs.Lists.{first_of}
 use Rattle.outcome.specs.Numbers.{absent_code}
 use Rattle.graph.specs.Chart.{chart, ecc}
@@ -8,8 +8,9 @@ use Rattle.map.specs.Room.{Tables}
 use Rattle.layers.specs.Layers.{depth_from, search_leaves}
 use Rattle.map.specs.Memory.{Shape, places, table_words, map_network}
 use Rattle.map.specs.declared.Record.{Record}
-use Rattle.search.specs.declared.Found.{Found}
-use Rattle.search.specs.declared.Found.TheVariants.{Reached, Refused}
+use Rattle.outcome.specs.Refusals.{number_of}
+use Rattle.outcome.specs.declared.Refusal.{Refusal}
+use Rattle.search.specs.declared.Reach.{Reach}
 use Rattle.map.specs.Room.{Sizes, sizes, long_enough}
 use Rattle.lent_map.specs.Faults.{lent_faults}
 
@@ -24,6 +25,16 @@ search_refusal K rec links hops even odd code =
     (lent_faults K (long_enough K (search_sizes K (length links) hops even odd)) false rec links []
     ++ (not ((map_network K rec links).is_open code), absent_code)
     ∷ [])
+
+-- the answer: the eccentricity, which is to depots that deliver, and the distance of the last layer, which is of all open depots; or the refusal's number
+pub data Found : Type 0 where
+  Reached : ℕ → ℕ → Found
+  Refused : ℕ → Found
+
+-- for each case of the code's answer, the values or the number
+abbrev pub found_of : Result Reach Refusal → Found
+found_of (Ok r) = Reached r.ecc r.depth
+found_of (Err k) = Refused (number_of k)
 
 -- what the call leaves: its answer (the eccentricity, and the distance of the last layer; or the refusal's number), and the hop table and the two layer
 -- rows
@@ -54,38 +65,23 @@ abbrev pub search_number : Found → ℕ
 search_number (Reached e d) = 0
 search_number (Refused k) = k
 
--- the values of each case: the eccentricity, and the distance of the last layer; a refusal has none, so that what stood there stays
-abbrev pub ecc_of : Found → ℕ → ℕ
-ecc_of (Reached e d) old = e
-ecc_of (Refused k) old = old
-
-abbrev pub depth_of : Found → ℕ → ℕ
-depth_of (Reached e d) old = d
-depth_of (Refused k) old = old
-
 -- the part handed back: nothing for a refusal
 abbrev pub last_of : ℕ → Found → List ℕ → List ℕ → List ℕ
 last_of W (Reached e d) even odd = last_layer W d even odd
 last_of W (Refused k) even odd = []
 
--- what the call leaves: the part with both rows, the hop table, and the three numbers
+-- what the call leaves: its answer, the hop table, the part, and both rows
 pub record RowsLeft : Type 0 where
-  pub rows : List (List ℕ)
+  pub answer : Found
   pub hops : List ℕ
-  pub refusal : ℕ
-  pub ecc : ℕ
-  pub depth : ℕ
+  pub last : List ℕ
+  pub even : List ℕ
+  pub odd : List ℕ
 
-abbrev pub rows_left : List (List ℕ) → List ℕ → ℕ → ℕ → ℕ → RowsLeft
-rows_left rows hops refusal ecc depth = record { rows = rows; hops = hops; refusal = refusal; ecc = ecc; depth = depth }
+abbrev pub rows_left : Found → List ℕ → List ℕ → List ℕ → List ℕ → RowsLeft
+rows_left r hops last even odd = record { answer = r; hops = hops; last = last; even = even; odd = odd }
 
-unfoldable pub rows_of : ℕ → SearchLeft → ℕ → ℕ → RowsLeft
-rows_of W left old_ecc old_depth =
+unfoldable pub rows_of : ℕ → SearchLeft → RowsLeft
+rows_of W left =
     let B = left.lent in
-    record {
-      rows = last_of W left.answer B.even B.odd ∷ B.even ∷ B.odd ∷ [];
-      hops = B.hops;
-      refusal = search_number left.answer;
-      ecc = ecc_of left.answer old_ecc;
-      depth = depth_of left.answer old_depth;
-    }
+    record { answer = left.answer; hops = B.hops; last = last_of W left.answer B.even B.odd; even = B.even; odd = B.odd }

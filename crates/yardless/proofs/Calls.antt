@@ -24,8 +24,8 @@ use Rattle.layers.specs.Layers.{depth_from, search_leaves}
 use Rattle.layers.proofs.Theorems.{depth_ecc}
 use Rattle.lent_map.specs.Faults.{lent_faults, lent_refusal}
 use Rattle.search.specs.SearchCall.{SearchLeft, search_refusal, search_given, search_call, ecc_of, depth_of}
-use Rattle.search.specs.declared.Found.{Found}
-use Rattle.search.specs.declared.Found.TheVariants.{Reached, Refused}
+use Rattle.search.specs.SearchCall.{Found}
+use Rattle.search.specs.SearchCall.{Reached, Refused}
 use Rattle.search.proofs.Accepts.{granted}
 use Rattle.nearby.specs.WithinCall.{WithinLeft, within_refusal, within_given, within_call}
 use Rattle.nearby.specs.NearestCall.{NearestLeft, nearest_refusal, nearest_given, nearest_call}

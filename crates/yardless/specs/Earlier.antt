@@ -31,7 +31,7 @@ use Rattle.map.specs.declared.Emptying.TheVariants.{Done, Refused as RefusedEmpt
 use Rattle.layers.specs.Layers.{search_leaves}
 use Rattle.checks.specs.Sound.{all_set}
 use Rattle.search.specs.SearchCall.{search_sizes, SearchLeft}
-use Rattle.search.specs.declared.Found.TheVariants.{Reached, Refused as RefusedSearch}
+use Rattle.search.specs.SearchCall.{Reached, Refused as RefusedSearch}
 use Rattle.nearby.specs.WithinCall.{WithinLeft}
 use Rattle.nearby.specs.NearestCall.{NearestLeft}
 use Rattle.nearby.specs.declared.Listing.TheVariants.{Listed, Refused as RefusedListing}

@@ -6,6 +6,8 @@ use Rattle.map.specs.Memory.{base}
 use Rattle.map.proofs.Theorems.{base_shape}
 use Rattle.search.proofs.Accepts.{granted, refused_call, granted_reached, accepted_call}
 use borrow.Author.Rules.{rules}
+use Rattle.std.proofs.lemmas.Result.{err_from_is_err_and}
+use Rattle.outcome.proofs.Numbering.{refuses}
 use Rattle.search.proofs.search_from.Goals as goal
 
 pub slice_bounds-keep_delivering-end-2 : goal.slice_bounds-keep_delivering-end-2
@@ -15,9 +17,9 @@ pub keep_delivering-requires : goal.keep_delivering-requires
 keep_delivering-requires c =
     (omega arith, omega (arith, slice_bounds-keep_delivering-end-2 c))
 
-pub search_to-found-requires : goal.search_to-found-requires
-search_to-found-requires c =
-    let g = granted base _ _ _ _ _ _ base_shape (sym c.search_refusal-refusal.ensures ∙ c.if-refusal-ne0.false) in (
+pub search_to-requires : goal.search_to-requires
+search_to-requires c =
+    let g = granted base _ _ _ _ _ _ base_shape (sym c.in_ok-search_refusal.ensures) in (
       omega arith,
       g.long.links,
       g.long.hops,
@@ -27,11 +29,13 @@ search_to-found-requires c =
       granted_reached base base_shape g c.keep_delivering.ensures,
     )
 
-pub returns : goal.returns
-returns c =
-    accepted_call base base_shape _ _ _ _ (sym c.if-refusal-ne0.false ∙ c.search_refusal-refusal.ensures)
+pub returns-clause-left : goal.returns-clause-left
+returns-clause-left c =
+    accepted_call base base_shape _ _ _ _ c.in_ok-search_refusal.ensures
     c.keep_delivering.ensures
-    c.search_to-found.ensures
+    (c.search_to.ensures.left, c.search_to.ensures.ecc)
 
-pub returns-then-refusal-ne0 : goal.returns-then-refusal-ne0
-returns-then-refusal-ne0 c = search (refused_call, base_shape)
+pub returns-in_err-search_refusal-clause-left : goal.returns-in_err-search_refusal-clause-left
+returns-in_err-search_refusal-clause-left c =
+    let p = err_from_is_err_and c.from_residual.result c.from_residual.ensures.1 in
+    rw (p.1, p.2) (refused_call base base_shape _ _ _ _ _ c.in_err-search_refusal.ensures (refuses _))

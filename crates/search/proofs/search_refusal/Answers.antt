@@ -6,11 +6,13 @@ use Rattle.map.specs.Memory.{base, network_of}
 use Rattle.map.proofs.Longs.{are_long_lem}
 use Rattle.search.proofs.Accepts.{refused_map, refused_absent, refused_never}
 use borrow.Author.Rules.{rules}
+use Rattle.std.proofs.lemmas.Result.{err_from_is_err_and}
+use Rattle.outcome.proofs.Numbering.{refuses}
 use Rattle.search.proofs.search_refusal.Goals as goal
 
-pub map_refusal-refusal-requires : goal.map_refusal-refusal-requires
-map_refusal-refusal-requires c =
-    (λ h. (are_long_lem base _ (sym c.are_long-long.ensures ∙ h)).links, λ h f. absurd (clash f refl))
+pub map_refusal-requires : goal.map_refusal-requires
+map_refusal-requires c =
+    (λ h. (are_long_lem base _ (sym c.is_long.ensures ∙ h)).links, λ h f. absurd (clash f refl))
 
 pub slice_bounds-is_open-end : goal.slice_bounds-is_open-end
 slice_bounds-is_open-end c = search rules
@@ -19,18 +21,19 @@ pub is_open-requires : goal.is_open-requires
 is_open-requires c =
     (omega (arith, slice_bounds-is_open-end c), omega (arith, c.ranges.code.fits))
 
-pub returns-then-refusal-ne0 : goal.returns-then-refusal-ne0
-returns-then-refusal-ne0 c =
-    refused_map base _ _ _ _ _ _ c.are_long-long.ensures c.map_refusal-refusal.ensures c.if-refusal-ne0.true
+pub returns-in_err-map_refusal : goal.returns-in_err-map_refusal
+returns-in_err-map_refusal c =
+    let p = err_from_is_err_and c.from_residual.result c.from_residual.ensures.1 in
+    rw (p.1, p.2) (refused_map base _ _ _ _ _ _ c.is_long.ensures c.in_err-map_refusal.ensures (refuses _))
 
 pub returns-then-not-is_open : goal.returns-then-not-is_open
 unfolding network_of
 returns-then-not-is_open c =
-    refused_absent base _ _ _ _ _ _ c.are_long-long.ensures c.map_refusal-refusal.ensures c.if-refusal-ne0.false
+    refused_absent base _ _ _ _ _ _ c.is_long.ensures c.in_ok-map_refusal.ensures refl
     (test_failed c.is_open.ensures c.if-not-is_open.true-raw)
 
 pub returns : goal.returns
 unfolding network_of
 returns c =
-    refused_never base _ _ _ _ _ _ c.are_long-long.ensures c.map_refusal-refusal.ensures c.if-refusal-ne0.false
+    refused_never base _ _ _ _ _ _ c.is_long.ensures c.in_ok-map_refusal.ensures refl
     (test_passed c.is_open.ensures c.if-not-is_open.false-raw)
