@@ -89,14 +89,13 @@ four_put [] n h = absurd (omega arith)
 
 module _ (links layer seen : List ℕ) (k : ℕ) (g n : Four) (hops₀ hops₁ other : List ℕ)
     (reach : reached g hops₁ ≡ reach_set 4 links k 0 (row_bit 4 layer) (reached no_words hops₀))
-    (long : length hops₁ ≡ length hops₀)
     (keep : unseen (not (eqb (union_of n) 0)) (four_list n) ≡ unseen_of 4 seen (four_list g)) where
   put_all : visited (four_list g) hops₁ ≡ visit_of 4 links layer k (visited (four_list no_words) hops₀)
   unfolding put_word
   put_all =
       fours_end 4 links k layer 4
       (fours_next 4 links k layer 0 g hops₁ (fours_start 4 links k layer (four_list no_words) hops₀ (omega arith)) reach
-      (g.a ∷ 0 ∷ 0 ∷ 0 ∷ []) (g.a ∷ g.b ∷ 0 ∷ 0 ∷ []) (g.a ∷ g.b ∷ g.c ∷ 0 ∷ []) (four_list g) (omega arith) refl refl refl refl refl long)
+      (g.a ∷ 0 ∷ 0 ∷ 0 ∷ []) (g.a ∷ g.b ∷ 0 ∷ 0 ∷ []) (g.a ∷ g.b ∷ g.c ∷ 0 ∷ []) (four_list g) (omega arith) refl refl refl refl)
       (omega arith) (omega arith)
 
   pub four_none : union_of n ≡ 0 → stepped false hops₁ other seen ≡ step_of 4 links layer k hops₀ other seen

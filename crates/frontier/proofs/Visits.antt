@@ -213,16 +213,12 @@ module _ (W : ℕ) (links : List ℕ) (k : ℕ) where
       pub next_is : next ≡ overwrite (encode_row (up_to j) (reaches W links layer)) next₀
       pub hops_first : j ≡ 0 → hops ≡ hops₀
       pub hops_then : 0 < j → hops ≡ hop_set W k (row_bit W layer) hops₀
-      pub next_length : length next ≡ length next₀
-      pub hops-length : length hops ≡ length hops₀
 
     pub fours_start : (next hops : List ℕ) → 0 < W → FoursVisited next hops next hops 0
     fours_start next hops h = record {
       next_is = turn_none (reaches W links layer) next ∙ ap (λ (c : ℕ). overwrite (encode_row c (reaches W links layer)) next) (sym (none (lt-ltb 0 W h)));
       hops_first = λ e. refl;
       hops_then = λ l. absurd (lt_irrefl 0 l);
-      next_length = refl;
-      hops-length = refl;
     }
       where
         none : ltb 0 W ≡ true → up_to 0 ≡ 0
@@ -254,9 +250,9 @@ module _ (W : ℕ) (links : List ℕ) (k : ℕ) where
           go (inr z) = ap (hop_set W k (row_bit W layer)) (I.hops_then (omega (arith, z))) ∙ again hops₀
 
       pub fours_next : (n₁ n₂ n₃ n₄ : List ℕ) → W ≤ length next₀ → n₁ ≡ put_word W j got.a next → n₂ ≡ put_word W (j + 1) got.b n₁ → n₃ ≡ put_word W (j + 2) got.c n₂ → n₄ ≡ put_word W (j + 3) got.d n₃
-          → length n₄ ≡ length next → length hops' ≡ length hops → FoursVisited next₀ hops₀ n₄ hops' (j + 4)
+          → FoursVisited next₀ hops₀ n₄ hops' (j + 4)
       unfolding reach_set
-      fours_next n₁ n₂ n₃ n₄ m p q r s ln lh = record {
+      fours_next n₁ n₂ n₃ n₄ m p q r s = record {
         next_is =
             put_next f (j + 3) (j + 4) got.d next₀ n₃ n₄ (omega arith) m
             (put_next f (j + 2) (j + 3) got.c next₀ n₂ n₃ (omega arith) m
@@ -267,8 +263,6 @@ module _ (W : ℕ) (links : List ℕ) (k : ℕ) where
             (stored (j + 3) got.d (ap (λ (x : Reached). x.four.d) e)) s;
         hops_first = λ z. absurd (lt_irrefl 0 (omega arith));
         hops_then = λ l. hops_now;
-        next_length = ln ∙ I.next_length;
-        hops-length = lh ∙ I.hops-length;
       }
         where
           f : ℕ → Bool

@@ -107,10 +107,8 @@ fn reach_layer(
         c: 0,
         d: 0,
     };
-    let mut w = 0;
-    while w < words {
+    for w in 0..words {
         got = reach_word(links, hops, got, words, w, layer[w], j, k);
-        w += 1;
     }
     got
 }
@@ -133,14 +131,12 @@ fn visit(links: &[u64], hops: &mut [u16], layer: &[u64], next: &mut [u64], words
         let after = visited next.new hops.new in
         after ≡ visit_of words links.now layer.now k before }
 {
-    let mut j = 0;
-    while j < words {
+    for j in (0..words).step_by(4) {
         let got = reach_layer(links, hops, layer, words, j, k);
         put_word(next, words, j, got.a);
         put_word(next, words, j + 1, got.b);
         put_word(next, words, j + 2, got.c);
         put_word(next, words, j + 3, got.d);
-        j += 4;
     }
 }
 
@@ -150,12 +146,10 @@ fn keep_unseen(seen: &[u64], next: &mut [u64], words: usize) -> bool
     ensures { unseen result next.new ≡ unseen_of words seen.now next.old }
 {
     let mut all: u64 = 0;
-    let mut j = 0;
-    while j < words {
+    for j in 0..words {
         let x = next[j] & !seen[j];
         next[j] = x;
         all = all | x;
-        j += 1;
     }
     all != 0
 }
@@ -165,12 +159,10 @@ fn pass_on(other: &mut [u64], seen: &mut [u64], next: &[u64], words: usize)
     requires { (words ≤ length other.old) × (words ≤ length seen.old) × (words ≤ length next.now) }
     ensures { passed other.new seen.new ≡ pass_on words next.now (passed other.old seen.old) }
 {
-    let mut j = 0;
-    while j < words {
+    for j in 0..words {
         let x = next[j];
         other[j] = x;
         seen[j] = seen[j] | x;
-        j += 1;
     }
 }
 

@@ -14,3 +14,5 @@ pub mod Scan
 pub mod Zeros
 -- One word put.
 pub mod WordPuts
+-- A part of a buffer filled.
+pub mod Filled

@@ -1,15 +1,18 @@
 -- A loop that reads a word of a row a turn: the members counted, and the numbers that a search for a member has passed. Assumes nothing.
 use mathlib.Core.Path.{◌≡◌, sym, ap, ◌∙◌}
 use mathlib.Core.Logic.{◌⊎◌, inl, inr}
-use mathlib.Core.Bool.{true, false}
+use mathlib.Core.Bool.{Bool, true, false, not}
 use mathlib.Core.List.{List}
 use Prim.Native.Nat.{ℕ, ◌+◌, ◌-◌, ◌*◌, ◌/◌, ◌%◌, ◌^◌, ◌≤◌, ◌<◌}
 use native.Mathlib.Omega.{arith}
-use lib.ListN.{get_or}
+use lib.ListN.{length, get_or, take}
 use lib.Count.{count_trailing_zeros}
+use Rattle.std.proofs.lemmas.List.{length-take-le, get_or-take}
+use Rattle.std.specs.Bool.{MatchBool}
+use Rattle.std.specs.List.{AllWithin, HoldsAt}
 use Rattle.lists.specs.Lists.{range, countb, anyb}
-use Rattle.lists.proofs.Tests.{clash, lt_or_ge, not→false, t→true}
-use Rattle.lists.proofs.Members.{range_in, range_out, any_intro, any_elim}
+use Rattle.lists.proofs.Tests.{clash, lt_or_ge}
+use Rattle.lists.proofs.Members.{range_in, range_out, any_intro, any_none}
 use Rattle.words.specs.Bits.{bit}
 use Rattle.words.specs.Least.{IsLeast}
 use Rattle.words.proofs.Bits.{bit_of_zero, bit_past, bit_shr}
@@ -105,14 +108,24 @@ module _ (W : ℕ) (row : List ℕ) (start : ℕ) (n : start / 64 < W) (fits : g
 
 -- ---- whether a row has a member
 
-pub any_word : (W : ℕ) (row : List ℕ) (j : ℕ) → j < W → get_or row j 0 < 2 ^ 64 → (get_or row j 0 ≡ 0 → ⊥) → anyb (row_bit W row) (range (64 * W)) ≡ true
+any_word : (W : ℕ) (row : List ℕ) (j : ℕ) → j < W → get_or row j 0 < 2 ^ 64 → (get_or row j 0 ≡ 0 → ⊥) → anyb (row_bit W row) (range (64 * W)) ≡ true
 any_word W row j h fits ne =
     let p : IsLeast (get_or row j 0) (count_trailing_zeros 64 (get_or row j 0)) = least_is (get_or row j 0) (omega arith) fits in
     let b : ℕ = count_trailing_zeros 64 (get_or row j 0) in
     any_intro (row_bit W row) (range (64 * W)) (range_in (64 * W) {v = 64 * j + b} (omega (arith, p.below))) (row_word W row j b h p.below ∙ p.here)
 
-pub any_none : (W : ℕ) (row : List ℕ) → ((v : ℕ) → v < 64 * W → row_bit W row v ≡ false) → anyb (row_bit W row) (range (64 * W)) ≡ false
-any_none W row h =
-    not→false (anyb (row_bit W row) (range (64 * W)))
-    (λ t. (let r = any_elim (row_bit W row) (range (64 * W)) (t→true (anyb (row_bit W row) (range (64 * W))) t) in
-    clash r.2 (h r.0 (range_out (64 * W) r.1))))
+-- whether all words are 0, as `all` tells it
+pub none_by_words : (W : ℕ) (row : List ℕ) → W ≤ length row → ((i : ℕ) → get_or row i 0 < 2 ^ 64) → (all : Bool)
+    → MatchBool all (AllWithin (λ x. x ≡ 0) (take W row) 0 (length (take W row)))
+    ((k : ℕ) × (k < length (take W row)) × HoldsAt (λ x. x ≡ 0 → ⊥) (take W row) k)
+    → all ≡ not (anyb (row_bit W row) (range (64 * W)))
+none_by_words W row h fits true z = ap not (sym (any_none (row_bit W row) (range (64 * W)) (λ v m. zero v (range_out (64 * W) m))))
+  where
+    zero : (v : ℕ) → v < 64 * W → row_bit W row v ≡ false
+    zero v m =
+        let l : v / 64 < W = omega arith in
+        let e : get_or row (v / 64) 0 ≡ 0 = rw get_or-take at (z (v / 64) 0 (omega arith) (omega (arith, length-take-le W row h))) in
+        in_word_lem W row (v / 64) v l (omega arith) (omega arith) ∙ ap (λ (x : ℕ). bit x (v - 64 * (v / 64))) e ∙ bit_of_zero (v - 64 * (v / 64))
+none_by_words W row h fits false z =
+    let l : z.0 < W = omega (arith, length-take-le W row h) in
+    ap not (sym (any_word W row z.0 l (fits z.0) (rw (get_or-take W row z.0 0 l) at (z.2 0))))

@@ -1,6 +1,6 @@
 -- A loop that stores a word of a row a turn: after j turns the buffer is `overwrite (encode_row j f) old`. Assumes nothing.
 use mathlib.Core.Path.{◌≡◌, sym, ap, ap₂, ◌∙◌}
-use mathlib.Core.Bool.{Bool, false, not, ◌&&◌, ◌||◌}
+use mathlib.Core.Bool.{Bool, not, ◌&&◌, ◌||◌}
 use mathlib.Core.List.{List}
 use Prim.Native.Nat.{ℕ, ◌+◌, ◌-◌, ◌*◌, ◌^◌, ◌<◌}
 use native.Mathlib.Omega.{arith}
@@ -9,7 +9,7 @@ use lib.ListN.{length, get_or, set}
 use Rattle.lists.specs.Lists.{overwrite}
 use Rattle.lists.proofs.Fills.{fill_none, fill_more, fill_rest}
 use Rattle.words.specs.Bits.{bit, word_of}
-use Rattle.words.proofs.Bits.{word_or, word_minus, word_of_ext, word_of-none}
+use Rattle.words.proofs.Bits.{word_or, word_minus, word_of_ext}
 use Rattle.rows.specs.Rows.{row_bit, table_bit, encode_row}
 use Rattle.rows.proofs.Written.{row_word, table_word}
 use Rattle.rows.proofs.Wholes.{row_word_is}
@@ -29,10 +29,7 @@ turn_next : (f : ℕ → Bool) (l₀ l : List ℕ) (j : ℕ) → l ≡ overwrite
 unfolding encode_row
 turn_next f l₀ l j e = ap (λ (s : List ℕ). get_or s j 0) e ∙ fill_rest (λ w. word_of 64 (λ b. f (64 * w + b))) l₀ j j 0 (omega arith)
 
--- ---- the four turns
-
-pub turn_clear : (l₀ l : List ℕ) (j : ℕ) → l ≡ overwrite (encode_row j (λ v. false)) l₀ → j < length l₀ → set l j 0 ≡ overwrite (encode_row (j + 1) (λ v. false)) l₀
-turn_clear l₀ l j e h = turn_more (λ v. false) l₀ l j 0 e h (sym (word_of-none 64))
+-- ---- the three turns
 
 pub turn_copy : (W : ℕ) (s l₀ l : List ℕ) (j : ℕ) → l ≡ overwrite (encode_row j (row_bit W s)) l₀ → j < length l₀ → j < W → get_or s j 0 < 2 ^ 64
     → set l j (get_or s j 0) ≡ overwrite (encode_row (j + 1) (row_bit W s)) l₀

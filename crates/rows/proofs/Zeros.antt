@@ -1,18 +1,20 @@
 -- Words that are all 0: their union is 0, the bits of the rows among them are not set, and words are made 0. Assumes nothing.
-use mathlib.Core.Path.{◌≡◌, refl, sym, ap, ap₂, ◌∙◌}
-use mathlib.Core.Logic.{◌≢◌, ◌⊎◌, inl, inr}
+use mathlib.Core.Path.{◌≡◌, refl, sym, ap, ◌∙◌}
+use mathlib.Core.Logic.{◌⊎◌, inl, inr}
 use mathlib.Core.Bool.{true, false}
-use mathlib.Core.List.{List}
-use Prim.Native.Nat.{ℕ, ◌+◌, ◌-◌, ◌*◌, ◌/◌, ◌%◌, ◌≤◌, ◌<◌}
-use native.Mathlib.Nat.{lt_irrefl, mul-le-mul_left, mul-add}
+use mathlib.Core.List.{List, [], ◌∷◌}
+use Prim.Native.Nat.{ℕ, zero, suc, ◌+◌, ◌-◌, ◌*◌, ◌/◌, ◌%◌, ◌≤◌, ◌<◌}
+use native.Mathlib.Nat.{mul-le-mul_left, mul-add}
 use native.Mathlib.Omega.{arith}
 use lib.Dec.{eqb}
-use lib.ListN.{length, get_or, set, length-set}
-use lib.Seq.{get_or-set_same, get_or-set_other}
+use lib.ListN.{length, get_or}
 use lib.Bits.{bit_or, or_zero_l, or_add_and, and_le_l, and_le_r}
 use borrow.Author.Tests.{eqb-true, eq-eqb}
+use Rattle.std.proofs.lemmas.List.{get_or_past}
+use Rattle.std.proofs.lemmas.List.Edits.{get_or-between, length-between}
+use Rattle.std.specs.List.{fold, between}
 use Rattle.lists.specs.Lists.{range, mapl, allb, overwrite}
-use Rattle.lists.proofs.Tests.{same_test, lt_or_ge, eq_or_ne}
+use Rattle.lists.proofs.Tests.{same_test, lt_or_ge}
 use Rattle.lists.proofs.Members.{range_in, range_out, all_intro, all_elim}
 use Rattle.lists.proofs.Fills.{fill_at, fill_rest, fill_length}
 use Rattle.lists.proofs.Buffers.{buffer_ext}
@@ -24,38 +26,40 @@ use Rattle.rows.proofs.Written.{table_in}
 or_zero : (a b : ℕ) → bit_or a b ≡ 0 → (a ≡ 0) × (b ≡ 0)
 or_zero a b e = (omega (arith, or_add_and a b, and_le_r a b), omega (arith, or_add_and a b, and_le_l a b))
 
--- ---- the loop of `all_zero`: x is the union of the first j words from base on
+-- ---- the union of words is 0 where each of them is
 
-pub record Union (t : List ℕ) (base n x j : ℕ) : Type 0 where
-  pub within : j ≤ n
-  pub zeros : x ≡ 0 → (i : ℕ) → i < j → get_or t (base + i) 0 ≡ 0
-  pub zero : ((i : ℕ) → i < j → get_or t (base + i) 0 ≡ 0) → x ≡ 0
+union_zeros : (xs : List ℕ) (x : ℕ) → fold bit_or x xs ≡ 0 → (x ≡ 0) × ((k : ℕ) → get_or xs k 0 ≡ 0)
+union_zeros [] x e = (e, λ k. refl)
+union_zeros (y ∷ ys) x e =
+    let r = union_zeros ys (bit_or x y) e in
+    let q = or_zero x y r.0 in (q.0, go q.1 r.1)
+  where
+    go : y ≡ 0 → ((k : ℕ) → get_or ys k 0 ≡ 0) → (k : ℕ) → get_or (y ∷ ys) k 0 ≡ 0
+    go h t zero = h
+    go h t (suc k) = t k
 
-module _ (t : List ℕ) (base n : ℕ) where
-  pub union_start : Union t base n 0 0
-  union_start = record { within = omega arith; zeros = λ e i l. absurd (lt_irrefl i (omega arith)); zero = λ h. omega arith }
+zeros_union : (xs : List ℕ) → ((k : ℕ) → get_or xs k 0 ≡ 0) → fold bit_or 0 xs ≡ 0
+zeros_union [] h = refl
+zeros_union (y ∷ ys) h = ap (λ (x : ℕ). fold bit_or x ys) (ap (bit_or 0) (h 0) ∙ or_zero_l 0) ∙ zeros_union ys (λ k. h (suc k))
 
-  pub union_more : {x j : ℕ} → Union t base n x j → j < n → Union t base n (bit_or x (get_or t (base + j) 0)) (j + 1)
-  union_more {x} {j} u l = record {
-    within = omega arith;
-    zeros = λ e i m. go e i m (lt_or_ge i j);
-    zero = λ h. ap₂ bit_or (u.zero (λ i m. h i (omega arith))) (h j (omega arith)) ∙ or_zero_l 0;
-  }
-    where
-      go : bit_or x (get_or t (base + j) 0) ≡ 0 → (i : ℕ) → i < j + 1 → (i < j) ⊎ (j ≤ i) → get_or t (base + i) 0 ≡ 0
-      go e i m (inl k) = u.zeros (or_zero x (get_or t (base + j) 0) e).0 i k
-      go e i m (inr k) =
-          let q : i ≡ j = omega arith in
-          ap (λ (i : ℕ). get_or t (base + i) 0) q ∙ (or_zero x (get_or t (base + j) 0) e).1
+-- n words from base on
+pub union_part : (t : List ℕ) (base n : ℕ) → base + n ≤ length t
+    → eqb (fold bit_or 0 (between base (base + n) t)) 0 ≡ allb (λ i. eqb (get_or t (base + i) 0) 0) (range n)
+union_part t base n h =
+    same_test (eqb (fold bit_or 0 part) 0) (allb (λ i. eqb (get_or t (base + i) 0) 0) (range n))
+    (λ e. all_intro (λ i. eqb (get_or t (base + i) 0) 0) (range n)
+    (λ i m. eq-eqb (get_or t (base + i) 0) 0 (sym (word i (range_out n m)) ∙ (union_zeros part 0 (eqb-true (fold bit_or 0 part) 0 e)).1 i)))
+    (λ e. eq-eqb (fold bit_or 0 part) 0 (zeros_union part (λ i. zero i e (lt_or_ge i n))))
+  where
+    part : List ℕ
+    part = between base (base + n) t
 
-  pub union_end : {x j : ℕ} → Union t base n x j → n ≤ j → eqb x 0 ≡ allb (λ i. eqb (get_or t (base + i) 0) 0) (range n)
-  union_end {x} {j} u l =
-      same_test (eqb x 0) (allb (λ i. eqb (get_or t (base + i) 0) 0) (range n))
-      (λ h. all_intro (λ i. eqb (get_or t (base + i) 0) 0) (range n) (λ i m. eq-eqb (get_or t (base + i) 0) 0 (u.zeros (eqb-true x 0 h) i (omega (arith, range_out n m)))))
-      (λ h. eq-eqb x 0 (u.zero (λ i m. zeros_at h i (omega (arith, u.within)))))
-    where
-      zeros_at : allb (λ i. eqb (get_or t (base + i) 0) 0) (range n) ≡ true → (i : ℕ) → i < n → get_or t (base + i) 0 ≡ 0
-      zeros_at h i m = eqb-true (get_or t (base + i) 0) 0 (all_elim (λ i. eqb (get_or t (base + i) 0) 0) (range n) h (range_in n m))
+    word : (i : ℕ) → i < n → get_or part i 0 ≡ get_or t (base + i) 0
+    word i l = get_or-between t base (base + n) i 0 (omega arith)
+
+    zero : (i : ℕ) → allb (λ i. eqb (get_or t (base + i) 0) 0) (range n) ≡ true → (i < n) ⊎ (n ≤ i) → get_or part i 0 ≡ 0
+    zero i e (inl l) = word i l ∙ eqb-true (get_or t (base + i) 0) 0 (all_elim (λ i. eqb (get_or t (base + i) 0) 0) (range n) e (range_in n l))
+    zero i e (inr l) = get_or_past part i 0 (omega (arith, length-between t base (base + n) h))
 
 -- ---- n words from row u on are all 0, k rows and maybe more: no bit of those rows is set
 
@@ -75,23 +79,6 @@ pub rows_fit : (W u k n : ℕ) → u + k ≤ 64 * W → W * (64 * W) ≤ n → W
 rows_fit W u k n l h =
     let m : W * (u + k) ≤ W * (64 * W) = mul-le-mul_left W l in
     omega (arith, mul-add W u k)
-
--- ---- the loop of `clear_part`: the first j words from base on are made 0
-
-pub zeroed_start : (base : ℕ) (l : List ℕ) → Zeroed base 0 l l
-zeroed_start base l = record { size = refl; zeros = λ i h m. absurd (lt_irrefl i (omega arith)); low = λ i h. refl; high = λ i h. refl }
-
-pub zeroed_more : (base j : ℕ) (l₀ l : List ℕ) → Zeroed base j l₀ l → base + j < length l₀ → Zeroed base (j + 1) l₀ (set l (base + j) 0)
-zeroed_more base j l₀ l z h = record {
-  size = length-set l (base + j) 0 ∙ z.size;
-  zeros = λ i a m. go i a m (eq_or_ne i (base + j));
-  low = λ i m. get_or-set_other l (base + j) i 0 0 (λ q. omega arith) ∙ z.low i m;
-  high = λ i m. get_or-set_other l (base + j) i 0 0 (λ q. omega arith) ∙ z.high i (omega arith);
-}
-  where
-    go : (i : ℕ) → base ≤ i → i < base + (j + 1) → (i ≡ base + j) ⊎ (i ≢ base + j) → get_or (set l (base + j) 0) i 0 ≡ 0
-    go i a m (inl q) = ap (λ (i : ℕ). get_or (set l (base + j) 0) i 0) q ∙ get_or-set_same l (base + j) 0 0 (omega (arith, z.size))
-    go i a m (inr q) = get_or-set_other l (base + j) i 0 0 q ∙ z.zeros i a (omega arith)
 
 -- ---- the loop of `clear_table`: the first k words are made 0
 

@@ -37,10 +37,8 @@ pub fn degree(t: &[u64], words: usize, u: usize) -> usize
 {
     let base = words * u;
     let mut sum: usize = 0;
-    let mut j = 0;
-    while j < words {
-        sum += words::count(t[base + j]) as usize;
-        j += 1;
+    for x in &t[base..base + words] {
+        sum += words::count(*x) as usize;
     }
     sum
 }
@@ -58,13 +56,11 @@ pub fn next_member(row: &[u64], words: usize, from: usize) -> Option<usize>
     if w != 0 {
         return Some(from + words::least(w));
     }
-    let mut j = i + 1;
-    while j < words {
+    for j in i + 1..words {
         let x = row[j];
         if x != 0 {
             return Some(64 * j + words::least(x));
         }
-        j += 1;
     }
     None
 }
@@ -74,14 +70,7 @@ pub fn is_empty(row: &[u64], words: usize) -> bool
     requires { words ≤ length row.now }
     ensures { result ≡ not (anyb (row_bit words row.now) (range (64 * words))) }
 {
-    let mut j = 0;
-    while j < words {
-        if row[j] != 0 {
-            return false;
-        }
-        j += 1;
-    }
-    true
+    row[..words].iter().all(|x| *x == 0)
 }
 
 // ---- a row as a set
@@ -91,11 +80,7 @@ pub fn clear(row: &mut [u64], words: usize)
     requires { words ≤ length row.old }
     ensures { row.new ≡ overwrite (encode_row words (λ v. false)) row.old }
 {
-    let mut j = 0;
-    while j < words {
-        row[j] = 0;
-        j += 1;
-    }
+    row[..words].fill(0);
 }
 
 // ---- words of a table
@@ -105,13 +90,7 @@ pub fn all_zero(t: &[u64], base: usize, n: usize) -> bool
     requires { base + n ≤ length t.now }
     ensures { result ≡ allb (λ i. eqb (get_or t.now (base + i) 0) 0) (range n) }
 {
-    let mut union: u64 = 0;
-    let mut j = 0;
-    while j < n {
-        union = union | t[base + j];
-        j += 1;
-    }
-    union == 0
+    t[base..base + n].iter().fold(0, |union, x| union | *x) == 0
 }
 
 // Makes n words from base on 0.
@@ -119,11 +98,7 @@ fn clear_part(t: &mut [u64], base: usize, n: usize)
     requires { base + n ≤ length t.old }
     ensures { Zeroed base n t.old t.new }
 {
-    let mut j = 0;
-    while j < n {
-        t[base + j] = 0;
-        j += 1;
-    }
+    t[base..base + n].fill(0);
 }
 
 // Makes a table 0, by groups of 64 words: a group that is 0 already is only read, as most of a pair table is.
@@ -131,12 +106,10 @@ pub fn clear_table(t: &mut [u64], words: usize)
     requires { words * (64 * words) ≤ length t.old }
     ensures { t.new ≡ overwrite (encode_row (words * (64 * words)) (λ v. false)) t.old }
 {
-    let mut g = 0;
-    while g < words * words {
+    for g in 0..words * words {
         if !all_zero(&*t, 64 * g, 64) {
             clear_part(t, 64 * g, 64);
         }
-        g += 1;
     }
 }
 
@@ -147,9 +120,5 @@ pub fn fill(table: &mut [u16], n: usize, x: u16)
     requires { n ≤ length table.old }
     ensures { table.new ≡ overwrite (mapl (λ v. x) (range n)) table.old }
 {
-    let mut v = 0;
-    while v < n {
-        table[v] = x;
-        v += 1;
-    }
+    table[..n].fill(x);
 }

@@ -1,5 +1,4 @@
 -- `frontier::keep_unseen` meets its contract. The loop's invariant (Passes.antt): the first j words are kept, and their or tells whether a code is left.
--- The measure is the words left.
 use native.Mathlib.Omega.{arith}
 use Rattle.frontier.proofs.Passes.{keep-start, keep_next, keep_end}
 use Rattle.frontier.proofs.keep_unseen.Goals as goal

@@ -1,5 +1,4 @@
 -- `frontier::pass_on` meets its contract. The loop's invariant (Passes.antt): the first j words stand in the other row, and are seen.
--- The measure is the words left.
 use native.Mathlib.Omega.{arith}
 use Rattle.frontier.proofs.Passes.{pass_start, pass_next, pass_end}
 use Rattle.frontier.proofs.pass_on.Goals as goal

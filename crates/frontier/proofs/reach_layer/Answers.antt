@@ -1,5 +1,4 @@
--- `frontier::reach_layer` meets its contract. The loop's invariant (Visits.antt): the members in the first w words are visited. The measure is the words
--- left.
+-- `frontier::reach_layer` meets its contract. The loop's invariant (Visits.antt): the members in the first w words are visited.
 use borrow.Author.Rules.{rules}
 use Rattle.frontier.proofs.Visits.{words_start, words_fit, words_next, words_end}
 use Rattle.frontier.proofs.reach_layer.Goals as goal

@@ -1,4 +1,4 @@
--- `rows::clear_table` meets its contract: after g turns the first g groups are 0. The measure is the groups left.
+-- `rows::clear_table` meets its contract: after g turns the first g groups are 0.
 use mathlib.Core.Path.{◌≡◌, sym, ap, ◌∙◌, subst}
 use mathlib.Core.Bool.{false}
 use mathlib.Core.List.{List}

@@ -1,7 +1,7 @@
--- `rows::clear_table` meets its contract: after g turns the first g groups are 0. The measure is the groups left.
+-- `rows::clear_table` meets its contract: after g turns the first g groups are 0.
 use mathlib.Core.Path.{◌≡◌}
 use mathlib.Core.Bool.{false}
-use Prim.Native.Nat.{◌-◌, ◌*◌, ◌≤◌}
+use Prim.Native.Nat.{◌*◌, ◌≤◌}
 use lib.ListN.{length}
 use Rattle.lists.specs.Lists.{overwrite}
 use Rattle.rows.specs.Rows.{encode_row}
@@ -9,6 +9,3 @@ use Rattle.rows.proofs.clear_table.Given as goal
 
 abbrev pub invariant-loop-g : goal.invariant-loop-g
 invariant-loop-g l = (l.g ≤ l.words * l.words) × (length l.t ≡ length l.initial.t) × (l.t ≡ overwrite (encode_row (64 * l.g) (λ v. false)) l.initial.t)
-
-abbrev pub decreases-loop-g : goal.decreases-loop-g
-decreases-loop-g l = l.words * l.words - l.g

@@ -1,4 +1,4 @@
--- `rows::next_member` meets its contract: no number from `from` on, below the word that is next, is a member. The measure is the words left.
+-- `rows::next_member` meets its contract: no number from `from` on, below the word that is next, is a member.
 use Prim.Native.Nat.{◌/◌}
 use native.Mathlib.Omega.{arith}
 use borrow.Author.Rules.{rules}
