@@ -10,7 +10,7 @@ use native.Mathlib.Omega.{arith}
 use lib.Dec.{eqb}
 use lib.ListN.{get_or}
 use borrow.Author.Tests.{ne_eqb}
-use Rattle.lists.proofs.Tests.{clash, lt_or_ge, eq_or_ne, and-true, test_failed, test_passed}
+use Rattle.lists.proofs.Tests.{clash, lt_or_ge, eq_or_ne, and-true}
 use Rattle.words.specs.Bits.{bit}
 use Rattle.words.specs.Least.{IsLeast, WithoutLeast}
 use Rattle.words.proofs.Bits.{bit_of_zero, bit-word_of}
@@ -21,6 +21,10 @@ use Rattle.checks.specs.Sound.{all_set}
 use Rattle.checks.proofs.Sets.{all_set_intro, all_set_fault}
 
 -- ---- the invariants
+
+-- what is answered for codes below n is the test
+abbrev pub Computes : ℕ → (ℕ → ℕ → Bool → Type 0) → (ℕ → ℕ → Bool) → Type 0
+Computes n answers test = (u v : ℕ) (r : Bool) → u < n → v < n → answers u v r → r ≡ test u v
 
 -- x₀ is word w of row u, x what is left of it: each set bit of x₀ is still in x, or passes
 pub record BitsDone (test : ℕ → ℕ → Bool) (u w x₀ : ℕ) (f : Bool) (x : ℕ) : Type 0 where
@@ -48,7 +52,7 @@ bits_start h = record { fine = h; inside = λ b l e. e; passed = λ b l e. inl e
 
 -- the least bit passes, as the code's answer r says, and leaves
 pub bits_next : {test : ℕ → ℕ → Bool} {u w x₀ x y b : ℕ} {f r : Bool} → BitsDone test u w x₀ f x → IsLeast x b → WithoutLeast x y
-    → r ≡ test u (64 * w + b) → not r ≡ false → BitsDone test u w x₀ f y
+    → r ≡ test u (64 * w + b) → r ≡ true → BitsDone test u w x₀ f y
 bits_next {test} {u} {w} {x₀} {x} {y} {b} i l d a ok = record {
   fine = i.fine;
   inside = λ k m h. i.inside k m (and-true (bit x k) (not (eqb k b)) (sym (left k m) ∙ h)).0;
@@ -59,7 +63,7 @@ bits_next {test} {u} {w} {x₀} {x} {y} {b} i l d a ok = record {
     left k m = ap (λ (r : ℕ). bit r k) (d.rest b l) ∙ bit-word_of 64 (λ k. bit x k && not (eqb k b)) k m
 
     on : (k : ℕ) → k < 64 → (k ≡ b) ⊎ (k ≢ b) → (bit x k ≡ true) ⊎ (test u (64 * w + k) ≡ true) → (bit y k ≡ true) ⊎ (test u (64 * w + k) ≡ true)
-    on k m (inl e) p = inr (rw e (test_passed a ok))
+    on k m (inl e) p = inr (rw e (sym a ∙ ok))
     on k m (inr e) (inl p) = inl (left k m ∙ rw (p, ne_eqb k b e))
     on k m (inr e) (inr p) = inr p
 
@@ -120,8 +124,8 @@ scan_whole {W} {t} {test} i z = i.fine ∙ sym (all_set_intro (64 * W) (table_bi
 
 -- the least bit left does not pass, as the code's answer r says
 pub scan_fault : (W : ℕ) (t : List ℕ) {test : ℕ → ℕ → Bool} {u w x b : ℕ} {f r : Bool} → BitsDone test u w (get_or t (W * u + w) 0) f x → IsLeast x b
-    → r ≡ test u (64 * w + b) → not r ≡ true → u < 64 * W → w < W → false ≡ all_set (64 * W) (table_bit W t) test
+    → r ≡ test u (64 * w + b) → r ≡ false → u < 64 * W → w < W → false ≡ all_set (64 * W) (table_bit W t) test
 scan_fault W t {test} {u} {w} {x} {b} i l a e d h =
     sym
     (all_set_fault (64 * W) (table_bit W t) test u (64 * w + b) d (omega (arith, l.below))
-    (table_word W t u w b d h l.below ∙ i.inside b l.below l.here) (test_failed a e))
+    (table_word W t u w b d h l.below ∙ i.inside b l.below l.here) (sym a ∙ e))

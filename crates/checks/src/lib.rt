@@ -2,13 +2,40 @@
 
 #![tactic(auto)]
 
-ghost use Rattle.std.specs.Prelude.{[], ◌≡◌, ◌*◌, ◌<◌, ◌≤◌, length};
+ghost use Rattle.std.specs.Prelude.{Bool, ℕ, [], ◌≡◌, ◌*◌, ◌<◌, ◌≤◌, length};
 ghost use Rattle.lists.specs.Lists.{range};
 ghost use Rattle.rows.specs.Rows.{table_bit};
 ghost use Rattle.graph.specs.Chart.{count_pairs};
 ghost use Rattle.map.specs.Memory.{network_of, yard_network};
 ghost use Rattle.map.specs.Bits.{IsLent};
-ghost use Rattle.checks.specs.Sound.{sound_links, sound_figures};
+ghost use Rattle.checks.specs.Sound.{all_set, sound_links, sound_figures};
+
+// ---- the walk
+
+// Whether every set bit of a table passes the test, a function of row and column. Only set bits are walked, and the walk ends at the first that does not.
+fn all_set<F: Fn(usize, usize) -> bool>(table: &[u64], words: usize, passes: F) -> bool
+    requires room { (words < 513) × (words * (64 * words) ≤ length table.now) }
+    requires asked { (u v : ℕ) → u < 64 * words → v < 64 * words → F.pre passes u v }
+    ensures { (test : ℕ → ℕ → Bool)
+        → ((u v : ℕ) (r : Bool) → u < 64 * words → v < 64 * words → F.post passes u v r → r ≡ test u v)
+        → result ≡ all_set (64 * words) (table_bit words table.now) test }
+{
+    let mut fine = true;
+    'rows: for u in 0..64 * words {
+        for w in 0..words {
+            let mut x = table[words * u + w];
+            while x != 0 {
+                let v = 64 * w + words::least(x);
+                if !passes(u, v) {
+                    fine = false;
+                    break 'rows;
+                }
+                x = words::drop_least(x);
+            }
+        }
+    }
+    fine
+}
 
 // ---- sound links
 
@@ -30,25 +57,11 @@ pub fn links_are_sound(
     if !map::yards_are_open(members, yards, words) {
         return false;
     }
-    let mut fine = true;
-    let mut u: usize = 0;
-    'rows: while u < 64 * words {
-        let mut w: usize = 0;
-        while w < words {
-            let mut x = links[words * u + w];
-            while x != 0 {
-                let v = 64 * w + words::least(x);
-                if !map::link_is_sound(members, links, words, u, v) {
-                    fine = false;
-                    break 'rows;
-                }
-                x = words::drop_least(x);
-            }
-            w += 1;
-        }
-        u += 1;
-    }
-    fine
+    all_set(
+        links,
+        words,
+        |u, v| map::link_is_sound(members, links, words, u, v),
+    )
 }
 
 // ---- sound figures
@@ -59,10 +72,8 @@ fn count_pairs(pairs: &[u64], words: usize) -> usize
     ensures { result ≡ count_pairs (range (64 * words)) (table_bit words pairs.now) }
 {
     let mut sum: usize = 0;
-    let mut u: usize = 0;
-    while u < 64 * words {
+    for u in 0..64 * words {
         sum += rows::degree(pairs, words, u);
-        u += 1;
     }
     sum
 }
@@ -84,23 +95,9 @@ pub fn figures_are_sound(
     if 64 * words <= chain as usize {
         return false;
     }
-    let mut paired = true;
-    let mut low: usize = 0;
-    'rows: while low < 64 * words {
-        let mut w: usize = 0;
-        while w < words {
-            let mut x = pairs[words * low + w];
-            while x != 0 {
-                let high = 64 * w + words::least(x);
-                if !map::pair_is_sound(delivering, words, low, high) {
-                    paired = false;
-                    break 'rows;
-                }
-                x = words::drop_least(x);
-            }
-            w += 1;
-        }
-        low += 1;
-    }
-    paired
+    all_set(
+        pairs,
+        words,
+        |low, high| map::pair_is_sound(delivering, words, low, high),
+    )
 }

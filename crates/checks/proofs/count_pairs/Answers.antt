@@ -1,4 +1,4 @@
--- `checks::count_pairs` meets its contract: after u rows the sum is the count of their ones. The measure is the rows left.
+-- `checks::count_pairs` meets its contract: after u rows the sum is the count of their ones.
 use native.Mathlib.Omega.{arith}
 use Rattle.rows.proofs.Places.{row_fits}
 use borrow.Author.Rules.{rules}

@@ -1,7 +1,12 @@
--- `checks::figures_are_sound` meets its contract: count and chain are compared first; then rows, words and set bits that are done have passed, so the
--- scan ends with the whole table passed, or at a bit that refutes the test. Measures: rows, words and what is left of the word.
-use Rattle.checks.proofs.Scans.{bits_start, bits_next, words_start, words_next, rows_start, rows_next}
-use Rattle.checks.proofs.Scans.{scan_whole, scan_fault}
+-- `checks::figures_are_sound` meets its contract: count and chain are compared first; then every set bit is looked at.
+use mathlib.Core.Path.{◌≡◌}
+use mathlib.Core.List.{[]}
+use Prim.Native.Nat.{◌*◌}
+use borrow.Author.Rules.{rules}
+use Rattle.rows.specs.Rows.{table_bit}
+use Rattle.map.specs.Memory.{network_of}
+use Rattle.map.specs.Bits.{sound_pair}
+use Rattle.checks.specs.Sound.{all_set}
 use Rattle.checks.proofs.Checks.{figures_miscounted, figures_too_long, figures_scanned}
 use Rattle.checks.proofs.figures_are_sound.Goals as goal
 
@@ -11,26 +16,9 @@ returns-then-count_pairs-count c = search figures_miscounted
 pub returns-then-words-chain : goal.returns-then-words-chain
 returns-then-words-chain c = search figures_too_long
 
-pub rows-init : goal.rows-init
-rows-init c = search rows_start
-
-pub loop-w-init : goal.loop-w-init
-loop-w-init c = search words_start
-
-pub loop-x-init : goal.loop-x-init
-loop-x-init c = search bits_start
-
-pub loop-x-preserved : goal.loop-x-preserved
-loop-x-preserved c = search bits_next
-
-pub loop-w-preserved : goal.loop-w-preserved
-loop-w-preserved c = search words_next
-
-pub rows-preserved : goal.rows-preserved
-rows-preserved c = search rows_next
-
-pub returns-after-rows : goal.returns-after-rows
-returns-after-rows c = search (scan_whole, figures_scanned)
-
-pub returns-then-not-pair_is_sound : goal.returns-then-not-pair_is_sound
-returns-then-not-pair_is_sound c = search (scan_fault, figures_scanned)
+pub returns : goal.returns
+returns c =
+    let a = c.args in
+    let walked : c.all_set.result ≡ all_set (64 * a.words) (table_bit a.words a.pairs.now) (sound_pair (network_of a.words a.delivering.now [])) =
+    c.all_set.ensures _ (λ u v r l m h. search rules) in
+    search figures_scanned

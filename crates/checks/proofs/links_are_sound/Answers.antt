@@ -1,8 +1,11 @@
--- `checks::links_are_sound` meets its contract: the number is compared first, and the yards are looked at; then rows, words and set bits that are
--- done have passed, so the scan ends with the whole table passed, or at a bit that refutes the test. Measures: rows, words and what is left of the
--- word.
-use Rattle.checks.proofs.Scans.{bits_start, bits_next, words_start, words_next, rows_start, rows_next}
-use Rattle.checks.proofs.Scans.{scan_whole, scan_fault}
+-- `checks::links_are_sound` meets its contract: the number is compared first, and the yards are looked at; then every set bit is.
+use mathlib.Core.Path.{◌≡◌}
+use Prim.Native.Nat.{◌*◌}
+use borrow.Author.Rules.{rules}
+use Rattle.rows.specs.Rows.{table_bit}
+use Rattle.map.specs.Memory.{network_of}
+use Rattle.map.specs.Bits.{sound_link}
+use Rattle.checks.specs.Sound.{all_set}
 use Rattle.checks.proofs.Checks.{links_miscounted, links_closed_yard, links_scanned}
 use Rattle.checks.proofs.links_are_sound.Goals as goal
 
@@ -12,26 +15,9 @@ returns-then-degree-number c = search links_miscounted
 pub returns-then-not-yards_are_open : goal.returns-then-not-yards_are_open
 returns-then-not-yards_are_open c = search links_closed_yard
 
-pub rows-init : goal.rows-init
-rows-init c = search rows_start
-
-pub loop-w-init : goal.loop-w-init
-loop-w-init c = search words_start
-
-pub loop-x-init : goal.loop-x-init
-loop-x-init c = search bits_start
-
-pub loop-x-preserved : goal.loop-x-preserved
-loop-x-preserved c = search bits_next
-
-pub loop-w-preserved : goal.loop-w-preserved
-loop-w-preserved c = search words_next
-
-pub rows-preserved : goal.rows-preserved
-rows-preserved c = search rows_next
-
-pub returns-after-rows : goal.returns-after-rows
-returns-after-rows c = search (scan_whole, links_scanned)
-
-pub returns-then-not-link_is_sound : goal.returns-then-not-link_is_sound
-returns-then-not-link_is_sound c = search (scan_fault, links_scanned)
+pub returns : goal.returns
+returns c =
+    let a = c.args in
+    let walked : c.all_set.result ≡ all_set (64 * a.words) (table_bit a.words a.links.now) (sound_link (network_of a.words a.members.now a.links.now)) =
+    c.all_set.ensures _ (λ u v r l m h. search rules) in
+    search links_scanned
