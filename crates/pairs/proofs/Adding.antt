@@ -164,7 +164,6 @@ unfoldable pub added_below : ℕ → List ℕ → ℕ → List ℕ → ℕ → P
 added_below W last r t₀ at u v = table_bit W t₀ u v || with_set r (member_below W last at) u v
 
 pub record Adding (W : ℕ) (last : List ℕ) (r : ℕ) (t₀ t : List ℕ) (n at : ℕ) : Type 0 where
-  pub within : at ≤ 64 * W
   pub holds : HoldsPairs W (added_below W last r t₀ at) t₀ t n
 
 or_none : (x : Bool) → (x || false) ≡ x
@@ -174,7 +173,6 @@ or_none false = refl
 pub add_start : {W : ℕ} (last : List ℕ) (r : ℕ) {t : List ℕ} {n : ℕ} → HoldsPairs W (table_bit W t) t t n → Adding W last r t t n 0
 unfolding added_below
 add_start {W} last r {t} {n} h = record {
-  within = omega arith;
   holds =
       holds_ext h (added_below W last r t 0)
       (λ u v l m. sym (ap (λ (x : Bool). table_bit W t u v || x) (set-none r (member_below W last 0) (below_none W last) u v) ∙ or_none (table_bit W t u v)));
@@ -199,7 +197,7 @@ module _ {W : ℕ} {last : List ℕ} {r : ℕ} {t₀ t : List ℕ} {n j : ℕ} (
       pub add_word : ((b : ℕ) → b < 64 → bit hi b ≡ (bit (get_or last j 0) b && ltb r (64 * j + b)))
           → ((b : ℕ) → b < 64 → bit lo b ≡ (bit (get_or last j 0) b && ltb (64 * j + b) r)) → Adding W last r t₀ t₂ n₂ (64 * (j + 1))
       unfolding added_below
-      add_word above below = record { within = omega arith; holds = holds_ext both (added_below W last r t₀ (64 * (j + 1))) (λ u v l m. same u v) }
+      add_word above below = record { holds = holds_ext both (added_below W last r t₀ (64 * (j + 1))) (λ u v l m. same u v) }
         where
           assoc : (a b c d : Bool) → (((a || b) || c) || d) ≡ (a || (b || (c || d)))
           assoc true b c d = refl
@@ -235,10 +233,9 @@ upper_bits x j r {up} f e b l =
     go true (inr h) = ap not (lt-ltb (64 * j + b) (r + 1) (omega arith)) ∙ sym (le-ltb r (64 * j + b) h)
 
 -- no word is left
-pub add_end : {W : ℕ} {last : List ℕ} {r : ℕ} {t₀ t : List ℕ} {n at : ℕ} → Adding W last r t₀ t n at → 64 * W ≤ at
+pub add_end : {W : ℕ} {last : List ℕ} {r : ℕ} {t₀ t : List ℕ} {n at : ℕ} → Adding W last r t₀ t n at → at ≡ 64 * W
     → tally t n ≡ tally_of W (λ u v. table_bit W t₀ u v || pairs_with W last r u v) t₀
 unfolding added_below with_set pairs_with
-add_end {W} {last} {r} {t₀} {t} {n} {at} i z =
-    let e : at ≡ 64 * W = omega (arith, i.within) in
+add_end {W} {last} {r} {t₀} {t} {n} {at} i e =
     (holds_ext i.holds (λ u v. table_bit W t₀ u v || pairs_with W last r u v)
     (λ u v l m. ap (λ (b : Bool). table_bit W t₀ u v || b) (set_ext r (member_below W last at) (row_bit W last) (λ x. ap (λ (k : ℕ). member_below W last k x) e ∙ below_all W last x) u v))).is

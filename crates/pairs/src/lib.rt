@@ -77,14 +77,12 @@ pub fn add_pairs(pairs: &mut [u64], last: &[u64], words: usize, r: usize, count:
         ≡ tally_of words (λ u v. table_bit words before u v || pairs_with words last.now r u v) before }
 {
     let mut sum = count;
-    let mut j = 0;
-    while j < words {
+    for j in 0..words {
         let x = last[j];
         let up_to = lower_part(x, j, r + 1);
         let below = lower_part(x, j, r);
         sum = put_upper(pairs, words, r, j, x & !up_to, sum);
         sum = put_lower(pairs, words, j, below, r, sum);
-        j += 1;
     }
     sum
 }

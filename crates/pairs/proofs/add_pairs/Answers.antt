@@ -1,5 +1,5 @@
 -- `pairs::add_pairs` meets its contract. The loop's invariant (Adding.antt): the pairs of r with the members in the words passed are in the table,
--- and the sum counts them all. The measure is the words left.
+-- and the sum counts them all.
 use native.Mathlib.Omega.{arith}
 use Rattle.pairs.proofs.Tallies.{holds_whole, holds_length, holds_counted}
 use Rattle.pairs.proofs.Adding.{add_start, add_upper, add_word, lower_bits, upper_bits, add_end}
@@ -8,27 +8,6 @@ use Rattle.pairs.proofs.add_pairs.Goals as goal
 pub loop-j-init : goal.loop-j-init
 loop-j-init c =
     add_start _ _ (holds_whole c.requires.0 (λ i l. (c.slice_known-1.given i).fits))
-
-pub offset_bounds-last-j : goal.offset_bounds-last-j
-offset_bounds-last-j c =
-    omega (arith, c.requires.1, c.loop-j-test.true)
-
-pub bounds-last-j : goal.bounds-last-j
-bounds-last-j c =
-    omega (arith, c.requires.1, c.loop-j-test.true)
-
-pub overflow_add-r : goal.overflow_add-r
-overflow_add-r c =
-    let pre = c.requires in
-    omega (arith, pre.2, pre.0.most)
-
-pub lower_part-up_to-requires : goal.lower_part-up_to-requires
-lower_part-up_to-requires c =
-    omega (arith, c.loop-j-test.true, c.requires.0.most)
-
-pub lower_part-below-requires : goal.lower_part-below-requires
-lower_part-below-requires c =
-    omega (arith, c.loop-j-test.true, c.requires.0.most)
 
 pub put_lower-sum-requires : goal.put_lower-sum-requires
 put_lower-sum-requires c =
@@ -39,14 +18,6 @@ put_lower-sum-requires c =
       c.loop-j-test.true,
     )
 
-pub overflow_add-j : goal.overflow_add-j
-overflow_add-j c =
-    omega (arith, c.loop-j-test.true, c.requires.0.most)
-
-pub loop-j-smaller : goal.loop-j-smaller
-loop-j-smaller c =
-    omega (arith, c.loop-j-test.true)
-
 pub loop-j-preserved : goal.loop-j-preserved
 loop-j-preserved c =
     add_word c.loop-j.invariant c.loop-j-test.true _ c.put_upper-sum.ensures _
@@ -55,8 +26,7 @@ loop-j-preserved c =
     (lower_bits _ _ _ c.lower_part-below.ensures)
 
 pub returns : goal.returns
-returns c =
-    add_end c.loop-j.invariant (omega (arith, c.loop-j-test.false))
+returns c = add_end c.loop-j.invariant (omega arith)
 
 pub put_upper-sum-requires : goal.put_upper-sum-requires
 put_upper-sum-requires c = search holds_counted
