@@ -1,16 +1,19 @@
 -- `bounds::relax` meets its contract. The loop's invariant (Relaxing.antt): the codes below v are relaxed, the others as they were.
--- The measure is the codes left.
 use Rattle.bounds.proofs.Relaxing.{relax_none, relax_more, relax_end, relax_thinned}
+use borrow.Author.Rules.{rules}
 use native.Mathlib.Omega.{arith}
 use Rattle.bounds.proofs.relax.Goals as goal
 
 pub loop-v-preserved : goal.loop-v-preserved
 loop-v-preserved c =
     relax_more _ _ _ _ _ _ _ _ _ _ _ _ c.loop-v.invariant _ _ _ c.gap-below.ensures.0 c.skip_taken.ensures
-    c.rank_left.ensures c.loop-v-test.true (omega arith) (omega arith) (omega arith)
+    c.rank_left.ensures (omega arith) (omega arith) (omega arith)
 
 pub loop-v-init : goal.loop-v-init
 loop-v-init c = search relax_none
 
-pub returns : goal.returns
-returns c = search (relax_end, relax_thinned)
+pub returns-clause-relaxed : goal.returns-clause-relaxed
+returns-clause-relaxed c = search (relax_end, rules)
+
+pub returns-clause-thinned : goal.returns-clause-thinned
+returns-clause-thinned c = search (relax_thinned, rules)

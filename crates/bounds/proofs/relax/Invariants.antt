@@ -1,11 +1,6 @@
 -- `bounds::relax` meets its contract. The loop's invariant (Relaxing.antt): the codes below v are relaxed, the others as they were.
--- The measure is the codes left.
-use Prim.Native.Nat.{◌-◌, ◌*◌}
 use Rattle.bounds.proofs.Relaxing.{Relaxing}
 use Rattle.bounds.proofs.relax.Given as goal
 
 abbrev pub invariant-loop-v : goal.invariant-loop-v
 invariant-loop-v l = Relaxing l.words l.hops l.r l.e l.c l.initial.bounds l.initial.skips l.initial.ranks l.bounds l.skips l.ranks l.v
-
-abbrev pub decreases-loop-v : goal.decreases-loop-v
-decreases-loop-v l = 64 * l.words - l.v
