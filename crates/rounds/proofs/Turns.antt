@@ -21,13 +21,13 @@ use Rattle.rows.proofs.Written.{row_at, table_zero}
 use Rattle.rows.proofs.Puts.{put_here, put_rest}
 use Rattle.layers.specs.Layers.{Searched, searched, search_table}
 use Rattle.map.specs.Memory.{table_network}
-use Rattle.map.specs.Room.{Tables}
+use Rattle.map.specs.Room.{Tables, tables}
 use Rattle.targets.specs.Reach.{Reached}
 use Rattle.pairs.proofs.Settling.{settle_counted}
 use Rattle.pairs.specs.Pairs.{Tally, tally, tally_of, settle_of, Counted}
 use Rattle.pairs.proofs.Tallies.{holds_counted}
 use Rattle.bounds.specs.Bounds.{Marks, marks, leave_of, waiting_after, relax_of}
-use Rattle.ranks.specs.Ranks.{pick_in}
+use Rattle.ranks.specs.Ranks.{pick_in, waiting_of}
 use Rattle.rounds.specs.Workspace.{Workspace, workspace, last_row, reach_in, Absorbed, absorbed, absorbing, holding, absorb_of, round_of, or_end, run_of, RoundsBegun, rounds_begun, rounds_begin_of}
 use Rattle.rounds.proofs.Reaching.{reach_free}
 use Rattle.rounds.proofs.Finish.{cleared_table, count_no_pairs}
@@ -50,17 +50,22 @@ unfolding absorbing holding
 absorb_is W mark r R h A true t c l m m' a b k d f = rw (f, d, a, k, b)
 absorb_is W mark r R h A false t c l m m' a b k d f = rw (f, d, a, k, b)
 
-pub round_is_absorbed : (W : ℕ) (targets links : List ℕ) (mark r : ℕ) (M : Workspace) (d : ℕ) (T : Tables) (R : Reached) (row : List ℕ) (t : Tally) (m : Marks) (c n : ℕ)
+pub round_is_absorbed : (W : ℕ) (targets links : List ℕ) (mark r : ℕ) (M : Workspace) (d : ℕ) (T : Tables) (R : Reached) (row h : List ℕ) (t : Tally) (m : Marks) (c n : ℕ)
     → searched d T ≡ search_table W links r M.searched → R ≡ reach_in W targets r d T row
-    → absorbed t m c ≡ absorbing W mark r R T.hops (absorbed M.paired M.marked M.candidate) → n ≡ M.searches + 1
+    → h ≡ T.hops → absorbed t m c ≡ absorbing W mark r R h (absorbed M.paired M.marked M.candidate) → n ≡ M.searches + 1
     → workspace t T m c n ≡ round_of W targets links mark r M
 unfolding round_of absorb_of
-round_is_absorbed W targets links mark r M d T R row t m c n s q a k =
+round_is_absorbed W targets links mark r M d T R row h t m c n s q l a k =
     let A = absorbed M.paired M.marked M.candidate in
     let b : absorbed t m c ≡ absorbing W mark r (reach_in W targets r d T []) T.hops A =
-    a ∙ ap (λ (R : Reached). absorbing W mark r R T.hops A) q ∙ reach_free W mark r d targets T.hops (last_row d T) row [] T.hops A in
+    a ∙ ap (λ (h : List ℕ). absorbing W mark r R h A) l ∙ ap (λ (R : Reached). absorbing W mark r R T.hops A) q ∙ reach_free W mark r d targets T.hops (last_row d T) row [] T.hops A in
     ap₂ (λ (A : Absorbed) (x : ℕ). workspace A.paired T A.marked A.candidate x) b k
     ∙ ap (λ (X : Searched). absorb_of W mark r (reach_in W targets r X.depth X.left []) X.left M) s
+
+-- the tables that the room and the desk lent for it are theirs again
+pub handed_back : (W : ℕ) (M : Workspace) (t : Tally) (h e o b s k h' e' o' b' s' k' : List ℕ) (c n : ℕ) → workspace t (tables h e o) (marks b s (waiting_of W k)) c n ≡ M
+    → h' ≡ h → e' ≡ e → o' ≡ o → b' ≡ b → s' ≡ s → k' ≡ k → workspace t (tables h' e' o') (marks b' s' (waiting_of W k')) c n ≡ M
+handed_back W M t h e o b s k h' e' o' b' s' k' c n m qh qe qo qb qs qk = rw (qh, qe, qo, qb, qs, qk) m
 
 -- ---- the start
 

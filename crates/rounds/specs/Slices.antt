@@ -1,22 +1,38 @@
--- THE WORKSPACE OF THE ROUNDS AS ONE VALUE, so that a contract names them once: by the references that a `requires` sees, and by those of an `ensures`, each
--- at both moments of the call.
+-- WHAT IS LENT TO THE ROUNDS AS ONE VALUE, so that a contract names it once; what its sizes are; and that it lends the same tables after a call.
 -- Assumes nothing.
-use Rattle.std.specs.Prelude.{ℕ}
-use Rattle.map.specs.Slices.{Slice, Moments, tables_at}
+use Rattle.std.specs.Prelude.{ℕ, List}
+use Rattle.map.specs.Slices.{IsSameSlice}
+use Rattle.map.specs.Room.{tables}
+use Rattle.map.specs.declared.Room.{Room}
 use Rattle.pairs.specs.Pairs.{tally}
-use Rattle.bounds.specs.Slices.{marks_at}
-use Rattle.rounds.specs.Workspace.{Workspace, workspace}
+use Rattle.bounds.specs.Bounds.{marks, Fits}
+use Rattle.ranks.specs.Ranks.{waiting_of}
+use Rattle.rounds.specs.Workspace.{Workspace, workspace, RoundRoom}
+use Rattle.rounds.specs.declared.Desk.{Desk}
+use Rattle.rounds.specs.declared.RoundFigures.{RoundFigures}
 
--- ---- the workspace of the rounds: pairs, hops, bounds, skips, even, odd, ranks; then candidate, count and searches
+-- the workspace of the rounds of W words: the room, the ranks on the desk, and the figures so far
+abbrev pub workspace_in : ℕ → Room → Desk → RoundFigures → Workspace
+workspace_in W r d f =
+    workspace
+    (tally r.pairs.now f.count)
+    (tables r.hops.now r.even.now r.odd.now)
+    (marks r.bounds.now r.skips.now (waiting_of W d.ranks.now))
+    f.candidate
+    f.searches
 
-abbrev pub workspace_at : ℕ → Slice → Slice → Slice → Slice → Slice → Slice → Slice → ℕ → ℕ → ℕ → Workspace
-workspace_at W pairs hops bounds skips even odd ranks candidate count searches =
-    workspace (tally pairs.now count) (tables_at hops even odd) (marks_at W bounds skips ranks) candidate searches
+-- the marks in it have the sizes that the inner functions ask
+abbrev pub MarksFitIn : ℕ → Room → Desk → Type 0
+MarksFitIn W r d = Fits W r.bounds.now r.skips.now d.ranks.now
 
-abbrev pub workspace_before : ℕ → Moments → Moments → Moments → Moments → Moments → Moments → Moments → ℕ → ℕ → ℕ → Workspace
-workspace_before W pairs hops bounds skips even odd ranks =
-    workspace_at W pairs.entry hops.entry bounds.entry skips.entry even.entry odd.entry ranks.entry
+-- and the rest of it has
+abbrev pub RoomFits : ℕ → List ℕ → List ℕ → Room → Desk → Type 0
+RoomFits W targets links r d =
+    RoundRoom W targets links r.hops.now r.even.now r.odd.now d.seen.now d.next.now d.partners.now
 
-abbrev pub workspace_after : ℕ → Moments → Moments → Moments → Moments → Moments → Moments → Moments → ℕ → ℕ → ℕ → Workspace
-workspace_after W pairs hops bounds skips even odd ranks =
-    workspace_at W pairs.exit hops.exit bounds.exit skips.exit even.exit odd.exit ranks.exit
+-- each field lends the buffer that it lent
+pub record IsSameDesk (d e : Desk) : Type 0 where
+  pub seen : IsSameSlice d.seen e.seen
+  pub next : IsSameSlice d.next e.next
+  pub partners : IsSameSlice d.partners e.partners
+  pub ranks : IsSameSlice d.ranks e.ranks

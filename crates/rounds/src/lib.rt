@@ -4,45 +4,77 @@
 
 ghost use Rattle.std.specs.Prelude.{◌≡◌, cond, ◌+◌, ◌*◌, ◌^◌, ◌<◌, ◌≤◌, ltb, length};
 ghost use Rattle.pairs.specs.Pairs.{tally, Counted};
-ghost use Rattle.ranks.specs.Ranks.{AreRanks, AreThinned};
-ghost use Rattle.bounds.specs.Bounds.{Fits};
+ghost use Rattle.ranks.specs.Ranks.{AreRanks, AreThinned, PickIs};
 ghost use Rattle.targets.specs.Reach.{reached};
-ghost use Rattle.rounds.specs.Workspace.{reach_in, absorbed, absorbing, holding, round_of, run_of, rounds_begun, rounds_begin_of, RoundRoom};
-ghost use Rattle.map.specs.Room.{tables};
-ghost use Rattle.bounds.specs.Slices.{marks_before, marks_after};
-ghost use Rattle.rounds.specs.Slices.{workspace_before, workspace_after};
+ghost use Rattle.rounds.specs.Workspace.{reach_in, absorbed, absorbing, holding, round_of, run_of, rounds_begun, rounds_begin_of};
+ghost use Rattle.map.specs.Slices.{tables_in, IsSameRoom};
+ghost use Rattle.bounds.specs.Slices.{marks_in, MarksFit, IsSameMarks};
+ghost use Rattle.rounds.specs.Slices.{workspace_in, MarksFitIn, RoomFits, IsSameDesk};
 
-use rows::Next;
+use bounds::Marks;
+use map::{Room, Scratch};
 use targets::Span;
+
+// ---- what a round is told and lent
+
+// What rounds read of a map: its open set, the row of the targets, which are the depots that deliver, and its links.
+#[derive(Clone, Copy)]
+pub struct Plan<'a> {
+    pub members: &'a [u64],
+    pub targets: &'a [u64],
+    pub links: &'a [u64],
+}
+
+// What rounds keep beside the lent room: the codes seen and the next layer of a search, a row for partners, and the ranks of the depots that remain.
+#[derive(Drop)]
+pub struct Desk<'a> {
+    pub seen: &'a mut [u64],
+    pub next: &'a mut [u64],
+    pub partners: &'a mut [u64],
+    pub ranks: &'a mut [u16],
+}
 
 // ---- one round
 
 // What a search from r to this depth says of it: how far the targets lie, and its partners. The last layer stands in the row of the depth's parity.
 pub fn reach_by(
     targets: &[u64],
-    hops: &[u16],
-    even: &[u64],
-    odd: &[u64],
+    scratch: &Scratch<'_>,
     partners: &mut [u64],
     words: usize,
     r: usize,
     depth: u16,
 ) -> Span
     requires { (words ≤ length targets.now)
-        × (64 * words ≤ length hops.now)
-        × (words ≤ length even.now)
-        × (words ≤ length odd.now)
+        × (64 * words ≤ length scratch.now.hops.now)
+        × (words ≤ length scratch.now.even.now)
+        × (words ≤ length scratch.now.odd.now)
         × (words ≤ length partners.old)
         × (words < 2 ^ 32)
         × (r < 64 * words) }
-    ensures { let T = tables hops.now even.now odd.now in
-        reached result.ecc result.own partners.new
-        ≡ reach_in words targets.now r depth T partners.old }
+    ensures { reached result.ecc result.own partners.new
+        ≡ reach_in words targets.now r depth (tables_in scratch.now) partners.old }
 {
     if depth % 2 == 0 {
-        return targets::reach(targets, hops, even, partners, words, r, depth);
+        return targets::reach(
+            targets,
+            &*scratch.hops,
+            &*scratch.even,
+            partners,
+            words,
+            r,
+            depth,
+        );
     }
-    targets::reach(targets, hops, odd, partners, words, r, depth)
+    targets::reach(
+        targets,
+        &*scratch.hops,
+        &*scratch.odd,
+        partners,
+        words,
+        r,
+        depth,
+    )
 }
 
 // The candidate after a search whose own eccentricity is e.
@@ -78,10 +110,8 @@ fn skip_limit(skipping: bool, c: u16) -> u16
 pub fn absorb(
     pairs: &mut [u64],
     hops: &[u16],
-    bounds: &mut [u16],
-    skips: &mut [u16],
+    marks: &mut Marks<'_>,
     partners: &[u64],
-    ranks: &mut [u16],
     words: usize,
     mark: u16,
     r: usize,
@@ -91,22 +121,23 @@ pub fn absorb(
     skipping: bool,
 ) -> RoundFigures
     requires { Counted words pairs.old count
-        × Fits words bounds.old skips.old ranks.old
+        × MarksFit words marks.old
         × (64 * words ≤ length hops.now)
         × (words ≤ length partners.now)
         × (r < 64 * words) }
-    ensures { let R = reached span.ecc span.own partners.now in
-        let before = absorbed (tally pairs.old count) (marks_before words bounds skips ranks) candidate in
-        let after = absorbed (tally pairs.new result.count) (marks_after words bounds skips ranks) result.candidate in
+    ensures same { IsSameMarks marks.old marks.new }
+    ensures taken { let R = reached span.ecc span.own partners.now in
+        let before = absorbed (tally pairs.old count) (marks_in words marks.old) candidate in
+        let after = absorbed (tally pairs.new result.count) (marks_in words marks.new) result.candidate in
         let h = hops.now in
-        (after ≡ cond skipping (absorbing words mark r R h before) (holding words mark r R h before))
-        × AreThinned words ranks.old ranks.new }
+        after ≡ cond skipping (absorbing words mark r R h before) (holding words mark r R h before) }
+    ensures thinned { AreThinned words marks.old.ranks.now marks.new.ranks.now }
 {
     let sum = pairs::settle(pairs, partners, words, r, span.own, candidate, count);
     let c = raise(candidate, span.own);
     let limit = skip_limit(skipping, c);
-    bounds::leave(bounds, skips, ranks, words, r, span.ecc, mark);
-    bounds::relax(hops, bounds, skips, ranks, words, r as u16, span.ecc, limit);
+    bounds::leave(marks, words, r, span.ecc, mark);
+    bounds::relax(hops, marks, words, r as u16, span.ecc, limit);
     RoundFigures {
         candidate: c,
         count: sum,
@@ -118,40 +149,43 @@ pub fn absorb(
 fn round(
     targets: &[u64],
     links: &[u64],
-    pairs: &mut [u64],
-    hops: &mut [u16],
-    bounds: &mut [u16],
-    skips: &mut [u16],
-    even: &mut [u64],
-    odd: &mut [u64],
-    seen: &mut [u64],
-    next: &mut [u64],
-    partners: &mut [u64],
-    ranks: &mut [u16],
+    room: &mut Room<'_>,
+    desk: &mut Desk<'_>,
     words: usize,
     mark: u16,
     r: usize,
     before: RoundFigures,
 ) -> RoundFigures
-    requires { RoundRoom words targets.now links.now hops.old even.old odd.old seen.old next.old partners.old
-        × Counted words pairs.old before.count
-        × Fits words bounds.old skips.old ranks.old
+    requires { RoomFits words targets.now links.now room.old desk.old
+        × Counted words room.old.pairs.now before.count
+        × MarksFitIn words room.old desk.old
         × (r < 64 * words)
         × (before.searches ≤ 64 * words + 1) }
-    ensures { let entry = workspace_before words pairs hops bounds skips even odd ranks before.candidate before.count before.searches in
-        let exit = workspace_after words pairs hops bounds skips even odd ranks result.candidate result.count result.searches in
-        (exit ≡ round_of words targets.now links.now mark r entry)
-        × AreThinned words ranks.old ranks.new }
+    ensures same_room { IsSameRoom room.old room.new }
+    ensures same_desk { IsSameDesk desk.old desk.new }
+    ensures left { workspace_in words room.new desk.new result ≡ round_of words targets.now links.now mark r (workspace_in words room.old desk.old before) }
+    ensures thinned { AreThinned words desk.old.ranks.now desk.new.ranks.now }
 {
-    let depth = layers::search_table(links, hops, even, odd, seen, next, words, r);
-    let span = reach_by(targets, &*hops, &*even, &*odd, partners, words, r, depth);
+    let pairs = &mut *room.pairs;
+    let hops = &mut *room.hops;
+    let partners = &mut *desk.partners;
+    let mut scratch = Scratch {
+        hops: &mut *hops,
+        even: &mut *room.even,
+        odd: &mut *room.odd,
+    };
+    let mut marks = Marks {
+        bounds: &mut *room.bounds,
+        skips: &mut *room.skips,
+        ranks: &mut *desk.ranks,
+    };
+    let depth = layers::search_table(links, &mut scratch, desk.seen, desk.next, words, r);
+    let span = reach_by(targets, &scratch, partners, words, r, depth);
     let got = absorb(
         pairs,
         &*hops,
-        bounds,
-        skips,
+        &mut marks,
         &*partners,
-        ranks,
         words,
         mark,
         r,
@@ -169,45 +203,40 @@ fn round(
 
 // ---- rounds until none remains
 
-// Rounds until no depot remains, after up to two searches. What stands in ranks, seen, next and partners afterwards is free where the caller does not
-// look.
+// The next reference, by the ranks on the desk.
+fn pick_next(desk: &Desk<'_>, words: usize) -> Option<usize>
+    requires { (words < 513) × (64 * words ≤ length desk.now.ranks.now) }
+    ensures { PickIs words desk.now.ranks.now result }
+{
+    ranks::pick_next(&*desk.ranks, words)
+}
+
+// Rounds until no depot remains, after up to two searches. What stands on the desk afterwards is free where the caller does not look.
 pub fn run_rounds(
     targets: &[u64],
     links: &[u64],
-    pairs: &mut [u64],
-    hops: &mut [u16],
-    bounds: &mut [u16],
-    skips: &mut [u16],
-    even: &mut [u64],
-    odd: &mut [u64],
-    seen: &mut [u64],
-    next: &mut [u64],
-    partners: &mut [u64],
-    ranks: &mut [u16],
+    room: &mut Room<'_>,
+    desk: &mut Desk<'_>,
     words: usize,
     mark: u16,
     before: RoundFigures,
 ) -> RoundFigures
-    requires { RoundRoom words targets.now links.now hops.old even.old odd.old seen.old next.old partners.old
-        × Counted words pairs.old before.count
-        × Fits words bounds.old skips.old ranks.old
-        × AreRanks words links.now ranks.old
+    requires { RoomFits words targets.now links.now room.old desk.old
+        × Counted words room.old.pairs.now before.count
+        × MarksFitIn words room.old desk.old
+        × AreRanks words links.now desk.old.ranks.now
         × (before.searches < 3) }
-    ensures { let entry = workspace_before words pairs hops bounds skips even odd ranks before.candidate before.count before.searches in
-        let exit = workspace_after words pairs hops bounds skips even odd ranks result.candidate result.count result.searches in
-        exit ≡ run_of words targets.now links.now mark (64 * words) entry }
+    ensures same_room { IsSameRoom room.old room.new }
+    ensures same_desk { IsSameDesk desk.old desk.new }
+    ensures left { let entry = workspace_in words room.old desk.old before in
+        workspace_in words room.new desk.new result ≡ run_of words targets.now links.now mark (64 * words) entry }
 {
     let mut now = before;
     loop {
-        let found = ranks::pick_next(&*ranks, words);
-        let Next::At(r) = found else {
+        let Some(r) = pick_next(&*desk, words) else {
             return now;
         };
-        let after = round(
-            targets, links, pairs, hops, bounds, skips, even, odd, seen, next, partners, ranks,
-            words, mark, r, now,
-        );
-        now = after;
+        now = round(targets, links, room, desk, words, mark, r, now);
     }
 }
 
@@ -216,23 +245,21 @@ pub fn begin(
     members: &[u64],
     links: &[u64],
     pairs: &mut [u64],
-    bounds: &mut [u16],
-    skips: &mut [u16],
-    ranks: &mut [u16],
+    marks: &mut Marks<'_>,
     words: usize,
     other: u16,
 )
-    requires { Fits words bounds.old skips.old ranks.old
+    requires { MarksFit words marks.old
         × (words * (64 * words) ≤ length pairs.old)
         × (words ≤ length members.now)
         × (words * (64 * words) ≤ length links.now) }
-    ensures { let before = rounds_begun pairs.old (marks_before words bounds skips ranks) in
-        let after = rounds_begun pairs.new (marks_after words bounds skips ranks) in
-        (after ≡ rounds_begin_of words other members.now before)
-        × AreRanks words links.now ranks.new }
+    ensures same { IsSameMarks marks.old marks.new }
+    ensures begun { rounds_begun pairs.new (marks_in words marks.new)
+        ≡ rounds_begin_of words other members.now (rounds_begun pairs.old (marks_in words marks.old)) }
+    ensures ranked { AreRanks words links.now marks.new.ranks.now }
 {
     rows::clear_table(pairs, words);
-    rows::fill(bounds, 64 * words, map::UNREACHED);
-    rows::fill(skips, 64 * words, other);
-    ranks::rank_all(members, links, ranks, words);
+    rows::fill(marks.bounds, 64 * words, map::UNREACHED);
+    rows::fill(marks.skips, 64 * words, other);
+    ranks::rank_all(members, links, marks.ranks, words);
 }
