@@ -10,6 +10,9 @@ ghost use Rattle.graph.specs.Opening.{notice_of, strictly_rising, is_empty, open
 ghost use Rattle.graph.specs.Linking.{link_faults};
 ghost use Rattle.rows.specs.Rows.{row_bit, table_bit, encode_table};
 ghost use Rattle.map.specs.Memory.{base, network_of};
+ghost use Rattle.outcome.specs.Refusals.{refused_by};
+
+use outcome::Refusal;
 
 // ---- refusals 5 to 8
 
@@ -41,25 +44,30 @@ fn all_open(members: &[u64], words: usize, neighbours: &[u8]) -> bool
         .all(|v| map::is_open(members, words, *v as usize))
 }
 
-// The first of the refusals 5 to 8 that holds, 0 for none. They ask only which codes are open, so no link is lent; nor do they ask whether the notice
+// The first of the refusals 5 to 8 that holds. They ask only which codes are open, so no link is lent; nor do they ask whether the notice
 // or any open depot is a yard (`faults_any`, proofs/Theorems).
-pub fn notice_refusal(members: &[u64], words: usize, code: u8, neighbours: &[u8]) -> u8
+pub fn notice_refusal(
+    members: &[u64],
+    words: usize,
+    code: u8,
+    neighbours: &[u8],
+) -> Result<(), Refusal>
     requires { (base.words ≤ words) × (words < 513) × (words ≤ length members.now) }
-    ensures { result ≡ first_of (open_faults (network_of words members.now []) (notice_of false code neighbours.now)) }
+    ensures { refused_by result ≡ first_of (open_faults (network_of words members.now []) (notice_of false code neighbours.now)) }
 {
     if map::is_open(members, words, code as usize) {
-        return outcome::TAKEN;
+        return Err(Refusal::Taken);
     }
     if is_lonely(members, words, neighbours) {
-        return outcome::LONELY;
+        return Err(Refusal::Lonely);
     }
     if !is_rising(neighbours) {
-        return outcome::UNSORTED;
+        return Err(Refusal::Unsorted);
     }
     if !all_open(members, words, neighbours) {
-        return outcome::UNKNOWN;
+        return Err(Refusal::Unknown);
     }
-    0
+    Ok(())
 }
 
 // ---- the links of a new depot
@@ -82,27 +90,33 @@ pub fn link_depot(links: &mut [u64], words: usize, code: u8, neighbours: &[u8])
 
 // ---- a link between two depots
 
-// The first of the refusals 4, 13 and 14 that holds, 0 for none.
-pub fn link_refusal(members: &[u64], links: &[u64], words: usize, first: u8, second: u8) -> u8
+// The first of the refusals 4, 13 and 14 that holds.
+pub fn link_refusal(
+    members: &[u64],
+    links: &[u64],
+    words: usize,
+    first: u8,
+    second: u8,
+) -> Result<(), Refusal>
     requires { (base.words ≤ words)
         × (words < 513)
         × (words ≤ length members.now)
         × (words * (64 * words) ≤ length links.now) }
-    ensures { result ≡ first_of (link_faults (network_of words members.now links.now) first second) }
+    ensures { refused_by result ≡ first_of (link_faults (network_of words members.now links.now) first second) }
 {
     if !map::is_open(members, words, first as usize) {
-        return outcome::ABSENT;
+        return Err(Refusal::Absent);
     }
     if !map::is_open(members, words, second as usize) {
-        return outcome::ABSENT;
+        return Err(Refusal::Absent);
     }
     if first == second {
-        return outcome::ITSELF;
+        return Err(Refusal::Itself);
     }
     if rows::row_test(links, words, first as usize, second as usize) {
-        return outcome::LINKED;
+        return Err(Refusal::Linked);
     }
-    0
+    Ok(())
 }
 
 // Links two codes, both ways.

@@ -1,5 +1,7 @@
 -- Where a line ends.
 pub mod Ends
+-- What a byte's kind says of the frames that begin with it.
+pub mod Bytes
 -- The tests of a frame, and of digits that spell one.
 pub mod Tests
 -- What the two calls answer, way out by way out.

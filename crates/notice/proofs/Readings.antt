@@ -8,11 +8,13 @@ use lib.Seq.{drop-append-le, take_at, take_all}
 use borrow.Author.Tests.{le-ltb, ltb-true}
 use Rattle.lists.specs.Lists.{overwrite}
 use Rattle.outcome.specs.Numbers.{garbled_line}
+use Rattle.outcome.specs.Refusals.{number_of}
+use Rattle.outcome.specs.declared.Refusal.{Refusal}
+use Rattle.std.specs.Prelude.{Result, Ok, Err}
 use Rattle.hexadecimal.specs.Hex.{is_byte}
 use Rattle.notice.specs.Lines.{Line, garbled, frame, read_line}
 use Rattle.notice.specs.Calls.{frame_limit, line_done, line_refused, reading_of, LineLeft, line_left, read_into, read_call}
-use Rattle.notice.specs.declared.Reading.{Reading}
-use Rattle.notice.specs.declared.Reading.TheVariants.{Frame, Refused as NoReading}
+use Rattle.notice.specs.declared.Frame.{Frame}
 use Rattle.lists.proofs.Scans.{all-at}
 use Rattle.notice.proofs.Tests.{length_most, frame_parts}
 use Rattle.notice.proofs.Theorems.{read_frame}
@@ -58,27 +60,27 @@ stands_in f buffer l k = record {
 }
 
 -- the reader's answers, one by one
-pub frame_read : (text buffer : List ℕ) {r : Reading} {n u : ℕ} {after : List ℕ} → frame_limit ≤ length buffer → r ≡ Frame n u → line_left (reading_of r) after ≡ read_call text buffer
-    → (f : List ℕ) × (read_line text ≡ frame f u) × FrameStands f n after
+pub frame_read : (text buffer : List ℕ) {r : Result Frame Refusal} {w : Frame} {after : List ℕ} → frame_limit ≤ length buffer → r ≡ Ok w → line_left (reading_of r) after ≡ read_call text buffer
+    → (f : List ℕ) × (read_line text ≡ frame f w.used) × FrameStands f w.length after
 unfolding reading_of read_into
-frame_read text buffer {r} {n} {u} {after} k g e = go (read_line text) refl (sym (ap (λ (x : Reading). line_left (reading_of x) after) g) ∙ e ∙ read_into_lem text buffer k)
+frame_read text buffer {r} {w} {after} k g e = go (read_line text) refl (sym (ap (λ (x : Result Frame Refusal). line_left (reading_of x) after) g) ∙ e ∙ read_into_lem text buffer k)
   where
-    go : (l : Line) → read_line text ≡ l → line_left (line_done n u) after ≡ read_into l buffer → (f : List ℕ) × (read_line text ≡ frame f u) × FrameStands f n after
+    go : (l : Line) → read_line text ≡ l → line_left (line_done w.length w.used) after ≡ read_into l buffer → (f : List ℕ) × (read_line text ≡ frame f w.used) × FrameStands f w.length after
     go garbled q r = let z : ◌≡◌ {A = ℕ} 0 garbled_line = ap (λ (x : LineLeft). x.answer.refusal) r in absurd (omega arith)
     go (frame f v) q r =
         let p = frame-length text f v q in
-        let s : length f ≡ n = sym (ap (λ (x : LineLeft). x.answer.written) r) in
+        let s : length f ≡ w.length = sym (ap (λ (x : LineLeft). x.answer.written) r) in
         let t : overwrite f buffer ≡ after = sym (ap (λ (x : LineLeft). x.buffer) r) in
-        let w : v ≡ u = sym (ap (λ (x : LineLeft). x.answer.used) r) in
-        (f, q ∙ ap (frame f) w, subst (λ (m : ℕ). FrameStands f m after) s (subst (FrameStands f (length f)) t (stands_in f buffer p.0 p.1)))
+        let u : v ≡ w.used = sym (ap (λ (x : LineLeft). x.answer.used) r) in
+        (f, q ∙ ap (frame f) u, subst (λ (m : ℕ). FrameStands f m after) s (subst (FrameStands f (length f)) t (stands_in f buffer p.0 p.1)))
 
 -- a line that does not read
-pub garbled_read : (text buffer : List ℕ) {r : Reading} {n : ℕ} {after : List ℕ} → frame_limit ≤ length buffer → r ≡ NoReading n → line_left (reading_of r) after ≡ read_call text buffer
-    → (read_line text ≡ garbled) × (n ≡ garbled_line)
+pub garbled_read : (text buffer : List ℕ) {r : Result Frame Refusal} {e : Refusal} {after : List ℕ} → frame_limit ≤ length buffer → r ≡ Err e → line_left (reading_of r) after ≡ read_call text buffer
+    → (read_line text ≡ garbled) × (number_of e ≡ garbled_line)
 unfolding reading_of read_into
-garbled_read text buffer {r} {n} {after} k g e = go (read_line text) refl (sym (ap (λ (x : Reading). line_left (reading_of x) after) g) ∙ e ∙ read_into_lem text buffer k)
+garbled_read text buffer {r} {e} {after} k g h = go (read_line text) refl (sym (ap (λ (x : Result Frame Refusal). line_left (reading_of x) after) g) ∙ h ∙ read_into_lem text buffer k)
   where
-    go : (l : Line) → read_line text ≡ l → line_left (line_refused n) after ≡ read_into l buffer → (read_line text ≡ garbled) × (n ≡ garbled_line)
+    go : (l : Line) → read_line text ≡ l → line_left (line_refused (number_of e)) after ≡ read_into l buffer → (read_line text ≡ garbled) × (number_of e ≡ garbled_line)
     go garbled q r = (q, ap (λ (x : LineLeft). x.answer.refusal) r)
     go (frame f v) q r =
         let p = frame-length text f v q in

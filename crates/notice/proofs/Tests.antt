@@ -10,7 +10,7 @@ use borrow.Author.Tests.{eq-eqb, ne_eqb, eqb-true, le-leb, lt-leb, leb-true}
 use Rattle.lists.proofs.Tests.{and-true}
 use Rattle.lists.specs.Lists.{allb}
 use Rattle.hexadecimal.specs.Hex.{is_digit, bytes_of}
-use Rattle.notice.specs.Lines.{opening_kind, link_kind, yard_kind, opens_depot, frame_length, is_frame, spells_frame}
+use Rattle.notice.specs.Lines.{link_kind, opens_depot, frame_length, is_frame, spells_frame}
 use Rattle.hexadecimal.proofs.Spelling.{length_bytes}
 
 -- ---- a frame
@@ -28,29 +28,11 @@ pub frame_long : (f : List ℕ) {n k : ℕ} → 3 ≤ length f → n ≡ length 
 unfolding is_frame
 frame_long f h l e = rw (l, e, le-leb 3 (length f) h)
 
--- ---- its kind
-
-pub opens_delivering : (kind : ℕ) → kind ≡ opening_kind → true ≡ opens_depot kind
-unfolding opens_depot
-opens_delivering kind h = rw (eq-eqb kind opening_kind h)
-
-pub opens_other : (kind : ℕ) → (kind ≡ opening_kind → ⊥) → eqb kind yard_kind ≡ opens_depot kind
-unfolding opens_depot
-opens_other kind n = rw (ne_eqb kind opening_kind n)
-
 -- ---- how long it is
 
 pub length-opening : (kind third : ℕ) {b : Bool} {r : ℕ} → b ≡ opens_depot kind → b ≡ true → r ≡ 3 + third → r ≡ frame_length kind third
 unfolding frame_length
 length-opening kind third k h e = rw (← k, h) e
-
-pub length_link : (kind third : ℕ) {b : Bool} → b ≡ opens_depot kind → b ≡ false → kind ≡ link_kind → 3 ≡ frame_length kind third
-unfolding frame_length
-length_link kind third k n h = rw (← k, n, eq-eqb kind link_kind h)
-
-pub length_none : (kind third : ℕ) {b : Bool} → b ≡ opens_depot kind → b ≡ false → (kind ≡ link_kind → ⊥) → 0 ≡ frame_length kind third
-unfolding frame_length
-length_none kind third k n m = rw (← k, n, ne_eqb kind link_kind m)
 
 -- no kind is longer than the opening of so many neighbours, and only an opening is
 pub length_most : (kind third : ℕ) → frame_length kind third ≤ 3 + third

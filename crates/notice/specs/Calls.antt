@@ -1,12 +1,11 @@
 -- The two calls (rules 7.3 to 7.5) on lent memory. Each is one definition from what was lent to the answer and every byte. Assumes nothing.
-use Rattle.std.specs.Prelude.{cond, List, ℕ, ltb, length}
+use Rattle.std.specs.Prelude.{cond, List, ℕ, ltb, length, Result, Ok, Err}
 use Rattle.lists.specs.Lists.{overwrite}
 use Rattle.outcome.specs.Numbers.{short_buffer, garbled_line}
+use Rattle.outcome.specs.Refusals.{number_of}
+use Rattle.outcome.specs.declared.Refusal.{Refusal}
 use Rattle.notice.specs.Lines.{line_limit, is_frame, line_of, Line, garbled, frame, read_line}
-use Rattle.notice.specs.declared.Reading.{Reading}
-use Rattle.notice.specs.declared.Reading.TheVariants.{Frame, Refused as NoReading}
-use Rattle.notice.specs.declared.Writing.{Writing}
-use Rattle.notice.specs.declared.Writing.TheVariants.{Line as Written, Refused as NoWriting}
+use Rattle.notice.specs.declared.Frame.{Frame}
 
 -- the size of the buffer that a frame is read into: 3 bytes and 255 neighbours
 abbrev pub frame_limit : ℕ
@@ -26,13 +25,13 @@ abbrev pub line_refused : ℕ → LineAnswer
 line_refused n = record { refusal = n; written = 0; used = 0 }
 
 -- the numbers for each case of the reader's and the writer's answer
-unfoldable pub reading_of : Reading → LineAnswer
-reading_of (Frame n u) = line_done n u
-reading_of (NoReading n) = line_refused n
+unfoldable pub reading_of : Result Frame Refusal → LineAnswer
+reading_of (Ok f) = line_done f.length f.used
+reading_of (Err k) = line_refused (number_of k)
 
-unfoldable pub writing_of : Writing → LineAnswer
-writing_of (Written n) = line_done n 0
-writing_of (NoWriting n) = line_refused n
+unfoldable pub writing_of : Result ℕ Refusal → LineAnswer
+writing_of (Ok n) = line_done n 0
+writing_of (Err k) = line_refused (number_of k)
 
 -- what a call leaves: its answer, and the lent buffer
 pub record LineLeft : Type 0 where

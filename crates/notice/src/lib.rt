@@ -8,73 +8,115 @@ ghost use Rattle.std.specs.Prelude.{◌≡◌, true, ◌<◌, take};
 ghost use Rattle.lists.specs.Lists.{allb};
 ghost use Rattle.hexadecimal.specs.Hex.{is_digit};
 ghost use Rattle.notice.specs.Lines.{line_limit, opens_depot, frame_length, is_frame, spells_frame};
+ghost use Rattle.notice.specs.Kinds.{byte_of, KindIs};
 ghost use Rattle.notice.specs.Calls.{reading_of, writing_of, line_left, read_call, write_call};
+
+use outcome::Refusal;
 
 // the most bytes that a frame has, and a line with its ending; in specifications `frame_limit`, `line_limit`
 pub const FRAME_LIMIT: usize = 258;
 
 pub const LINE_LIMIT: usize = 2 * FRAME_LIMIT + 1;
 
-// the kinds of frames; in specifications `opening_kind`, `link_kind`, `yard_kind`
-pub const OPENING: u8 = 1;
+// ---- the kinds of frames
 
-pub const LINK: u8 = 2;
-
-pub const YARD: u8 = 4;
-
-// What the reader answers: the frame's length with the bytes used, or the number of the refusal.
-#[derive(Clone, Copy)]
-pub enum Reading {
-    Frame(usize, usize),
-    Refused(u8),
+// The kinds of frames, each with its byte: one opens a depot that delivers, one links two depots, one opens a yard.
+#[derive(Clone, Copy, Debug, PartialEq, Eq)]
+pub enum Kind {
+    Depot = 1,
+    Link = 2,
+    Yard = 4,
 }
 
-// What the writer answers: the line's length, or the number of the refusal.
+impl Kind {
+    // The kind whose frames begin with a byte.
+    pub fn of(byte: u8) -> Option<Kind>
+        ensures { KindIs byte result }
+    {
+        match byte {
+            1 => Some(Kind::Depot),
+            2 => Some(Kind::Link),
+            4 => Some(Kind::Yard),
+            _ => None,
+        }
+    }
+
+    // The byte with which its frames begin.
+    pub fn byte(self) -> u8
+        ensures { result ≡ byte_of self }
+    {
+        self as u8
+    }
+
+    // Whether its frames open a depot, one that delivers or a yard.
+    pub fn opens_depot(self) -> bool
+        ensures { result ≡ opens_depot (byte_of self) }
+    {
+        matches!(self, Kind::Depot | Kind::Yard)
+    }
+
+    // How many bytes its frames have, by the third.
+    fn frame_length(self, third: u8) -> usize
+        ensures { result ≡ frame_length (byte_of self) third }
+    {
+        match self {
+            Kind::Depot | Kind::Yard => 3 + third as usize,
+            Kind::Link => 3,
+        }
+    }
+}
+
+// ---- the two calls
+
+// A frame that was read: how many bytes it has, and how many bytes of the input its line took.
 #[derive(Clone, Copy)]
-pub enum Writing {
-    Line(usize),
-    Refused(u8),
+pub struct Frame {
+    pub length: usize,
+    pub used: usize,
 }
 
 // Reads the line that the input begins with into the frame buffer. It does not judge the neighbours:
 // the opening does.
-pub fn read_notice(frame: &mut [u8], input: &[u8]) -> Reading
+pub fn read_notice(frame: &mut [u8], input: &[u8]) -> Result<Frame, Refusal>
     ensures { line_left (reading_of result) frame.new ≡ read_call input.now frame.old }
 {
     if frame.len() < FRAME_LIMIT {
-        return Reading::Refused(outcome::SHORT);
+        return Err(Refusal::Short);
     }
     let head = first_part(input);
     // one scan finds the line's end: the first byte that is no digit has to be the 0A
     let end = hexadecimal::digits_end(head);
     if end == head.len() {
-        return Reading::Refused(outcome::GARBLED);
+        return Err(Refusal::Garbled);
     }
     if head[end] != 10 {
-        return Reading::Refused(outcome::GARBLED);
+        return Err(Refusal::Garbled);
     }
     let digits = &head[..end];
     if !spells_frame(digits) {
-        return Reading::Refused(outcome::GARBLED);
+        return Err(Refusal::Garbled);
     }
     hexadecimal::read_bytes(frame, digits);
-    Reading::Frame(end / 2, end + 1)
+    Ok(Frame {
+        length: end / 2,
+        used: end + 1,
+    })
 }
 
-// Writes the line of a frame, which is the whole slice, into the line buffer.
-pub fn write_notice(line: &mut [u8], frame: &[u8]) -> Writing
+// Writes the line of a frame, which is the whole slice, into the line buffer, and answers its length.
+pub fn write_notice(line: &mut [u8], frame: &[u8]) -> Result<usize, Refusal>
     ensures { line_left (writing_of result) line.new ≡ write_call frame.now line.old }
 {
     if line.len() < LINE_LIMIT {
-        return Writing::Refused(outcome::SHORT);
+        return Err(Refusal::Short);
     }
     if !is_frame(frame) {
-        return Writing::Refused(outcome::GARBLED);
+        return Err(Refusal::Garbled);
     }
     hexadecimal::write_digits(line, frame);
     let end = 2 * frame.len();
     line[end] = 10;
-    Writing::Line(end + 1)
+    Ok(end + 1)
 }
 
 // The bytes among which a line's end has to be.
@@ -91,23 +133,17 @@ fn first_part(input: &[u8]) -> &[u8]
 pub fn opens_depot(kind: u8) -> bool
     ensures { result ≡ opens_depot kind }
 {
-    if kind == OPENING {
-        return true;
-    }
-    kind == YARD
+    Kind::of(kind).is_some_and(Kind::opens_depot)
 }
 
 // How many bytes a frame of a kind has, by its third byte; 0 for a byte that is no kind.
 fn frame_length(kind: u8, third: u8) -> usize
     ensures { result ≡ frame_length kind third }
 {
-    if opens_depot(kind) {
-        return 3 + wide(third);
+    match Kind::of(kind) {
+        Some(k) => k.frame_length(third),
+        None => 0,
     }
-    if kind == LINK {
-        return 3;
-    }
-    0
 }
 
 // Whether the digits of a line spell a frame: its kind and its third byte say how long it is.
@@ -135,11 +171,4 @@ fn is_frame(frame: &[u8]) -> bool
         return false;
     }
     frame.len() == frame_length(frame[0], frame[2])
-}
-
-// A byte as a count: a cast of an element would ask that it fits.
-fn wide(x: u8) -> usize
-    ensures { (result ≡ x) × (result < 256) }
-{
-    x as usize
 }

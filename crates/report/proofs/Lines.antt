@@ -1,5 +1,5 @@
 -- The pieces of a report line put one behind another, and what the call answers then. Assumes nothing.
-use mathlib.Core.Path.{◌≡◌, sym, ap, ap₂, ◌∙◌}
+use mathlib.Core.Path.{◌≡◌, refl, sym, ap, ap₂, ◌∙◌}
 use mathlib.Core.Bool.{Bool, true, false, cond}
 use mathlib.Core.List.{List, [], ◌∷◌}
 use Prim.Native.Nat.{ℕ, ◌+◌, ◌^◌, ◌≤◌, ◌<◌, zero-le}
@@ -15,14 +15,15 @@ use Rattle.outcome.specs.Outcome.{letter_of, refusal_of}
 use Rattle.outcome.specs.declared.Change.{Change}
 use Rattle.outcome.specs.declared.Outcome.{Outcome}
 use Rattle.outcome.specs.declared.Outcome.TheVariants.{Accepted, Refused}
+use Rattle.outcome.specs.declared.Refusal.{Refusal}
+use Rattle.std.specs.Prelude.{Result, Ok, Err}
+use Rattle.std.specs.Result.{result_unwrap_or}
 use Rattle.decimal.specs.Decimal.{decimal, field}
 use Rattle.decimal.specs.Placed.{Placed}
 use Rattle.decimal.proofs.Decimals.{decimal_word, decimal_half}
 use Rattle.decimal.proofs.Places.{placed_byte, placed_join, placed_text, placed_end, placed_whole}
 use Rattle.decimal.proofs.Numbers.{field-length}
 use Rattle.report.specs.declared.ReportFields.{ReportFields}
-use Rattle.report.specs.declared.Written.{Written}
-use Rattle.report.specs.declared.Written.TheVariants.{Line, Refused as NoLine}
 use Rattle.report.specs.Line.{outcome_text, figures_text, report_line, buffer_limit, report_done, report_refused, ReportLeft, report_left, written_of, report_call, handed_back}
 
 -- ---- the outcome
@@ -97,18 +98,19 @@ call_within r buffer = go (ltb (length buffer) buffer_limit)
     go true = zero-le
     go false = omega (arith, length-append (report_line r) (drop (length (report_line r)) buffer))
 
-pub part_length : (r : ReportFields) (buffer : List ℕ) {after : List ℕ} {a : Written} {k : ℕ} → a ≡ Line k → report_left (written_of a) after ≡ report_call r buffer → k ≡ length (take k after)
+-- the part is as long as the answer tells, which of a refusal is 0
+told : (w : Result ℕ Refusal) → result_unwrap_or w 0 ≡ (written_of w).written
 unfolding written_of
-part_length r buffer {after} {a} {k} p e =
-    let n : k ≡ (report_call r buffer).answer.written = sym (ap (λ (w : Written). (written_of w).written) p) ∙ ap (λ (l : ReportLeft). l.answer.written) e in
+told (Ok n) = refl
+told (Err k) = refl
+
+pub part_length : (r : ReportFields) (buffer : List ℕ) (w : Result ℕ Refusal) {after : List ℕ} {k : ℕ} → k ≡ result_unwrap_or w 0 → report_left (written_of w) after ≡ report_call r buffer → k ≡ length (take k after)
+part_length r buffer w {after} {k} p e =
+    let n : k ≡ (report_call r buffer).answer.written = p ∙ told w ∙ ap (λ (l : ReportLeft). l.answer.written) e in
     let m : length after ≡ length (report_call r buffer).buffer = ap (λ (l : ReportLeft). length l.buffer) e in
     sym (length-take-le k after (omega (arith, call_within r buffer)))
 
--- the parts are those of the call, by the length that the answer tells
-pub line_handed : {after : List ℕ} {a : Written} {call : ReportLeft} {k : ℕ} → a ≡ Line k → report_left (written_of a) after ≡ call → take k after ∷ after ∷ [] ≡ handed_back call
-unfolding handed_back written_of
-line_handed {after} p e = ap (λ (w : Written). take (written_of w).written after ∷ after ∷ []) (sym p) ∙ ap handed_back e
-
-pub none-handed : {after : List ℕ} {a : Written} {call : ReportLeft} {n : ℕ} → a ≡ NoLine n → report_left (written_of a) after ≡ call → [] ∷ after ∷ [] ≡ handed_back call
-unfolding handed_back written_of
-none-handed {after} p e = ap (λ (w : Written). take (written_of w).written after ∷ after ∷ []) (sym p) ∙ ap handed_back e
+-- the parts are those of the call
+pub line_handed : (w : Result ℕ Refusal) {after : List ℕ} {call : ReportLeft} {k : ℕ} → k ≡ result_unwrap_or w 0 → report_left (written_of w) after ≡ call → take k after ∷ after ∷ [] ≡ handed_back call
+unfolding handed_back
+line_handed w {after} p e = ap (λ (n : ℕ). take n after ∷ after ∷ []) (p ∙ told w) ∙ ap handed_back e

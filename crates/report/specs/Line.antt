@@ -1,14 +1,14 @@
 -- The report line of the stream (rules 10.1 and 10.2), and the call that writes it (rule 10.4). Assumes nothing.
-use Rattle.std.specs.Prelude.{cond, List, [], ◌∷◌, ◌++◌, ℕ, ◌^◌, ◌<◌, ltb, length, take}
+use Rattle.std.specs.Prelude.{cond, List, [], ◌∷◌, ◌++◌, ℕ, ◌^◌, ◌<◌, ltb, length, take, Result, Ok, Err}
 use Rattle.lists.specs.Lists.{overwrite}
 use Rattle.outcome.specs.Numbers.{short_buffer}
 use Rattle.outcome.specs.Outcome.{letter_of, refusal_of}
+use Rattle.outcome.specs.Refusals.{number_of}
+use Rattle.outcome.specs.declared.Refusal.{Refusal}
 use Rattle.outcome.specs.declared.Outcome.{Outcome}
 use Rattle.outcome.specs.declared.Outcome.TheVariants.{Accepted, Refused}
 use Rattle.decimal.specs.Decimal.{decimal, field}
 use Rattle.report.specs.declared.ReportFields.{ReportFields}
-use Rattle.report.specs.declared.Written.{Written}
-use Rattle.report.specs.declared.Written.TheVariants.{Line, Refused as NoLine}
 
 -- G, K or S; or R with the refusal's number directly behind it
 unfoldable pub outcome_text : Outcome → List ℕ
@@ -47,10 +47,10 @@ report_done n = record { refusal = 0; written = n }
 abbrev pub report_refused : ℕ → ReportAnswer
 report_refused n = record { refusal = n; written = 0 }
 
--- the numbers for each case of the answer
-unfoldable pub written_of : Written → ReportAnswer
-written_of (Line n) = report_done n
-written_of (NoLine n) = report_refused n
+-- the numbers for each case of the code's answer
+unfoldable pub written_of : Result ℕ Refusal → ReportAnswer
+written_of (Ok n) = report_done n
+written_of (Err k) = report_refused (number_of k)
 
 -- what the call leaves: its answer, and the lent buffer
 pub record ReportLeft : Type 0 where

@@ -7,7 +7,7 @@ ghost use Rattle.decimal.specs.Decimal.{field};
 ghost use Rattle.decimal.specs.Placed.{Placed};
 ghost use Rattle.report.specs.Line.{outcome_text, figures_text, written_of, report_left, report_call, handed_back};
 
-use outcome::Outcome;
+use outcome::{Outcome, Refusal};
 
 // the bytes that a line is lent; in specifications `buffer_limit`
 pub const BUFFER_LIMIT: usize = 48;
@@ -23,26 +23,19 @@ pub struct ReportFields {
     pub searches: u16,
 }
 
-// The length of the line, or the number of the refusal.
-#[derive(Clone, Copy)]
-pub enum Written {
-    Line(usize),
-    Refused(u8),
-}
-
-// Writes the line of a report at the start of the caller's buffer.
-pub fn write_report(line: &mut [u8], report: ReportFields) -> Written
+// Writes the line of a report at the start of the caller's buffer, and answers its length.
+pub fn write_report(line: &mut [u8], report: ReportFields) -> Result<usize, Refusal>
     ensures { report_left (written_of result) line.new ≡ report_call report line.old }
 {
     if line.len() < BUFFER_LIMIT {
-        return Written::Refused(outcome::SHORT);
+        return Err(Refusal::Short);
     }
     let outcome = report.outcome;
     let a = decimal::put_number(line, 0, report.number as u64);
     let b = put_outcome(line, a, outcome);
     let end = put_figures(line, b, report);
     line[end] = 10;
-    Written::Line(end + 1)
+    Ok(end + 1)
 }
 
 // The same, with the written part handed back as a part of the caller's buffer, and the whole buffer
@@ -50,18 +43,10 @@ pub fn write_report(line: &mut [u8], report: ReportFields) -> Written
 pub fn report_line<'a>(line: &'a mut [u8], report: ReportFields) -> [&'a [u8]; 2]
     ensures { map (λ x. x.now) result ≡ handed_back (report_call report line.old) }
 {
-    let answer = write_report(&mut *line, report);
+    let written = write_report(&mut *line, report).unwrap_or(0);
     let whole = &line[..];
-    match answer {
-        Written::Line(k) => {
-            let part = &whole[..k];
-            [part, whole]
-        }
-        Written::Refused(_) => {
-            let part = &whole[..0];
-            [part, whole]
-        }
-    }
+    let part = &whole[..written];
+    [part, whole]
 }
 
 // Puts a space and the outcome's letter, with the number of a refusal, at a place of the line: five

@@ -1,9 +1,6 @@
--- `notice::opens_depot` meets its contract: one kind or the other.
-use Rattle.notice.proofs.Tests.{opens_delivering, opens_other}
+-- `notice::opens_depot` meets its contract: by the byte's kind, and none opens one that has none.
+use Rattle.notice.proofs.Bytes.{opens_by}
 use Rattle.notice.proofs.opens_depot.Goals as goal
 
-pub returns-then-kind-eq-OPENING : goal.returns-then-kind-eq-OPENING
-returns-then-kind-eq-OPENING c = search opens_delivering
-
 pub returns : goal.returns
-returns c = search opens_other
+returns c = opens_by _ _ c.of.ensures c.is_some_and.ensures
