@@ -32,7 +32,7 @@ use Rattle.nearby.specs.NearestCall.{NearestLeft, nearest_refusal, nearest_given
 use Rattle.nearby.specs.WithinCall.{Listed}
 use Rattle.nearby.specs.NearestCall.{At}
 use Rattle.summary.specs.SummaryCall.{SummaryLeft, summary_refusal, summary_given, summary_call}
-use Rattle.summary.specs.declared.Summing.TheVariants.{Summed}
+use Rattle.summary.specs.SummaryCall.{Summed}
 use Rattle.rounds.specs.Leaves.{rounds_leave}
 use Rattle.reckon.specs.ReckonCall.{ReckonLeft, reckon_refusal, figured_by, reckon_given, reckon_call}
 use Rattle.reckon.specs.declared.Reckoning.TheVariants.{Searches}

@@ -37,7 +37,7 @@ use Rattle.nearby.specs.NearestCall.{NearestLeft}
 use Rattle.nearby.specs.WithinCall.{Listed, Refused as RefusedListing}
 use Rattle.nearby.specs.NearestCall.{At, Refused as RefusedNearest}
 use Rattle.summary.specs.SummaryCall.{SummaryLeft}
-use Rattle.summary.specs.declared.Summing.TheVariants.{Summed, Refused as RefusedSumming}
+use Rattle.summary.specs.SummaryCall.{Summed, Refused as RefusedSumming}
 use Rattle.rounds.specs.Leaves.{rounds_leave}
 use Rattle.reckon.specs.ReckonCall.{ReckonLeft}
 use Rattle.reckon.specs.declared.Reckoning.TheVariants.{Searches, Refused as RefusedReckoning}
