@@ -5,36 +5,20 @@
 ghost use Rattle.std.specs.Prelude.{◌≡◌};
 ghost use Rattle.graph.specs.Updates.{opens};
 ghost use Rattle.map.specs.Memory.{base};
-ghost use Rattle.map.specs.Slices.{lent_before, lent_after};
+ghost use Rattle.map.specs.Slices.{lent_in, IsSameRoom};
+ghost use Rattle.update.specs.Steps.{notice_in};
 ghost use Rattle.update.specs.UpdateCall.{left_of, update_left, update_call};
-ghost use Rattle.graph.specs.Opening.{notice_of};
 
-use map::Record;
-use update::{Report, Returned};
+use map::{Record, Room};
+use update::{Notice, Report, Returned};
 
 // The opening of a depot, or of a yard, on a record that is lent, and is brought up to date (rule 4.1).
-pub fn open(
-    rec: &mut Record,
-    links: &mut [u64],
-    pairs: &mut [u64],
-    hops: &mut [u16],
-    bounds: &mut [u16],
-    skips: &mut [u16],
-    even: &mut [u64],
-    odd: &mut [u64],
-    yard: bool,
-    code: u8,
-    neighbours: &[u8],
-) -> Report
-    ensures { let before = lent_before pairs hops bounds skips even odd in
-        let after = lent_after pairs hops bounds skips even odd in
-        let asked = opens (notice_of yard code neighbours.now) in
-        left_of result rec.new links.new after
-        ≡ update_call base rec.old links.old before asked }
+pub fn open(rec: &mut Record, links: &mut [u64], room: &mut Room<'_>, notice: Notice<'_>) -> Report
+    ensures same { IsSameRoom room.old room.new }
+    ensures left { left_of result rec.new links.new (lent_in room.new)
+        ≡ update_call base rec.old links.old (lent_in room.old) (opens (notice_in notice.entry)) }
 {
-    let got = opening::open_step(
-        *rec, links, pairs, hops, bounds, skips, even, odd, yard, code, neighbours,
-    );
+    let got = opening::open_step(*rec, links, room, notice);
     *rec = got.after;
     got.report
 }
@@ -43,24 +27,14 @@ pub fn open(
 pub fn open_value(
     rec: Record,
     links: &mut [u64],
-    pairs: &mut [u64],
-    hops: &mut [u16],
-    bounds: &mut [u16],
-    skips: &mut [u16],
-    even: &mut [u64],
-    odd: &mut [u64],
-    yard: bool,
-    code: u8,
-    neighbours: &[u8],
+    room: &mut Room<'_>,
+    notice: Notice<'_>,
 ) -> Returned
-    ensures { let before = lent_before pairs hops bounds skips even odd in
-        let after = lent_after pairs hops bounds skips even odd in
-        let asked = opens (notice_of yard code neighbours.now) in
-        update_left result links.new after ≡ update_call base rec links.old before asked }
+    ensures same { IsSameRoom room.old room.new }
+    ensures left { update_left result links.new (lent_in room.new)
+        ≡ update_call base rec links.old (lent_in room.old) (opens (notice_in notice.entry)) }
 {
     let mut own = rec;
-    let report = open(
-        &mut own, links, pairs, hops, bounds, skips, even, odd, yard, code, neighbours,
-    );
+    let report = open(&mut own, links, room, notice);
     Returned { report, after: own }
 }

@@ -7,14 +7,14 @@ ghost use Rattle.lists.specs.Lists.{overwrite};
 ghost use Rattle.rows.specs.Rows.{row_bit, encode_row};
 ghost use Rattle.graph.specs.Updates.{opens};
 ghost use Rattle.map.specs.Memory.{base};
-ghost use Rattle.map.specs.Slices.{lent_before, lent_after, sizes_at};
+ghost use Rattle.map.specs.Slices.{lent_in, room_sizes, IsSameRoom};
 ghost use Rattle.update.specs.UpdateCall.{update_refusal, update_left, update_given, update_call};
-ghost use Rattle.graph.specs.Opening.{notice_of};
-ghost use Rattle.update.specs.Steps.{map_refusal};
+ghost use Rattle.update.specs.Steps.{map_refusal, notice_in};
 
-use map::Record;
+use map::{Record, Room};
 use outcome::Outcome;
-use update::{Report, Returned};
+use rounds::Plan;
+use update::{Notice, Report, Returned};
 
 // ---- the opening
 
@@ -39,93 +39,62 @@ fn put_yard(yards: &mut [u64], yard: bool, code: u8)
 }
 
 // The opening of a notice that nothing refuses: its links in place, then the figures.
-fn open_map(
-    rec: Record,
-    links: &mut [u64],
-    pairs: &mut [u64],
-    hops: &mut [u16],
-    bounds: &mut [u16],
-    skips: &mut [u16],
-    even: &mut [u64],
-    odd: &mut [u64],
-    yard: bool,
-    code: u8,
-    neighbours: &[u8],
-) -> Returned
-    requires { let long = sizes_at links.old pairs hops bounds skips even odd in
-        update_refusal base rec links.old pairs.old long (opens (notice_of yard code neighbours.now)) ≡ 0 }
-    ensures { let before = lent_before pairs hops bounds skips even odd in
-        let after = lent_after pairs hops bounds skips even odd in
-        let asked = opens (notice_of yard code neighbours.now) in
-        update_left result links.new after ≡ update_given 0 base rec links.old before asked }
+fn open_map(rec: Record, links: &mut [u64], room: &mut Room<'_>, notice: Notice<'_>) -> Returned
+    requires { let long = room_sizes (length links.old) room.old in
+        update_refusal base rec links.old room.old.pairs.now long (opens (notice_in notice)) ≡ 0 }
+    ensures same { IsSameRoom room.old room.new }
+    ensures left { update_left result links.new (lent_in room.new)
+        ≡ update_given 0 base rec links.old (lent_in room.old) (opens (notice_in notice.entry)) }
 {
-    admission::link_depot(links, map::WORDS, code, neighbours);
+    admission::link_depot(links, map::WORDS, notice.code, notice.neighbours);
     let mut members = rec.members;
-    put_code(&mut members, code);
+    put_code(&mut members, notice.code);
     let mut yards = rec.yards;
-    put_yard(&mut yards, yard, code);
+    put_yard(&mut yards, notice.yard, notice.code);
     let mut targets = members;
     map::keep_delivering(&mut targets, &yards, map::WORDS);
-    let got = insertion::refigure(
-        &members,
-        &targets,
-        &*links,
-        pairs,
-        hops,
-        bounds,
-        skips,
-        even,
-        odd,
-        code as usize,
-        rec.chain,
-        rec.count,
-    );
+    let plan = Plan {
+        members: &members,
+        targets: &targets,
+        links: &*links,
+    };
+    let got = insertion::refigure(plan, room, notice.code as usize, rec.chain, rec.count);
     let mut after = rec;
     after.members = members;
     after.number = rec.number + 1;
     after.chain = got.chain;
     after.count = got.count;
     after.yards = yards;
-    let change = got.change;
     let report = Report {
-        outcome: Outcome::Accepted(change),
+        outcome: Outcome::Accepted(got.change),
         searches: got.searches,
     };
-    Returned {
-        report: report,
-        after: after,
-    }
+    Returned { report, after }
 }
 
 // The opening for callers that hold a proved map, whose memory nothing refuses: the same answer without checking it again.
 pub fn open_sound(
     rec: Record,
     links: &mut [u64],
-    pairs: &mut [u64],
-    hops: &mut [u16],
-    bounds: &mut [u16],
-    skips: &mut [u16],
-    even: &mut [u64],
-    odd: &mut [u64],
-    yard: bool,
-    code: u8,
-    neighbours: &[u8],
+    room: &mut Room<'_>,
+    notice: Notice<'_>,
 ) -> Returned
-    requires { let long = sizes_at links.old pairs hops bounds skips even odd in
-        map_refusal base rec links.old pairs.old long ≡ 0 }
-    ensures { let before = lent_before pairs hops bounds skips even odd in
-        let after = lent_after pairs hops bounds skips even odd in
-        let asked = opens (notice_of yard code neighbours.now) in
-        update_left result links.new after ≡ update_call base rec links.old before asked }
+    requires { let long = room_sizes (length links.old) room.old in
+        map_refusal base rec links.old room.old.pairs.now long ≡ 0 }
+    ensures same { IsSameRoom room.old room.new }
+    ensures left { update_left result links.new (lent_in room.new)
+        ≡ update_call base rec links.old (lent_in room.old) (opens (notice_in notice.entry)) }
 {
     let members = rec.members;
-    let refusal = admission::notice_refusal(&members, map::WORDS, code, neighbours);
-    if refusal != 0 {
-        return update::refused(rec, refusal);
+    if let Err(refusal) = admission::notice_refusal(
+        &members,
+        map::WORDS,
+        notice.code,
+        notice.neighbours,
+    ) {
+        return update::refused(rec, refusal.number());
     }
-    open_map(
-        rec, links, pairs, hops, bounds, skips, even, odd, yard, code, neighbours,
-    )
+    open_map(rec, links, room, notice)
 }
 
 // The opening of a depot, or of a yard, record in and out by value: grew, kept or shrank with the number of searches; or the first refusal that holds, and then
@@ -133,35 +102,15 @@ pub fn open_sound(
 pub fn open_step(
     rec: Record,
     links: &mut [u64],
-    pairs: &mut [u64],
-    hops: &mut [u16],
-    bounds: &mut [u16],
-    skips: &mut [u16],
-    even: &mut [u64],
-    odd: &mut [u64],
-    yard: bool,
-    code: u8,
-    neighbours: &[u8],
+    room: &mut Room<'_>,
+    notice: Notice<'_>,
 ) -> Returned
-    ensures { let before = lent_before pairs hops bounds skips even odd in
-        let after = lent_after pairs hops bounds skips even odd in
-        let asked = opens (notice_of yard code neighbours.now) in
-        update_left result links.new after ≡ update_call base rec links.old before asked }
+    ensures same { IsSameRoom room.old room.new }
+    ensures left { update_left result links.new (lent_in room.new)
+        ≡ update_call base rec links.old (lent_in room.old) (opens (notice_in notice.entry)) }
 {
-    let refusal = update::map_refusal(
-        rec,
-        &*links,
-        &*pairs,
-        hops.len(),
-        bounds.len(),
-        skips.len(),
-        even.len(),
-        odd.len(),
-    );
-    if refusal != 0 {
-        return update::refused(rec, refusal);
+    if let Err(refusal) = update::map_refusal(rec, &*links, &*room) {
+        return update::refused(rec, refusal.number());
     }
-    open_sound(
-        rec, links, pairs, hops, bounds, skips, even, odd, yard, code, neighbours,
-    )
+    open_sound(rec, links, room, notice)
 }

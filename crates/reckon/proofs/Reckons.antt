@@ -17,7 +17,7 @@ use Rattle.map.specs.Memory.{Shape, IsShape, places, map_network}
 use Rattle.checks.specs.Sound.{sound_links}
 use Rattle.map.specs.declared.Record.{Record}
 use Rattle.pairs.specs.Pairs.{tally}
-use Rattle.bounds.specs.Bounds.{marks}
+use Rattle.bounds.specs.Bounds.{Marks, marks}
 use Rattle.rounds.specs.Leaves.{Ran, ran, ran_by}
 use Rattle.rounds.specs.Targets.{target_network, AreTargets}
 use Rattle.rounds.specs.Workspace.{Workspace, workspace, run_of, rounds_begun, rounds_begin_of}
@@ -25,7 +25,7 @@ use Rattle.rounds.proofs.Holding.{Origin}
 use Rattle.rounds.proofs.Targets.{delivering_targets, delivering_network}
 use Rattle.rounds.proofs.Finish.{start_holds, start_running, run_is}
 use Rattle.reckon.specs.ReckonCall.{reckon_refusal, figured_by, reckon_left, reckon_given, reckon_call}
-use Rattle.reckon.specs.declared.Reckoning.TheVariants.{Searches, Refused}
+use Rattle.reckon.specs.ReckonCall.{Searches, Refused}
 use Rattle.map.proofs.Longs.{are_long_lem}
 use Rattle.lent_map.proofs.Passes.{IsPassed, lent-passed, passed_net}
 use Rattle.lent_map.specs.Faults.{lent_faults, lent_refusal}
@@ -36,10 +36,10 @@ module _ (K : Shape) (rec : Record) (links : List ℕ) (z : Sizes) where
   abbrev G : Network
   G = map_network K rec links
 
-  -- what refuses the lent map, whatever the code lends for pairs: they are not looked at
-  pub refused_map : {k : ℕ} {b : Bool} → b ≡ long_enough K z → k ≡ lent_refusal K b false rec links links → k ≡ reckon_refusal K rec links z
-  unfolding reckon_refusal lent_refusal lent_faults
-  refused_map q e = e ∙ ap (λ (b : Bool). lent_refusal K b false rec links links) q
+  -- what refuses the lent map
+  pub refused_map : {k : ℕ} {b : Bool} → b ≡ long_enough K z → k ≡ lent_refusal K b false rec links [] → k ≡ reckon_refusal K rec links z
+  unfolding reckon_refusal
+  refused_map q e = e ∙ ap (λ (b : Bool). lent_refusal K b false rec links []) q
 
   -- none holds: whole buffers, and a network that a map can hold
   passed : reckon_refusal K rec links z ≡ 0 → IsPassed K (long_enough K z) false rec links [] []
@@ -74,17 +74,17 @@ module _ (K : Shape) (shape : IsShape K) (members targets links : List ℕ) (are
   abbrev N : Network
   N = target_network K.words members targets links
 
-  pub reckoned_is : (B : Lent) (row pairs bounds skips waiting : List ℕ) (M' : Workspace)
-      → rounds_begun pairs (marks bounds skips waiting) ≡ rounds_begin_of K.words K.other_mark members (rounds_begun B.pairs (marks B.bounds B.skips row))
-      → M' ≡ run_of K.words targets links K.searched_mark (64 * K.words) (workspace (tally pairs 0) B.searched (marks bounds skips waiting) 0 0)
+  pub reckoned_is : (B : Lent) (row pairs : List ℕ) (m m' : Marks) (M' : Workspace)
+      → rounds_begun pairs m ≡ rounds_begin_of K.words K.other_mark members (rounds_begun B.pairs (marks B.bounds B.skips row))
+      → M' ≡ run_of K.words targets links K.searched_mark (64 * K.words) (workspace (tally pairs 0) B.searched m' 0 0) → m' ≡ m
       → ran (lent M'.paired.pairs M'.searched M'.marked.bounds M'.marked.skips) M'.candidate M'.paired.count M'.searches
       ≡ ran_by K (target_network K.words members targets links) (reckon (chart (target_network K.words members targets links))) B
   unfolding reckon
-  reckoned_is B row pairs bounds skips waiting M' b e =
+  reckoned_is B row pairs m m' M' b e q =
       let O : Origin = record { searched = B.searched; pairs = B.pairs; bounds = B.bounds; skips = B.skips; waiting = row } in
       run_is K shape members targets links are net (start 0) (start_running K shape members targets links are net 0 (omega arith)) O
-      (workspace (tally pairs 0) B.searched (marks bounds skips waiting) 0 0) M'
-      (start_holds K shape members targets links are net 0 O pairs bounds skips waiting b) e
+      (workspace (tally pairs 0) B.searched m 0 0) M'
+      (start_holds K shape members targets links are net 0 O pairs m.bounds m.skips m.waiting b) (rw (← q) e)
 
 -- ---- the call
 

@@ -29,7 +29,7 @@ use Rattle.rounds.specs.Leaves.{rounds_leave, search_after}
 use Rattle.reckon.specs.ReckonCall.{reckon_refusal, figured_by, reckon_given, reckon_call, reckoning_number}
 use Rattle.reckon.specs.Refusals.{reckon_conditions, ReckonDemand1}
 use Rattle.reckon.specs.Demand2.{IsReckoning, ReckonDemand2}
-use Rattle.reckon.specs.declared.Reckoning.TheVariants.{Refused}
+use Rattle.reckon.specs.ReckonCall.{Refused}
 use Rattle.reckon.proofs.Reckons.{granted_long, granted_tests, granted_net}
 use Rattle.rounds.proofs.Reading.{pairs_read, skip_bound, closed_at, skip_marks, skips_counted, bound_ecc, few_searches, last_search}
 use Rattle.map.proofs.Longs.{long_is}

@@ -17,7 +17,7 @@ use Rattle.search.specs.Demand2.{KeepsPast, IsSearch}
 use Rattle.search.specs.SearchCall.{Reached}
 use Rattle.map.specs.Room.{Lent, sizes_of}
 use Rattle.reckon.specs.ReckonCall.{reckon_refusal, ReckonLeft, reckoning_number, searches_of}
-use Rattle.reckon.specs.declared.Reckoning.TheVariants.{Searches, Refused}
+use Rattle.reckon.specs.ReckonCall.{Searches, Refused}
 
 -- A whole reckoning of G, lent the tables B; references are the depots that the rules search from, in order.
 pub record IsReckoning (K : Shape) (G : Network) (rec : Record) (B : Lent) (references : List ℕ) (left : ReckonLeft) : Type 0 where

@@ -1,6 +1,6 @@
 -- THE WHOLE RECKONING (rule 5.5) on lent memory: its answer and every place that it leaves. The code's contract is one equation with `reckon_call`.
 -- Assumes nothing.
-use Rattle.std.specs.Prelude.{false, List, [], ℕ, zero, suc, length}
+use Rattle.std.specs.Prelude.{false, List, [], ℕ, zero, suc, length, Result, Ok, Err}
 use Rattle.lists.specs.Lists.{range}
 use Rattle.graph.specs.Chart.{chart, count_pairs}
 use Rattle.graph.specs.Rounds.{State, reckon}
@@ -8,9 +8,9 @@ use Rattle.map.specs.Memory.{Shape, places, map_network}
 use Rattle.map.specs.declared.Record.{Record}
 use Rattle.map.specs.Room.{Lent, Sizes, sizes_of, long_enough}
 use Rattle.rounds.specs.Leaves.{rounds_leave}
-use Rattle.reckon.specs.declared.Reckoning.{Reckoning}
-use Rattle.reckon.specs.declared.Reckoning.TheVariants.{Searches, Refused}
-use Rattle.reckon.specs.declared.Reckoned.{Reckoned}
+use Rattle.outcome.specs.Refusals.{number_of}
+use Rattle.outcome.specs.declared.Refusal.{Refusal}
+use Rattle.reckon.specs.declared.Reckoned.{Reckoned as Answered}
 use Rattle.lent_map.specs.Faults.{lent_refusal}
 
 -- the first refusal that holds: short, spoilt (links alone: a reckoning repairs figures), apart; 0: none
@@ -26,6 +26,21 @@ figured_by K rec S = record {
   count = count_pairs (range (places K)) S.pairs;
   yards = rec.yards;
 }
+
+-- the answer of a whole reckoning: the number of searches, or the refusal's number
+pub data Reckoning : Type 0 where
+  Searches : ℕ → Reckoning
+  Refused : ℕ → Reckoning
+
+-- and the record that it leaves
+pub record Reckoned : Type 0 where
+  pub answer : Reckoning
+  pub after : Record
+
+-- of a call that was passed the record rec, by the code's answer: one that is refused hands out none, and rec stands
+abbrev pub reckoned_of : Record → Result Answered Refusal → Reckoned
+reckoned_of rec (Ok r) = record { answer = Searches r.searches; after = r.after }
+reckoned_of rec (Err k) = record { answer = Refused (number_of k); after = rec }
 
 -- the numbers for each case of the answer: the refusal, 0 for none; the searches, 0 in a refused call (rule 6.4)
 abbrev pub reckoning_number : Reckoning → ℕ

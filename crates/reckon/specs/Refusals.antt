@@ -7,7 +7,7 @@ use Rattle.map.specs.Memory.{Shape}
 use Rattle.map.specs.declared.Record.{Record}
 use Rattle.map.specs.Room.{Lent}
 use Rattle.reckon.specs.ReckonCall.{ReckonLeft, reckon_left, reckoning_number}
-use Rattle.reckon.specs.declared.Reckoning.TheVariants.{Refused}
+use Rattle.reckon.specs.ReckonCall.{Refused}
 use Rattle.map.specs.Room.{Lent, rounds_buffers}
 use Rattle.lent_map.specs.Faults.{lent_conditions}
 

@@ -4,11 +4,20 @@
 
 ghost use Rattle.std.specs.Prelude.{◌≡◌, length};
 ghost use Rattle.map.specs.Memory.{base};
-ghost use Rattle.map.specs.Room.{sizes};
+ghost use Rattle.outcome.specs.Refusals.{refused_by};
+ghost use Rattle.map.specs.Slices.{room_sizes};
 ghost use Rattle.update.specs.Steps.{map_refusal, refused_with};
 
-use map::Record;
-use outcome::Outcome;
+use map::{Record, Room};
+use outcome::{Outcome, Refusal};
+
+// What an opening asks: whether the depot is a yard, its code, and its neighbours' codes.
+#[derive(Clone, Copy)]
+pub struct Notice<'a> {
+    pub yard: bool,
+    pub code: u8,
+    pub neighbours: &'a [u8],
+}
 
 // The report of a call: its outcome, and the number of searches.
 #[derive(Clone, Copy)]
@@ -26,25 +35,14 @@ pub struct Returned {
 
 // ---- refusals
 
-// The first refusal of the lent memory, whatever is asked; 0 for none. It only reads.
-pub fn map_refusal(
-    rec: Record,
-    links: &[u64],
-    pairs: &[u64],
-    hops: usize,
-    bounds: usize,
-    skips: usize,
-    even: usize,
-    odd: usize,
-) -> u8
-    ensures { let long = sizes (length links.now) (length pairs.now) hops bounds skips even odd in
-        result ≡ map_refusal base rec links.now pairs.now long }
+// The first refusal of the lent memory, whatever is asked. It only reads.
+pub fn map_refusal(rec: Record, links: &[u64], room: &Room<'_>) -> Result<(), Refusal>
+    ensures { refused_by result ≡ map_refusal base rec links.now room.now.pairs.now (room_sizes (length links.now) room.now) }
 {
-    let long = map::are_long(links.len(), pairs.len(), hops, bounds, skips, even, odd);
-    lent_map::map_refusal(rec, links, pairs, long, true)
+    lent_map::map_refusal(rec, links, Some(&*room.pairs), room.is_long(links.len()))
 }
 
-// What a refused call answers.
+// What a call answers that is refused with a number.
 pub fn refused(rec: Record, number: u8) -> Returned
     ensures { result ≡ refused_with number rec }
 {

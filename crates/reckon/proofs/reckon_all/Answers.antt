@@ -1,6 +1,8 @@
 -- `reckon::reckon_all` meets its contract: the refusal is the definition's, and without one the rounds are the network's reckoning.
-use mathlib.Core.Path.{sym, ◌∙◌}
+use mathlib.Core.Path.{sym}
 use native.Mathlib.Omega.{arith}
+use Rattle.std.proofs.lemmas.Result.{err_from_is_err_and}
+use Rattle.outcome.proofs.Numbering.{refuses}
 use Rattle.map.specs.Memory.{base}
 use Rattle.reckon.proofs.Reckons.{granted_long, granted_targets, granted_same, granted_target_net, refused_call, accepted_call}
 use borrow.Author.Rules.{rules}
@@ -16,19 +18,21 @@ keep_delivering-requires c =
 
 pub reckon_map-got-requires : goal.reckon_map-got-requires
 reckon_map-got-requires c =
-    let z = sym c.reckon_refusal-refusal.ensures ∙ c.if-refusal-ne0.false in
+    let z = sym c.in_ok-reckon_refusal.ensures in
     let kept = c.keep_delivering.ensures in (
       granted_long base _ _ _ z,
       granted_targets base _ _ _ base_shape z (omega arith) (omega arith) kept,
       granted_target_net base _ _ _ base_shape z (omega arith) (omega arith) kept,
     )
 
-pub returns : goal.returns
-returns c =
-    let z = sym c.reckon_refusal-refusal.ensures ∙ c.if-refusal-ne0.false in
+pub returns-clause-left : goal.returns-clause-left
+returns-clause-left c =
+    let z = sym c.in_ok-reckon_refusal.ensures in
     accepted_call base base_shape _ _ _ _ _ _ _ _ (sym z) _
     (granted_same base _ _ _ base_shape z (omega arith) (omega arith) c.keep_delivering.ensures) _ _ _ _
-    c.reckon_map-got.ensures
+    c.reckon_map-got.ensures.left
 
-pub returns-then-refusal-ne0 : goal.returns-then-refusal-ne0
-returns-then-refusal-ne0 c = search (refused_call, base_shape)
+pub returns-in_err-reckon_refusal-clause-left : goal.returns-in_err-reckon_refusal-clause-left
+returns-in_err-reckon_refusal-clause-left c =
+    let p = err_from_is_err_and c.from_residual.result c.from_residual.ensures.1 in
+    rw (p.1, p.2) (refused_call base base_shape _ _ _ _ _ _ _ _ _ c.in_err-reckon_refusal.ensures (refuses _))

@@ -8,8 +8,8 @@ use Rattle.reckon.proofs.reckon_refusal.Goals as goal
 
 pub map_refusal-requires : goal.map_refusal-requires
 map_refusal-requires c =
-    (λ h. (are_long_lem base _ (sym c.are_long-long.ensures ∙ h)).links, λ h f. absurd (clash f refl))
+    (λ h. (are_long_lem base _ (sym c.is_long.ensures ∙ h)).links, λ h f. absurd (clash f refl))
 
 pub returns : goal.returns
 returns c =
-    refused_map base _ _ _ c.are_long-long.ensures c.map_refusal.ensures
+    refused_map base _ _ _ c.is_long.ensures c.map_refusal.ensures

@@ -7,9 +7,9 @@ use Rattle.update.proofs.map_refusal.Goals as goal
 
 pub map_refusal-requires : goal.map_refusal-requires
 map_refusal-requires c =
-    let is = c.are_long-long.ensures in
+    let is = c.is_long.ensures in
     (λ h. (are_long_lem base _ (sym is ∙ h)).links, λ h f. (are_long_lem base _ (sym is ∙ h)).pairs)
 
 pub returns : goal.returns
 returns c =
-    refused_map base _ _ _ _ c.are_long-long.ensures c.map_refusal.ensures
+    refused_map base _ _ _ _ c.is_long.ensures c.map_refusal.ensures
