@@ -1,6 +1,6 @@
 -- THE LINES OF A BATCH one after the other: what reads is the first line, and the others follow behind it; what does not read is a garbled line.
 -- Assumes nothing.
-use mathlib.Core.Path.{◌≡◌, refl, sym, ap, ap₂, ◌∙◌}
+use mathlib.Core.Path.{◌≡◌, refl, sym, ap, ◌∙◌}
 use mathlib.Core.Bool.{Bool, true, false, cond}
 use mathlib.Core.List.{List, [], ◌∷◌, ◌++◌}
 use Prim.Native.Nat.{ℕ, suc, ◌+◌, ◌-◌, ◌≤◌, ◌<◌}
@@ -8,6 +8,8 @@ use native.Mathlib.Omega.{arith}
 use lib.Dec.{eqb}
 use lib.ListN.{length, get_or, take, drop, take-append-drop, length-append, length-drop, drop_of_length-le}
 use lib.Seq.{append_snoc, drop-drop}
+use Rattle.std.specs.Prelude.{Some, None}
+use Rattle.std.specs.Bool.{then_some}
 use Rattle.lists.specs.Lists.{allb}
 use Rattle.lists.proofs.Tests.{and-true}
 use Rattle.lists.proofs.Appends.{append_none, append_append}
@@ -122,38 +124,38 @@ pub all_fails_here : (s : List ℕ) → 0 < length s → read_line s ≡ garbled
 unfolding allb is_opening notice_in is_some
 all_fails_here s m e = let l = line_fails s m e in rw (l.2, l.3)
 
--- a line of u bytes more
-pub read_more : {s : List ℕ} {at u : ℕ} → AreRead s at → u ≡ opening_length (read_line (take (length s - at) (drop at s))) → (u ≡ 0 → ⊥) → (0 < u) × AreRead s (at + u)
+-- a line that reads at some bytes is of u bytes, and opens something
+opening_reads : (t : List ℕ) {u : ℕ} → Some u ≡ opening_length (read_line t) → (f : List ℕ) × LineReads t f u × (opens_depot (get_or f 0 0) ≡ true)
 unfolding opening_length
-read_more {s} {at} {u} is e some_used = go (read_line t) refl
+opening_reads t {u} e = go (read_line t) refl e
   where
-    t : List ℕ
-    t = take (length s - at) (drop at s)
-
-    part : t ≡ drop at s
-    part = behind s at
-
-    go : (l : Line) → read_line t ≡ l → (0 < u) × AreRead s (at + u)
-    go garbled q = absurd (some_used (e ∙ ap opening_length q))
-    go (frame f v) q = by (opens_depot (get_or f 0 0)) refl
+    go : (l : Line) → read_line t ≡ l → Some u ≡ opening_length l → (f : List ℕ) × LineReads t f u × (opens_depot (get_or f 0 0) ≡ true)
+    go garbled q k = absurd (grind arith)
+    go (frame f v) q k = by (opens_depot (get_or f 0 0)) refl k
       where
-        by : (b : Bool) → opens_depot (get_or f 0 0) ≡ b → (0 < u) × AreRead s (at + u)
-        by false k = absurd (some_used (e ∙ ap opening_length q ∙ ap (λ (b : Bool). cond b v 0) k))
-        by true k =
-            let r = line_reads t f v q in
-            let uv : u ≡ v = e ∙ ap opening_length q ∙ ap (λ (b : Bool). cond b v 0) k in
-            let l : length t ≡ length s - at = ap length part ∙ length-drop at s in (
-              omega (arith, uv, r.some_used),
-              record {
-                within = omega (arith, is.within, uv, r.within, l);
-                same = is.same ∙ ap (λ (x : List ℕ). allb is_opening (lines_of x)) (sym part) ∙ all_reads t f v r k ∙ ap₂ (λ (x : List ℕ) (n : ℕ). allb is_opening (lines_of (drop n x))) part (sym uv) ∙ ap (λ (x : List ℕ). allb is_opening (lines_of x)) (drop-drop u at s);
-              },
-            )
+        by : (b : Bool) → opens_depot (get_or f 0 0) ≡ b → Some u ≡ cond b (Some v) None → (f : List ℕ) × LineReads t f u × (opens_depot (get_or f 0 0) ≡ true)
+        by true h k = let uv : v ≡ u = cc in (f, line_reads t f u (q ∙ ap (frame f) uv), h)
+        by false h k = absurd (grind arith)
+
+-- a line of u bytes more
+pub read_more : {s : List ℕ} {at u : ℕ} → AreRead s at → Some u ≡ opening_length (read_line (take (length s - at) (drop at s))) → (0 < u) × AreRead s (at + u)
+read_more {s} {at} {u} is e =
+    let t = take (length s - at) (drop at s) in
+    let part : t ≡ drop at s = behind s at in
+    let o = opening_reads t e in
+    let r = o.1 in
+    let l : length t ≡ length s - at = ap length part ∙ length-drop at s in (
+      r.some_used,
+      record {
+        within = omega (arith, is.within, r.within, l);
+        same = is.same ∙ ap (λ (x : List ℕ). allb is_opening (lines_of x)) (sym part) ∙ all_reads t o.0 u r o.2 ∙ ap (λ (x : List ℕ). allb is_opening (lines_of (drop u x))) part ∙ ap (λ (x : List ℕ). allb is_opening (lines_of x)) (drop-drop u at s);
+      },
+    )
 
 -- the line here is garbled; all are read
-pub read_fails : {s : List ℕ} {at u : ℕ} → AreRead s at → at < length s → u ≡ opening_length (read_line (take (length s - at) (drop at s))) → u ≡ 0 → false ≡ allb is_opening (lines_of s)
+pub read_fails : {s : List ℕ} {at : ℕ} → AreRead s at → at < length s → None ≡ opening_length (read_line (take (length s - at) (drop at s))) → false ≡ allb is_opening (lines_of s)
 unfolding opening_length
-read_fails {s} {at} {u} is l e z = go (read_line t) refl
+read_fails {s} {at} is l e = go (read_line t) refl e
   where
     t : List ℕ
     t = take (length s - at) (drop at s)
@@ -161,13 +163,13 @@ read_fails {s} {at} {u} is l e z = go (read_line t) refl
     part : t ≡ drop at s
     part = behind s at
 
-    go : (x : Line) → read_line t ≡ x → false ≡ allb is_opening (lines_of s)
-    go garbled q = sym (is.same ∙ ap (λ (x : List ℕ). allb is_opening (lines_of x)) (sym part) ∙ all_fails_here t (omega (arith, ap length part, length-drop at s)) q)
-    go (frame f v) q = by (opens_depot (get_or f 0 0)) refl
+    go : (x : Line) → read_line t ≡ x → None ≡ opening_length x → false ≡ allb is_opening (lines_of s)
+    go garbled q k = sym (is.same ∙ ap (λ (x : List ℕ). allb is_opening (lines_of x)) (sym part) ∙ all_fails_here t (omega (arith, ap length part, length-drop at s)) q)
+    go (frame f v) q k = by (opens_depot (get_or f 0 0)) refl k
       where
-        by : (b : Bool) → opens_depot (get_or f 0 0) ≡ b → false ≡ allb is_opening (lines_of s)
-        by true k = let r = line_reads t f v q in absurd (omega (arith, r.some_used, e ∙ ap opening_length q ∙ ap (λ (b : Bool). cond b v 0) k))
-        by false k = sym (is.same ∙ ap (λ (x : List ℕ). allb is_opening (lines_of x)) (sym part) ∙ all_other t f v (line_reads t f v q) k)
+        by : (b : Bool) → opens_depot (get_or f 0 0) ≡ b → None ≡ cond b (Some v) None → false ≡ allb is_opening (lines_of s)
+        by true h k = absurd (grind arith)
+        by false h k = sym (is.same ∙ ap (λ (x : List ℕ). allb is_opening (lines_of x)) (sym part) ∙ all_other t f v (line_reads t f v q) h)
 
 pub read_all : {s : List ℕ} {at : ℕ} → AreRead s at → length s ≤ at → true ≡ allb is_opening (lines_of s)
 unfolding allb lines_of
@@ -176,15 +178,13 @@ read_all {s} is l = sym (is.same ∙ ap (λ (x : List ℕ). allb is_opening (lin
 -- what the code finds by the frame that it has read
 
 module _ (text : List ℕ) {after : List ℕ} {n u : ℕ} (x : (f : List ℕ) × (read_line text ≡ frame f u) × FrameStands f n after) where
-  length-by : {b : Bool} → opens_depot (get_or after 0 0) ≡ b → cond b u 0 ≡ opening_length (read_line text)
+  pub length-by : {b : Bool} → b ≡ opens_depot (get_or after 0 0) → then_some b u ≡ opening_length (read_line text)
   unfolding opening_length
-  length-by e = sym (ap opening_length x.1 ∙ ap (λ (t : Bool). cond t u 0) (sym (ap opens_depot x.2.kind) ∙ e))
-
-  pub opening-length : opens_depot (get_or after 0 0) ≡ true → u ≡ opening_length (read_line text)
-  opening-length e = length-by e
-
-  pub other_length : opens_depot (get_or after 0 0) ≡ false → 0 ≡ opening_length (read_line text)
-  other_length e = length-by e
+  length-by {b} e = same b ∙ ap (λ (t : Bool). cond t (Some u) None) (e ∙ ap opens_depot x.2.kind) ∙ sym (ap opening_length x.1)
+    where
+      same : (t : Bool) → then_some t u ≡ cond t (Some u) None
+      same true = refl
+      same false = refl
 
 -- ---- the entries of a line and of those behind it
 

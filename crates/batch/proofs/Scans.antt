@@ -7,8 +7,13 @@ use Prim.Native.Nat.{ℕ, suc, ◌+◌, ◌-◌, ◌≤◌, ◌<◌}
 use native.Mathlib.Numerals.{add-one}
 use native.Mathlib.Omega.{arith}
 use lib.Dec.{eqb}
+use borrow.Author.Tests.{ne_eqb}
 use lib.ListN.{length, get_or, set, take, drop, length-append, length-drop, drop_of_length-le}
 use lib.Seq.{drop-drop}
+use Rattle.std.specs.Prelude.{Result, Ok, Err, Some, None, is_ok}
+use Rattle.outcome.specs.Refusals.{number_of, refused_by}
+use Rattle.outcome.specs.declared.Refusal.{Refusal}
+use Rattle.outcome.proofs.Numbering.{refuses}
 use Rattle.lists.specs.Lists.{from, range, filterb, allb, overwrite, first_of}
 use Rattle.lists.proofs.Appends.{append_none}
 use Rattle.lists.proofs.Members.{length-filter, length-range}
@@ -24,10 +29,14 @@ use Rattle.notice.specs.Lines.{opens_depot, garbled, frame, lines_of, read_line}
 use Rattle.notice.proofs.Readings.{behind, FrameStands}
 use Rattle.batch.specs.Lines.{is_opening, entries_from, entries_of}
 use Rattle.batch.specs.Steps.{waiting_of, notice_at, fit_of, Leavings, leavings, left_numbers, left_over, put_number}
-use Rattle.batch.specs.declared.Fit.TheVariants.{Line as Found, Nothing}
+use Rattle.batch.specs.declared.Fit.{Fit}
 use Rattle.batch.proofs.Lines.{LineReads, line_reads, all_reads, all_other, all_fails_here, entries_reads}
 
 -- ---- the scan
+
+-- line i is found, with its frame of n bytes
+abbrev pub fit : ℕ → ℕ → Fit
+fit i n = record { number = i; length = n }
 
 -- the first of some entries is found where it is not taken and can be accepted; else what follows is scanned
 fit_cons : (G : Network) (taken : ℕ) (e : Entry) (es : List Entry)
@@ -43,14 +52,14 @@ fit_cons G taken e es = go (not (bit taken e.number)) refl
 module _ (G : Network) (taken number : ℕ) (s f : List ℕ) (u : ℕ) {n : ℕ} {after : List ℕ} (r : LineReads s f u)
     (opens_one : opens_depot (get_or f 0 0) ≡ true) (stands : FrameStands f n after) where
   fit_reads : first_fit G (waiting_of taken (entries_from number (lines_of s)))
-      ≡ cond (not (bit taken number) && accepts G (notice_at after n)) (fit_of (Found number n) after)
+      ≡ cond (not (bit taken number) && accepts G (notice_at after n)) (fit_of (Some (fit number n)) after)
       (first_fit G (waiting_of taken (entries_from (suc number) (lines_of (drop u s)))))
   unfolding fit_of
   fit_reads = rw (entries_reads number s f u r opens_one, stands.kind, stands.code, stands.neighbours) (fit_cons G taken _ _)
 
   -- this line it is
   pub scan_takes : {b : Bool} → b ≡ (not (bit taken number) && accepts G (notice_at after n)) → b ≡ true
-      → fit_of (Found number n) after ≡ first_fit G (waiting_of taken (entries_from number (lines_of s)))
+      → fit_of (Some (fit number n)) after ≡ first_fit G (waiting_of taken (entries_from number (lines_of s)))
   scan_takes e h = sym (fit_reads ∙ rw (← e, h))
 
   -- it is one of those behind it
@@ -95,7 +104,7 @@ module _ {G : Network} {taken : ℕ} {s : List ℕ} {number at : ℕ} (is : IsSc
 
     module _ {n : ℕ} {after : List ℕ} (stands : FrameStands f n after) {b : Bool}
         (e : b ≡ (not (bit taken number) && accepts G (notice_at after n))) where
-      pub scan_found : b ≡ true → fit_of (Found number n) after ≡ first_fit G (waiting_of taken (entries_of s))
+      pub scan_found : b ≡ true → fit_of (Some (fit number n)) after ≡ first_fit G (waiting_of taken (entries_of s))
       scan_found h = scan_takes G taken number (drop at s) f u r opens_one stands e h ∙ sym is.same
 
       pub scan_more : b ≡ false → IsScanned G taken s (number + 1) (at + u)
@@ -108,7 +117,7 @@ module _ {G : Network} {taken : ℕ} {s : List ℕ} {number at : ℕ} (is : IsSc
             same = is.same ∙ scan_passes G taken number (drop at s) f u r opens_one stands e h ∙ ap (λ (x : List ℕ). first_fit G (waiting_of taken (entries_from (number + 1) (lines_of x)))) rest;
           }
 
-  pub scan_end : (after : List ℕ) → length s ≤ at → fit_of Nothing after ≡ first_fit G (waiting_of taken (entries_of s))
+  pub scan_end : (after : List ℕ) → length s ≤ at → fit_of None after ≡ first_fit G (waiting_of taken (entries_of s))
   unfolding fit_of first_fit waiting_of filterb entries_from lines_of
   scan_end after l = sym (is.same ∙ ap (λ (x : List ℕ). first_fit G (waiting_of taken (entries_from number (lines_of x)))) (drop_of_length-le s l))
 
@@ -117,12 +126,16 @@ module _ {G : Network} {taken : ℕ} {s : List ℕ} {number at : ℕ} (is : IsSc
 pub fits_taken : (G : Network) (taken number : ℕ) (o : Notice) {b : Bool} → b ≡ bit taken number → b ≡ true → false ≡ (not (bit taken number) && accepts G o)
 fits_taken G taken number o e h = rw (← e, h)
 
+none_refused : {A : Type 0} (r : Result A Refusal) → is_ok r ≡ eqb (refused_by r) 0
+none_refused (Ok x) = refl
+none_refused (Err k) = sym (ne_eqb (number_of k) 0 (refuses k))
+
 -- whether the notice is a yard's is not asked
-pub fits_by : (G : Network) (taken number : ℕ) (o : Notice) {b : Bool} {k : ℕ} → b ≡ bit taken number → b ≡ false
-    → k ≡ first_of (open_faults G (notice_of false o.code o.neighbours))
-    → eqb k 0 ≡ (not (bit taken number) && accepts G o)
+pub fits_by : (G : Network) (taken number : ℕ) (o : Notice) {b : Bool} {A : Type 0} (r : Result A Refusal) → b ≡ bit taken number → b ≡ false
+    → refused_by r ≡ first_of (open_faults G (notice_of false o.code o.neighbours))
+    → is_ok r ≡ (not (bit taken number) && accepts G o)
 unfolding accepts update_faults open_faults
-fits_by G taken number o e h q = rw (← e, h, q)
+fits_by G taken number o r e h q = rw (← e, h, ← q) (none_refused r)
 
 -- ---- the numbers left over
 

@@ -11,19 +11,20 @@ ghost use Rattle.words.specs.Bits.{bit};
 ghost use Rattle.map.specs.Memory.{base, network_of};
 ghost use Rattle.notice.specs.Lines.{lines_of, read_line};
 ghost use Rattle.notice.specs.Calls.{frame_limit};
+ghost use Rattle.outcome.specs.Refusals.{refused_by};
 ghost use Rattle.batch.specs.Lines.{batch_limit, is_opening, entries_of, batch_faults};
 ghost use Rattle.batch.specs.Steps.{opening_length, waiting_of, notice_at, fit_of, FitsFrame, leavings, put_number, left_numbers, left_over};
 
-use notice::Reading;
+use outcome::Refusal;
 
 // the most lines of a batch; in specifications `batch_limit`
 pub const LIMIT: usize = 64;
 
-// What a scan of the lines finds: the number of the first that can be accepted with the length of its frame, or nothing.
+// What a scan of the lines finds: the number of the first that can be accepted, and the length of its frame.
 #[derive(Clone, Copy)]
-pub enum Fit {
-    Line(u8, usize),
-    Nothing,
+pub struct Fit {
+    pub number: u8,
+    pub length: usize,
 }
 
 // ---- what refuses a batch
@@ -32,10 +33,7 @@ pub enum Fit {
 fn begun_here(inside: bool) -> usize
     ensures { result ≡ cond inside 0 1 }
 {
-    if inside {
-        return 0;
-    }
-    1
+    usize::from(!inside)
 }
 
 // How many lines the input has. What is left behind the last 0A is a line too.
@@ -53,21 +51,15 @@ pub fn count_lines(lines: &[u8]) -> usize
     count
 }
 
-// How many bytes the line has that the text begins with; 0 where it does not read as a frame that opens something.
-fn opening_length(text: &[u8]) -> usize
+// How many bytes the line has that the text begins with, if it reads as a frame that opens something.
+fn opening_length(text: &[u8]) -> Option<usize>
     ensures { result ≡ opening_length (read_line text.now) }
 {
     let mut frame = [0u8; notice::FRAME_LIMIT];
-    let got = notice::read_notice(&mut frame, text);
-    match got {
-        Reading::Frame(_, used) => {
-            if !notice::opens_depot(frame[0]) {
-                return 0;
-            }
-            used
-        }
-        Reading::Refused(_) => 0,
-    }
+    let Ok(got) = notice::read_notice(&mut frame, text) else {
+        return None;
+    };
+    notice::opens_depot(frame[0]).then_some(got.used)
 }
 
 // Whether every line reads as a frame that opens something.
@@ -76,30 +68,29 @@ fn all_open(lines: &[u8]) -> bool
 {
     let mut at: usize = 0;
     while at < lines.len() {
-        let used = opening_length(&lines[at..]);
-        if used == 0 {
+        let Some(used) = opening_length(&lines[at..]) else {
             return false;
-        }
+        };
         at += used;
     }
     true
 }
 
-// The first of the refusals 11, 12 and 9 that holds, 0 for none.
-pub fn lines_refusal(members: &[u64], words: usize, lines: &[u8]) -> u8
+// The first of the refusals 11, 12 and 9 that holds.
+pub fn lines_refusal(members: &[u64], words: usize, lines: &[u8]) -> Result<(), Refusal>
     requires { words ≤ length members.now }
-    ensures { result ≡ first_of (batch_faults (length (vertices (network_of words members.now []))) lines.now) }
+    ensures { refused_by result ≡ first_of (batch_faults (length (vertices (network_of words members.now []))) lines.now) }
 {
     if LIMIT < count_lines(lines) {
-        return outcome::OVERFULL;
+        return Err(Refusal::Overfull);
     }
     if rows::is_empty(members, words) {
-        return outcome::BARE;
+        return Err(Refusal::Bare);
     }
     if !all_open(lines) {
-        return outcome::GARBLED;
+        return Err(Refusal::Garbled);
     }
-    0
+    Ok(())
 }
 
 // ---- the scan
@@ -114,12 +105,18 @@ fn fits(members: &[u64], frame: &[u8], words: usize, taken: u64, number: u8, n: 
         return false;
     }
     let code = frame[1];
-    admission::notice_refusal(members, words, code, &frame[3..n]) == 0
+    admission::notice_refusal(members, words, code, &frame[3..n]).is_ok()
 }
 
 // The first line, in their order, that is not taken and can be accepted with these depots open. Its notice is left in the frame. Only the open
 // set is asked, so that no table is lent.
-pub fn first_fit(members: &[u64], frame: &mut [u8], words: usize, taken: u64, lines: &[u8]) -> Fit
+pub fn first_fit(
+    members: &[u64],
+    frame: &mut [u8],
+    words: usize,
+    taken: u64,
+    lines: &[u8],
+) -> Option<Fit>
     requires { (base.words ≤ words)
         × (words < 513)
         × (words ≤ length members.now)
@@ -133,19 +130,19 @@ pub fn first_fit(members: &[u64], frame: &mut [u8], words: usize, taken: u64, li
     let mut at: usize = 0;
     let mut number: u8 = 0;
     while at < lines.len() {
-        let got = notice::read_notice(frame, &lines[at..]);
-        match got {
-            Reading::Frame(n, used) => {
-                if fits(members, &*frame, words, taken, number, n) {
-                    return Fit::Line(number, n);
-                }
-                at += used;
-                number += 1;
-            }
-            Reading::Refused(_) => return Fit::Nothing,
+        let Ok(got) = notice::read_notice(frame, &lines[at..]) else {
+            return None;
+        };
+        if fits(members, &*frame, words, taken, number, got.length) {
+            return Some(Fit {
+                number,
+                length: got.length,
+            });
         }
+        at += got.used;
+        number += 1;
     }
-    Fit::Nothing
+    None
 }
 
 // ---- those left over

@@ -1,18 +1,19 @@
 -- `batch::all_open` meets its contract. The invariant: all lines open something exactly if those left do. The measure is what is left of the
 -- length; a line that reads is not empty.
+use mathlib.Core.Path.{sym, ◌∙◌}
 use Prim.Native.Nat.{◌+◌, ◌<◌}
 use native.Mathlib.Omega.{arith}
 use Rattle.batch.proofs.Lines.{AreRead, read_none, read_more, read_fails, read_all}
 use Rattle.batch.proofs.all_open.Goals as goal
-use Rattle.batch.proofs.all_open.Goals.{Else-used-eq0}
+use Rattle.batch.proofs.all_open.Goals.{In-Some}
 
 pub loop-at-init : goal.loop-at-init
 loop-at-init c = read_none _
 
 -- the line that was read, and those left
-more : (c : Else-used-eq0) → (0 < c.opening_length-used.result) × AreRead c.args.lines.now (c.loop-at.at + c.opening_length-used.result)
+more : (c : In-Some) → (0 < c.in-Some.used) × AreRead c.args.lines.now (c.loop-at.at + c.in-Some.used)
 more c =
-    read_more c.loop-at.invariant c.opening_length-used.ensures c.if-used-eq0.false
+    read_more c.loop-at.invariant (sym c.in-Some.is ∙ c.opening_length.ensures)
 
 pub overflow_add-at : goal.overflow_add-at
 overflow_add-at c =
@@ -27,8 +28,9 @@ loop-at-smaller c =
 pub loop-at-preserved : goal.loop-at-preserved
 loop-at-preserved c = (more c).1
 
-pub returns-then-used-eq0 : goal.returns-then-used-eq0
-returns-then-used-eq0 c = search read_fails
+pub returns-in_default : goal.returns-in_default
+returns-in_default c =
+    read_fails c.loop-at.invariant c.loop-at-test.true (sym c.in_default.is ∙ c.opening_length.ensures)
 
 pub returns : goal.returns
 returns c = search read_all
