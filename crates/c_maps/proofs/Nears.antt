@@ -13,10 +13,10 @@ use Rattle.map.specs.declared.Record.{Record}
 use Rattle.search.specs.SearchCall.{search_sizes}
 use Rattle.nearby.specs.WithinCall.{within_refusal, WithinLeft, within_left, within_given, within_call}
 use Rattle.nearby.specs.NearestCall.{nearest_refusal, NearestLeft, nearest_left, nearest_given, nearest_call}
-use Rattle.nearby.specs.declared.Listing.{Listing}
-use Rattle.nearby.specs.declared.Listing.TheVariants.{Listed, Refused as NoListing}
-use Rattle.nearby.specs.declared.Closest.{Closest}
-use Rattle.nearby.specs.declared.Closest.TheVariants.{At, Refused as NoChoice}
+use Rattle.nearby.specs.WithinCall.{Listing}
+use Rattle.nearby.specs.WithinCall.{Listed, Refused as NoListing}
+use Rattle.nearby.specs.NearestCall.{Closest}
+use Rattle.nearby.specs.NearestCall.{At, Refused as NoChoice}
 use Rattle.c_values.specs.Words.{record_words, record_of, clamped_of}
 use Rattle.c_values.proofs.Clamps.{network_in, links_first_clamp}
 use Rattle.c_maps.specs.Nears.{ListedOut, listed_out, within_from, within_out, ChosenOut, chosen_out, closest_from, nearest_out}

@@ -14,8 +14,8 @@ use Rattle.map.specs.Memory.{base, places}
 use Rattle.map.specs.declared.Record.{Record}
 use Rattle.search.specs.SearchCall.{search_sizes}
 use Rattle.summary.specs.SummaryCall.{summary_refusal, SummaryLeft, summary_left, summary_given, summary_call}
-use Rattle.summary.specs.declared.Summing.{Summing}
-use Rattle.summary.specs.declared.Summing.TheVariants.{Summed, Refused}
+use Rattle.summary.specs.SummaryCall.{Summing}
+use Rattle.summary.specs.SummaryCall.{Summed, Refused}
 use Rattle.c_values.specs.Words.{record_words, record_of, clamped_of}
 use Rattle.c_values.proofs.Clamps.{network_in, links_first_clamp}
 use Rattle.c_maps.specs.Summaries.{FourNumbers, four_numbers, SummaryOut, summed_out, summary_from, summary_out}

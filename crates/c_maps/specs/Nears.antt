@@ -5,10 +5,10 @@ use Rattle.map.specs.Room.{Tables}
 use Rattle.map.specs.Memory.{base}
 use Rattle.nearby.specs.WithinCall.{within_call}
 use Rattle.nearby.specs.NearestCall.{nearest_call}
-use Rattle.nearby.specs.declared.Listing.{Listing}
-use Rattle.nearby.specs.declared.Listing.TheVariants.{Listed, Refused as NoListing}
-use Rattle.nearby.specs.declared.Closest.{Closest}
-use Rattle.nearby.specs.declared.Closest.TheVariants.{At, Refused as NoChoice}
+use Rattle.nearby.specs.WithinCall.{Listing}
+use Rattle.nearby.specs.WithinCall.{Listed, Refused as NoListing}
+use Rattle.nearby.specs.NearestCall.{Closest}
+use Rattle.nearby.specs.NearestCall.{At, Refused as NoChoice}
 use Rattle.outcome.specs.Numbers.{short_buffer}
 use Rattle.c_values.specs.Words.{record_words, record_of}
 

@@ -4,8 +4,8 @@ use Rattle.std.specs.Prelude.{cond, List, ℕ, ltb, length}
 use Rattle.map.specs.Room.{Tables}
 use Rattle.map.specs.Memory.{base}
 use Rattle.summary.specs.SummaryCall.{summary_call}
-use Rattle.summary.specs.declared.Summing.{Summing}
-use Rattle.summary.specs.declared.Summing.TheVariants.{Summed, Refused}
+use Rattle.summary.specs.SummaryCall.{Summing}
+use Rattle.summary.specs.SummaryCall.{Summed, Refused}
 use Rattle.outcome.specs.Numbers.{short_buffer}
 use Rattle.c_values.specs.Words.{record_words, record_of}
 

@@ -45,8 +45,8 @@ use Rattle.insertion.proofs.Shrinking.{pairs_over, figured_over}
 
 -- ---- the search
 
--- over the tables T₀ it leaves T₁, and says R of a
-module _ (K : Shape) (shape : IsShape K) (members targets links : List ℕ) (are : AreTargets K.words members targets) (a d : ℕ) (T₀ T₁ : Tables)
+-- over the tables T₀ it leaves T₁, which are then the tables Y, and says R of a
+module _ (K : Shape) (shape : IsShape K) (members targets links : List ℕ) (are : AreTargets K.words members targets) (a d : ℕ) (T₀ T₁ Y : Tables)
     (net : IsNet (target_network K.words members targets links)) (o : T ((target_network K.words members targets links).is_open a))
     (found : searched d T₁ ≡ search_table K.words links a T₀) where
   abbrev H : Network
@@ -56,18 +56,18 @@ module _ (K : Shape) (shape : IsShape K) (members targets links : List ℕ) (are
   left_is_search = (table_is K.words members targets links net are a o T₀ shape.most found).1
 
   -- it stands in the tables
-  pub search_stands : (row : List ℕ) {R : Reached} → R ≡ reach_in K.words targets a d T₁ row → StandsIn K (target_network K.words members targets links) T₁ a R
-  search_stands row q = record {
+  pub search_stands : (row : List ℕ) {R : Reached} → R ≡ reach_in K.words targets a d T₁ row → Y ≡ T₁ → StandsIn K (target_network K.words members targets links) Y a R
+  search_stands row q e = record {
     net = net;
     present = o;
     spans = table_spans K.words members targets links net are a o T₀ shape.most found row q;
-    stands = left_is_search ∙ sym (ap (search_leaves K.words H a) left_is_search ∙ leaves_over K.words H a a T₀);
+    stands = rw e (left_is_search ∙ sym (ap (search_leaves K.words H a) left_is_search ∙ leaves_over K.words H a a T₀));
   }
 
   -- what is answered by those tables is answered by the tables before
-  pub figured_first : (p b s : List ℕ) (D : ℕ) (X : Figured) → X ≡ figured_by K (target_network K.words members targets links) a D (lent p T₁ b s)
+  pub figured_first : (p b s : List ℕ) (D : ℕ) (X : Figured) → X ≡ figured_by K (target_network K.words members targets links) a D (lent p Y b s) → Y ≡ T₁
       → X ≡ figured_by K (target_network K.words members targets links) a D (lent p T₀ b s)
-  figured_first p b s D X h = h ∙ ap (λ (Y : Tables). figured_by K H a D (lent p Y b s)) left_is_search ∙ figured_over K H a T₀ p b s D
+  figured_first p b s D X h e = h ∙ ap (λ (Z : Tables). figured_by K H a D (lent p Z b s)) (e ∙ left_is_search) ∙ figured_over K H a T₀ p b s D
 
 -- ---- a depot at distance 0 has no partner
 

@@ -12,14 +12,16 @@ ghost use Rattle.map.specs.Memory.{base, places};
 ghost use Rattle.targets.specs.Reach.{reached};
 ghost use Rattle.pairs.specs.Pairs.{tally, Counted};
 ghost use Rattle.rounds.specs.Leaves.{ran, ran_by};
-ghost use Rattle.rounds.specs.Targets.{target_network, AreTargets};
-ghost use Rattle.map.specs.Slices.{lent_at, lent_before, lent_after, sizes_at};
+ghost use Rattle.rounds.specs.Targets.{plan_network, AreTargets};
+ghost use Rattle.map.specs.Slices.{lent_in, room_sizes, IsSameRoom};
 ghost use Rattle.insertion.specs.Figured.{figured, figured_by, IsFigurable};
 ghost use Rattle.bounds.specs.Once.{marking};
 ghost use Rattle.insertion.specs.Steps.{joined, join_of, HoldsSearch, AreOpen};
 
+use bounds::Marks;
+use map::{Room, Scratch};
 use outcome::Change;
-use rounds::RoundFigures;
+use rounds::{Desk, Plan, RoundFigures};
 use targets::Span;
 
 // The figures after an opening: how the chain moved, chain, pair count, number of searches.
@@ -71,54 +73,47 @@ fn join(
 
 // Rounds with the candidate way, whose first reference is the search from a that stands in the tables.
 fn shrink(
-    members: &[u64],
-    targets: &[u64],
-    links: &[u64],
-    pairs: &mut [u64],
-    hops: &mut [u16],
-    bounds: &mut [u16],
-    skips: &mut [u16],
-    even: &mut [u64],
-    odd: &mut [u64],
+    plan: Plan<'_>,
+    room: &mut Room<'_>,
     partners: &mut [u64],
     a: usize,
     span: Span,
     way: u16,
 ) -> RoundFigures
-    requires { let given = lent_at pairs hops bounds skips even odd in
-        let G = target_network base.words members.now targets.now links.now in
-        AreLong base (sizes_at links.now pairs hops bounds skips even odd)
-        × AreTargets base.words members.now targets.now
+    requires { let G = plan_network base.words plan in
+        AreLong base (room_sizes (length plan.links.now) room.old)
+        × AreTargets base.words plan.members.now plan.targets.now
         × (base.words ≤ length partners.old)
-        × HoldsSearch base G given a (reached span.ecc span.own partners.old)
+        × HoldsSearch base G (lent_in room.old) a (reached span.ecc span.own partners.old)
         × (a < places base) }
-    ensures { let before = lent_before pairs hops bounds skips even odd in
-        let after = lent_after pairs hops bounds skips even odd in
-        let G = target_network base.words members.now targets.now links.now in
-        let M = chart G in
-        ran after result.candidate result.count result.searches
-        ≡ ran_by base G (rounds M (length M.depots) (round M a (start way))) before }
+    ensures same { IsSameRoom room.old room.new }
+    ensures left { let M = chart (plan_network base.words plan.entry) in
+        ran (lent_in room.new) result.candidate result.count result.searches
+        ≡ ran_by base (plan_network base.words plan.entry) (rounds M (length M.depots) (round M a (start way))) (lent_in room.old) }
 {
     let mut ranks = [0u16; map::PLACES];
     let mut seen = [0u64; map::WORDS];
     let mut next = [0u64; map::WORDS];
+    let pairs = &mut *room.pairs;
+    let hops = &mut *room.hops;
+    let mut marks = Marks {
+        bounds: &mut *room.bounds,
+        skips: &mut *room.skips,
+        ranks: &mut ranks,
+    };
     rounds::begin(
-        members,
-        links,
+        plan.members,
+        plan.links,
         pairs,
-        bounds,
-        skips,
-        &mut ranks,
+        &mut marks,
         map::WORDS,
         map::OTHER,
     );
     let first = rounds::absorb(
         pairs,
         &*hops,
-        bounds,
-        skips,
+        &mut marks,
         &*partners,
-        &mut ranks,
         map::WORDS,
         map::SEARCHED,
         a,
@@ -127,24 +122,22 @@ fn shrink(
         0,
         true,
     );
+    let mut desk = Desk {
+        seen: &mut seen,
+        next: &mut next,
+        partners: &mut *partners,
+        ranks: &mut ranks,
+    };
     let before = RoundFigures {
         candidate: first.candidate,
         count: first.count,
         searches: 1,
     };
     rounds::run_rounds(
-        targets,
-        links,
-        pairs,
-        hops,
-        bounds,
-        skips,
-        even,
-        odd,
-        &mut seen,
-        &mut next,
-        partners,
-        &mut ranks,
+        plan.targets,
+        plan.links,
+        room,
+        &mut desk,
         map::WORDS,
         map::SEARCHED,
         before,
@@ -155,50 +148,52 @@ fn shrink(
 
 // The figures where what is a's own is not above the chain, without the stale pairs. A yard has nothing of its own: it keeps only a chain that was 0.
 fn settle_low(
-    members: &[u64],
-    targets: &[u64],
-    links: &[u64],
-    pairs: &mut [u64],
-    hops: &mut [u16],
-    bounds: &mut [u16],
-    skips: &mut [u16],
-    even: &mut [u64],
-    odd: &mut [u64],
+    plan: Plan<'_>,
+    room: &mut Room<'_>,
     partners: &mut [u64],
     a: usize,
     span: Span,
     chain: u16,
     count: u32,
 ) -> Figures
-    requires { let given = lent_at pairs hops bounds skips even odd in
-        let G = target_network base.words members.now targets.now links.now in
-        AreLong base (sizes_at links.now pairs hops bounds skips even odd)
-        × AreTargets base.words members.now targets.now
+    requires { let G = plan_network base.words plan in
+        AreLong base (room_sizes (length plan.links.now) room.old)
+        × AreTargets base.words plan.members.now plan.targets.now
         × (base.words ≤ length partners.old)
-        × AreOpen base G pairs.old
-        × HoldsSearch base G given a (reached span.ecc span.own partners.old)
+        × AreOpen base G room.old.pairs.now
+        × HoldsSearch base G (lent_in room.old) a (reached span.ecc span.own partners.old)
         × (a < places base)
         × (span.own ≤ chain)
-        × (count_pairs (range (places base)) (table_bit base.words pairs.old) ≤ count) }
-    ensures { let before = lent_before pairs hops bounds skips even odd in
-        let after = lent_after pairs hops bounds skips even odd in
-        let G = target_network base.words members.now targets.now links.now in
-        figured result.change (ran after result.chain result.count result.searches) ≡ figured_by base G a chain before }
+        × (count_pairs (range (places base)) (table_bit base.words room.old.pairs.now) ≤ count) }
+    ensures same { IsSameRoom room.old room.new }
+    ensures left { figured result.change (ran (lent_in room.new) result.chain result.count result.searches)
+        ≡ figured_by base (plan_network base.words plan.entry) a chain (lent_in room.old) }
 {
+    let pairs = &mut *room.pairs;
+    let hops = &mut *room.hops;
     let left = stale_pairs::drop_stale(pairs, &*hops, map::WORDS, chain, count);
     if span.own == chain {
-        let sum = join(pairs, bounds, skips, &*partners, a, span, chain, left.count);
+        let sum = join(
+            room.pairs,
+            room.bounds,
+            room.skips,
+            &*partners,
+            a,
+            span,
+            chain,
+            left.count,
+        );
         return Figures {
             change: Change::Kept,
-            chain: chain,
+            chain,
             count: sum,
             searches: 1,
         };
     }
     if left.count != 0 {
         bounds::mark_once(
-            bounds,
-            skips,
+            room.bounds,
+            room.skips,
             map::WORDS,
             a,
             span.ecc,
@@ -207,14 +202,12 @@ fn settle_low(
         );
         return Figures {
             change: Change::Kept,
-            chain: chain,
+            chain,
             count: left.count,
             searches: 1,
         };
     }
-    let got = shrink(
-        members, targets, links, pairs, hops, bounds, skips, even, odd, partners, a, span, left.way,
-    );
+    let got = shrink(plan, room, partners, a, span, left.way);
     Figures {
         change: Change::Shrank,
         chain: got.candidate,
@@ -225,43 +218,33 @@ fn settle_low(
 
 // The figures after a's links are in place, by the stored chain and the count of the stored pairs: the search from a and what it says of a, then the
 // pairs, the marks and, if the chain shrank, the rounds. The targets are the depots that deliver.
-pub fn refigure(
-    members: &[u64],
-    targets: &[u64],
-    links: &[u64],
-    pairs: &mut [u64],
-    hops: &mut [u16],
-    bounds: &mut [u16],
-    skips: &mut [u16],
-    even: &mut [u64],
-    odd: &mut [u64],
-    a: usize,
-    chain: u16,
-    count: u32,
-) -> Figures
-    requires { let given = lent_at pairs hops bounds skips even odd in
-        AreLong base (sizes_at links.now pairs hops bounds skips even odd)
-        × IsFigurable base members.now targets.now links.now given a chain count
+pub fn refigure(plan: Plan<'_>, room: &mut Room<'_>, a: usize, chain: u16, count: u32) -> Figures
+    requires { AreLong base (room_sizes (length plan.links.now) room.old)
+        × IsFigurable base plan.members.now plan.targets.now plan.links.now (lent_in room.old) a chain count
         × (a < places base) }
-    ensures { let before = lent_before pairs hops bounds skips even odd in
-        let after = lent_after pairs hops bounds skips even odd in
-        let G = target_network base.words members.now targets.now links.now in
-        figured result.change (ran after result.chain result.count result.searches) ≡ figured_by base G a chain before }
+    ensures same { IsSameRoom room.old room.new }
+    ensures left { figured result.change (ran (lent_in room.new) result.chain result.count result.searches)
+        ≡ figured_by base (plan_network base.words plan.entry) a chain (lent_in room.old) }
 {
     let mut partners = [0u64; map::WORDS];
-    let depth = search::search_sound(links, hops, even, odd, a);
-    let span = rounds::reach_by(
-        targets,
-        &*hops,
-        &*even,
-        &*odd,
-        &mut partners,
-        map::WORDS,
-        a,
-        depth,
-    );
+    let mut scratch = Scratch {
+        hops: &mut *room.hops,
+        even: &mut *room.even,
+        odd: &mut *room.odd,
+    };
+    let depth = search::search_sound(plan.links, &mut scratch, a);
+    let span = rounds::reach_by(plan.targets, &scratch, &mut partners, map::WORDS, a, depth);
     if chain < span.own {
-        let own = join(pairs, bounds, skips, &partners, a, span, chain, count);
+        let own = join(
+            room.pairs,
+            room.bounds,
+            room.skips,
+            &partners,
+            a,
+            span,
+            chain,
+            count,
+        );
         return Figures {
             change: Change::Grew,
             chain: span.own,
@@ -269,20 +252,5 @@ pub fn refigure(
             searches: 1,
         };
     }
-    settle_low(
-        members,
-        targets,
-        links,
-        pairs,
-        hops,
-        bounds,
-        skips,
-        even,
-        odd,
-        &mut partners,
-        a,
-        span,
-        chain,
-        count,
-    )
+    settle_low(plan, room, &mut partners, a, span, chain, count)
 }

@@ -1,16 +1,18 @@
 -- A search from any open code tells whether a sound network is connected. Assumes nothing.
 use mathlib.Core.Path.{◌≡◌, refl, sym, ap, ◌∙◌}
 use mathlib.Core.Logic.{◌⊎◌, inl, inr}
-use mathlib.Core.Bool.{Bool, true, false, not, ◌||◌}
+use mathlib.Core.Bool.{Bool, true, false, not, ◌&&◌, ◌||◌}
 use mathlib.Core.List.{List}
-use Prim.Native.Nat.{ℕ, ◌+◌, ◌*◌, ◌≤◌, ◌<◌}
+use Prim.Native.Nat.{ℕ, zero, suc, ◌+◌, ◌*◌, ◌≤◌, ◌<◌}
 use native.Mathlib.Nat.{lt_of_le_of_lt}
+use native.Mathlib.Numerals.{add-one}
 use native.Mathlib.Omega.{arith}
 use lib.Dec.{T, ltb}
 use lib.ListN.{length, get_or}
 use borrow.Author.Tests.{ltb-true, lt-ltb, not-true, not-false}
-use Rattle.lists.specs.Lists.{range, allb}
-use Rattle.lists.proofs.Tests.{eq_or_ne, look, t→true, true→t, clash, or_true, or_right, same_test}
+use Rattle.std.specs.List.{list_all, range_with_len}
+use Rattle.lists.specs.Lists.{from, range, allb}
+use Rattle.lists.proofs.Tests.{look, t→true, true→t, clash, or_true, or_right, same_test}
 use Rattle.lists.proofs.Members.{all_intro, all_elim, range_in, range_out}
 use Rattle.lists.proofs.Fills.{fill_at}
 use Rattle.graph.specs.Network.{Network, IsSound, Walk}
@@ -26,27 +28,17 @@ use Rattle.layers.proofs.Theorems.{table_search}
 use Rattle.map.specs.Memory.{network_of}
 use Rattle.map.proofs.Theorems.{network_open_below, network_most}
 
--- ---- a loop that leaves at the first failure
+-- ---- a test of all codes
 
-pub all_none : (p : ℕ → Bool) → (v : ℕ) → v < 0 → p v ≡ true
-all_none p v l = absurd (omega arith)
+all_from : (p : ℕ → Bool) (i n : ℕ) → list_all p (range_with_len i n) ≡ allb p (from i n)
+unfolding allb from
+all_from p i zero = refl
+all_from p i (suc n) = ap (λ (b : Bool). p i && b) (ap (λ (k : ℕ). list_all p (range_with_len k n)) (add-one i) ∙ all_from p (suc i) n)
 
-pub all_more : (p : ℕ → Bool) (n : ℕ) → ((v : ℕ) → v < n → p v ≡ true) → p n ≡ true → (v : ℕ) → v < n + 1 → p v ≡ true
-all_more p n h e v l = go (eq_or_ne v n)
-  where
-    go : (v ≡ n) ⊎ (v ≡ n → ⊥) → p v ≡ true
-    go (inl q) = ap p q ∙ e
-    go (inr q) = h v (omega arith)
-
-pub all_end : (p : ℕ → Bool) (n m : ℕ) → ((v : ℕ) → v < m → p v ≡ true) → n ≤ m → true ≡ allb p (range n)
-all_end p n m h l = sym (all_intro p (range n) (λ v k. h v (omega (arith, range_out n k))))
-
-pub all_fault : (p : ℕ → Bool) (n v : ℕ) → v < n → p v ≡ false → false ≡ allb p (range n)
-all_fault p n v l e = go (look (allb p (range n)))
-  where
-    go : (allb p (range n) ≡ true) ⊎ (allb p (range n) ≡ false) → false ≡ allb p (range n)
-    go (inl h) = absurd (clash (all_elim p (range n) h (range_in n l)) e)
-    go (inr h) = sym h
+-- as `all` of a range answers it
+pub all_range : (p : ℕ → Bool) (n : ℕ) → list_all p (range_with_len 0 n) ≡ allb p (range n)
+unfolding range
+all_range p n = all_from p 0 n
 
 -- the two cases of `is_reached`
 pub reached_closed : {r a : Bool} (b : Bool) → r ≡ a → not r ≡ true → true ≡ (not a || b)

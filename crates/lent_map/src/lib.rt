@@ -36,14 +36,7 @@ fn all_reached(members: &[u64], hops: &[u16], words: usize) -> bool
     requires { (words < 513) × (64 * words ≤ length hops.now) × (words ≤ length members.now) }
     ensures { result ≡ allb (λ v. not (row_bit words members.now v) || ltb (get_or hops.now v 0) unreached) (range (64 * words)) }
 {
-    let mut v: usize = 0;
-    while v < 64 * words {
-        if !is_reached(members, hops, words, v) {
-            return false;
-        }
-        v += 1;
-    }
-    true
+    (0..64 * words).all(|v| is_reached(members, hops, words, v))
 }
 
 // Whether the depots are connected: a search from the lowest open code, in the memory lent for it, reaches every one.

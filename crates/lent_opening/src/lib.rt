@@ -3,22 +3,29 @@
 #![tactic(auto)]
 
 ghost use Rattle.std.specs.Prelude.{◌≡◌};
+ghost use Rattle.graph.specs.Opening.{notice_of};
 ghost use Rattle.graph.specs.Updates.{opens};
 ghost use Rattle.map.specs.Memory.{base};
 ghost use Rattle.map.specs.Slices.{lent_in, IsSameRoom};
-ghost use Rattle.update.specs.Steps.{notice_in};
 ghost use Rattle.update.specs.UpdateCall.{left_of, update_left, update_call};
 
 use map::{Record, Room};
-use update::{Notice, Report, Returned};
+use update::{Report, Returned};
 
 // The opening of a depot, or of a yard, on a record that is lent, and is brought up to date (rule 4.1).
-pub fn open(rec: &mut Record, links: &mut [u64], room: &mut Room<'_>, notice: Notice<'_>) -> Report
+pub fn open(
+    rec: &mut Record,
+    links: &mut [u64],
+    room: &mut Room<'_>,
+    yard: bool,
+    code: u8,
+    neighbours: &[u8],
+) -> Report
     ensures same { IsSameRoom room.old room.new }
     ensures left { left_of result rec.new links.new (lent_in room.new)
-        ≡ update_call base rec.old links.old (lent_in room.old) (opens (notice_in notice.entry)) }
+        ≡ update_call base rec.old links.old (lent_in room.old) (opens (notice_of yard code neighbours.now)) }
 {
-    let got = opening::open_step(*rec, links, room, notice);
+    let got = opening::open_step(*rec, links, room, yard, code, neighbours);
     *rec = got.after;
     got.report
 }
@@ -28,13 +35,15 @@ pub fn open_value(
     rec: Record,
     links: &mut [u64],
     room: &mut Room<'_>,
-    notice: Notice<'_>,
+    yard: bool,
+    code: u8,
+    neighbours: &[u8],
 ) -> Returned
     ensures same { IsSameRoom room.old room.new }
     ensures left { update_left result links.new (lent_in room.new)
-        ≡ update_call base rec links.old (lent_in room.old) (opens (notice_in notice.entry)) }
+        ≡ update_call base rec links.old (lent_in room.old) (opens (notice_of yard code neighbours.now)) }
 {
     let mut own = rec;
-    let report = open(&mut own, links, room, notice);
+    let report = open(&mut own, links, room, yard, code, neighbours);
     Returned { report, after: own }
 }

@@ -8,8 +8,15 @@ use Prim.Native.Nat.{ℕ, zero, suc, ◌*◌, ◌≤◌, ◌<◌}
 use lib.Dec.{leb}
 use lib.ListN.{length, get_or}
 use borrow.Author.Tests.{le-leb, lt-leb}
+use Rattle.std.specs.Prelude.{Option, Some, None, Err}
+use Rattle.std.specs.Option.{ok_or}
+use Rattle.std.specs.Result.{is_ok}
+use Rattle.outcome.specs.Numbers.{nobody_open}
+use Rattle.outcome.specs.Refusals.{number_of, refused_by}
+use Rattle.outcome.specs.declared.Refusal.{Refusal}
+use Rattle.outcome.specs.declared.Refusal.TheVariants.{Nobody}
 use Rattle.lists.specs.Lists.{range, filterb, anyb, allb, first_of}
-use Rattle.lists.proofs.Tests.{look, true→t}
+use Rattle.lists.proofs.Tests.{clash, look, true→t}
 use Rattle.lists.proofs.Members.{filter-ext, filter_in, filter_out, range_out, any_none, any_intro, first_kept, first_passed}
 use Rattle.lists.proofs.Fills.{fill_at}
 use Rattle.graph.specs.Network.{Network}
@@ -24,11 +31,9 @@ use Rattle.layers.specs.Layers.{searched, search_leaves, search_table}
 use Rattle.lent_map.specs.Faults.{lent_faults}
 use Rattle.search.specs.SearchCall.{search_refusal, search_sizes}
 use Rattle.search.proofs.Accepts.{granted, search_is}
-use Rattle.nearby.specs.Steps.{CodesListed, codes_listed, list_over}
-use Rattle.nearby.specs.WithinCall.{within_refusal, within_left, within_given, within_call}
-use Rattle.nearby.specs.NearestCall.{nearest_refusal, nearest_left, nearest_given, nearest_call}
-use Rattle.nearby.specs.declared.Listing.TheVariants.{Listed, Refused as RefusedListing}
-use Rattle.nearby.specs.declared.Closest.TheVariants.{At, Refused as RefusedClosest}
+use Rattle.nearby.specs.Steps.{CodesListed, codes_listed, list_over, FirstListed}
+use Rattle.nearby.specs.WithinCall.{within_refusal, Listed, Refused as RefusedListing, within_left, within_given, within_call}
+use Rattle.nearby.specs.NearestCall.{nearest_refusal, At, Refused as RefusedClosest, nearest_left, nearest_given, nearest_call}
 use Rattle.nearby.proofs.Choosing.{nearest_whole}
 
 -- whether a list has an element that passes, from those that do
@@ -47,6 +52,12 @@ pub listed_below : (W : ℕ) (members listed : List ℕ) (first : ℕ) (rest : L
 unfolding network_of
 listed_below W members listed first rest e =
     network_open_below W members [] first (true→t (filter_out (row_bit W members) listed (subst (Memᴰ first) (sym e) (Memᴰ.head refl))).1)
+
+-- a list without a first open code, as the code asks for it
+pub nobody_listed : (open_codes : List ℕ) (first : Option ℕ) {k : Refusal} → Err k ≡ ok_or first Nobody → FirstListed open_codes first
+    → (number_of k ≡ nobody_open) × (open_codes ≡ [])
+nobody_listed open_codes None e f = (ap refused_by e, f)
+nobody_listed open_codes (Some v) e f = absurd (clash refl (ap is_ok (sym e)))
 
 module _ (K : Shape) (rec : Record) (links : List ℕ) (B : Tables) (code : ℕ) where
   abbrev G : Network

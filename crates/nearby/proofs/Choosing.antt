@@ -1,8 +1,8 @@
--- A loop that goes through a list of codes and keeps the nearest. Assumes nothing.
+-- The first of a list that passes, and a loop that goes through a list of codes and keeps the nearest. Assumes nothing.
 use mathlib.Core.Path.{◌≡◌, refl, sym, ap, ◌∙◌, subst}
 use mathlib.Core.Logic.{◌⊎◌, inl, inr}
 use mathlib.Core.Bool.{Bool, true, false, cond, ◌&&◌, ◌||◌}
-use mathlib.Core.List.{List, [], ◌∷◌, Memᴰ}
+use mathlib.Core.List.{List, [], ◌∷◌, Memᴰ, map}
 use Prim.Native.Nat.{ℕ, ◌+◌, ◌≤◌, ◌<◌}
 use native.Mathlib.Omega.{arith}
 use lib.Dec.{eqb, ltb}
@@ -12,6 +12,26 @@ use Rattle.lists.specs.Lists.{filterb}
 use Rattle.lists.proofs.Tests.{look}
 use Rattle.lists.proofs.Scans.{filter-took, filter-passed, filter-done}
 use Rattle.graph.specs.Nearby.{nearer_of, nearest_from, nearest_of}
+use Rattle.std.specs.Prelude.{Option}
+use Rattle.std.specs.List.{find}
+use Rattle.std.specs.Option.{option_map}
+use Rattle.std.proofs.lemmas.List.{map-id}
+use Rattle.std.proofs.lemmas.Iterator.Adapters.{option_map_id}
+use Rattle.nearby.specs.Steps.{FirstListed}
+
+-- ---- the first of a list that passes
+
+found_is : (p : ℕ → Bool) (l : List ℕ) → FirstListed (filterb p l) (find p l)
+unfolding filterb
+found_is p [] = refl
+found_is p (v ∷ vs) = go (look (p v)) (found_is p vs)
+  where
+    go : (p v ≡ true) ⊎ (p v ≡ false) → FirstListed (filterb p vs) (find p vs) → FirstListed (filterb p (v ∷ vs)) (find p (v ∷ vs))
+    go (inl t) h = rw t (filterb p vs, refl)
+    go (inr f) h = rw f h
+
+pub first_found : (p : ℕ → Bool) (l : List ℕ) (r : Option ℕ) → option_map (λ x. x) r ≡ find p (map (λ x. x) l) → FirstListed (filterb p l) r
+first_found p l r e = subst (FirstListed (filterb p l)) (sym (sym (option_map_id r) ∙ e ∙ ap (find p) (map-id l))) (found_is p l)
 
 -- ---- of two codes
 
@@ -52,9 +72,6 @@ module _ (h : ℕ → ℕ) (p : ℕ → Bool) (s : List ℕ) (first : ℕ) where
   pub record IsChoosing (found i : ℕ) : Type 0 where
     pub within : i ≤ length s
     pub same : nearest_from h first (filterb p s) ≡ nearest_from h found (filterb p (drop i s))
-
-  pub choosing_none : IsChoosing first 0
-  choosing_none = record { within = omega arith; same = refl }
 
   module _ {found i : ℕ} (w : IsChoosing found i) where
     -- one code more: it counts where it passes

@@ -1,6 +1,6 @@
 -- the depots written in rising code, one after the other
 pub mod Writing
--- the nearest of a list, one code after the other
+-- the first of a list that passes, and the nearest, one code after the other
 pub mod Choosing
 -- the refusals, and what accepted calls leave
 pub mod Accepts

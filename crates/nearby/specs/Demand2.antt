@@ -10,10 +10,8 @@ use Rattle.map.specs.declared.Record.{Record}
 use Rattle.search.specs.SearchCall.{search_left}
 use Rattle.search.specs.Demand2.{KeepsPast, IsSearch}
 use Rattle.search.specs.SearchCall.{Reached}
-use Rattle.nearby.specs.WithinCall.{within_refusal, WithinLeft, within_call}
-use Rattle.nearby.specs.NearestCall.{nearest_refusal, NearestLeft, nearest_call}
-use Rattle.nearby.specs.declared.Listing.TheVariants.{Listed}
-use Rattle.nearby.specs.declared.Closest.TheVariants.{At}
+use Rattle.nearby.specs.WithinCall.{within_refusal, Listed, WithinLeft, within_call}
+use Rattle.nearby.specs.NearestCall.{nearest_refusal, At, NearestLeft, nearest_call}
 
 -- hop table and layer rows are as a search from s leaves them
 pub record HoldsSearch (K : Shape) (G : Network) (s : ℕ) (B left : Tables) : Type 0 where

@@ -1,9 +1,11 @@
 -- THE CALL THAT FINDS THE NEAREST DEPOT OF A LIST (rule 13.2) on lent memory, whole: its answer and every place that it leaves. The code's contract is one
 -- equation with `nearest_call`.
 -- Assumes nothing.
-use Rattle.std.specs.Prelude.{false, not, List, [], ◌∷◌, ◌++◌, ℕ, zero, suc, length}
+use Rattle.std.specs.Prelude.{false, not, List, [], ◌∷◌, ◌++◌, ℕ, zero, suc, length, Result, Ok, Err}
 use Rattle.lists.specs.Lists.{anyb, first_of}
 use Rattle.outcome.specs.Numbers.{absent_code, nobody_open}
+use Rattle.outcome.specs.Refusals.{number_of}
+use Rattle.outcome.specs.declared.Refusal.{Refusal}
 use Rattle.graph.specs.Distance.{dist}
 use Rattle.graph.specs.Nearby.{nearest_listed}
 use Rattle.map.specs.Memory.{Shape, map_network}
@@ -12,8 +14,7 @@ use Rattle.map.specs.declared.Record.{Record}
 use Rattle.layers.specs.Layers.{search_leaves}
 use Rattle.lent_map.specs.Faults.{lent_faults}
 use Rattle.search.specs.SearchCall.{search_sizes}
-use Rattle.nearby.specs.declared.Closest.{Closest}
-use Rattle.nearby.specs.declared.Closest.TheVariants.{At, Refused}
+use Rattle.nearby.specs.declared.NearestDepot.{NearestDepot}
 
 -- the first refusal that holds: short, spoilt (links alone), apart, absent, nobody (no listed code is open); 0: none. The list has no size.
 unfoldable pub nearest_refusal : Shape → Record → List ℕ → Tables → ℕ → List ℕ → ℕ
@@ -25,6 +26,16 @@ nearest_refusal K rec links B code listed =
     ++ (not (G.is_open code), absent_code)
     ∷ (not (anyb G.is_open listed), nobody_open)
     ∷ [])
+
+-- the answer: the code with its distance, or the refusal's number
+pub data Closest : Type 0 where
+  At : ℕ → ℕ → Closest
+  Refused : ℕ → Closest
+
+-- for each case of the code's answer, the values or the number
+abbrev pub closest_of : Result NearestDepot Refusal → Closest
+closest_of (Ok n) = At n.code n.distance
+closest_of (Err k) = Refused (number_of k)
 
 -- what the call leaves: its answer (the depot with its distance, or the refusal's number), hop table and layer rows
 pub record NearestLeft : Type 0 where

@@ -12,10 +12,8 @@ use Rattle.map.specs.Room.{Tables}
 use Rattle.map.specs.declared.Record.{Record}
 use Rattle.lent_map.specs.Faults.{lent_conditions}
 use Rattle.search.specs.Refusals.{search_buffers, search_conditions}
-use Rattle.nearby.specs.WithinCall.{WithinLeft, within_left, listing_number}
-use Rattle.nearby.specs.NearestCall.{NearestLeft, nearest_left, closest_number}
-use Rattle.nearby.specs.declared.Listing.TheVariants.{Refused as RefusedListing}
-use Rattle.nearby.specs.declared.Closest.TheVariants.{Refused as RefusedClosest}
+use Rattle.nearby.specs.WithinCall.{Refused as RefusedListing, WithinLeft, within_left, listing_number}
+use Rattle.nearby.specs.NearestCall.{Refused as RefusedClosest, NearestLeft, nearest_left, closest_number}
 
 -- ---- the depots within k handovers
 

@@ -1,8 +1,6 @@
 -- THE INNER STEPS of the two calls: codes written over lent places, and the first open code of a list. Assumes nothing.
-use Rattle.std.specs.Prelude.{◌≡◌, List, [], ◌∷◌, Bool, cond, ℕ, ◌+◌, length, set}
+use Rattle.std.specs.Prelude.{◌≡◌, List, [], ◌∷◌, Bool, cond, ℕ, ◌+◌, length, set, Option, Some, None}
 use Rattle.lists.specs.Lists.{overwrite}
-use Rattle.rows.specs.declared.Next.{Next}
-use Rattle.rows.specs.declared.Next.TheVariants.{At, Nothing}
 
 -- how many codes are listed, and the places that hold them
 pub record CodesListed : Type 0 where
@@ -20,7 +18,7 @@ list_more near v n l = cond near (codes_listed (n + 1) (set l n v)) (codes_liste
 unfoldable pub list_over : List ℕ → List ℕ → CodesListed
 list_over new old = record { count = length new; codes = overwrite new old }
 
--- The answer is the first of a list of codes, and Nothing where it is empty.
-abbrev pub FirstListed : List ℕ → Next → Type 0
-FirstListed l (At v) = (rest : List ℕ) × (l ≡ v ∷ rest)
-FirstListed l Nothing = l ≡ []
+-- The answer is the first of a list of codes, and None where it is empty.
+abbrev pub FirstListed : List ℕ → Option ℕ → Type 0
+FirstListed l (Some v) = (rest : List ℕ) × (l ≡ v ∷ rest)
+FirstListed l None = l ≡ []

@@ -1,9 +1,11 @@
 -- THE CALL THAT LISTS THE DEPOTS WITHIN k HANDOVERS (rule 13.1) on lent memory, whole: its answer and every place that it leaves. The code's contract is
 -- one equation with `within_call`.
 -- Assumes nothing.
-use Rattle.std.specs.Prelude.{false, not, ◌&&◌, List, [], ◌∷◌, ◌++◌, ℕ, zero, suc, leb, length}
+use Rattle.std.specs.Prelude.{false, not, ◌&&◌, List, [], ◌∷◌, ◌++◌, ℕ, zero, suc, leb, length, Result, Ok, Err}
 use Rattle.lists.specs.Lists.{overwrite, first_of}
 use Rattle.outcome.specs.Numbers.{absent_code}
+use Rattle.outcome.specs.Refusals.{number_of}
+use Rattle.outcome.specs.declared.Refusal.{Refusal}
 use Rattle.graph.specs.Nearby.{within_list}
 use Rattle.map.specs.Memory.{Shape, places, map_network}
 use Rattle.map.specs.Room.{Tables, long_enough}
@@ -11,8 +13,6 @@ use Rattle.map.specs.declared.Record.{Record}
 use Rattle.layers.specs.Layers.{search_leaves}
 use Rattle.lent_map.specs.Faults.{lent_faults}
 use Rattle.search.specs.SearchCall.{search_sizes}
-use Rattle.nearby.specs.declared.Listing.{Listing}
-use Rattle.nearby.specs.declared.Listing.TheVariants.{Listed, Refused}
 
 -- the first refusal that holds: short (the tables of a search, or the places for the codes), spoilt (links alone), apart, absent; 0: none
 unfoldable pub within_refusal : Shape → Record → List ℕ → Tables → List ℕ → ℕ → ℕ
@@ -22,6 +22,16 @@ within_refusal K rec links B codes code =
     (lent_faults K (long_enough K sizes && leb (places K) (length codes)) false rec links []
     ++ (not ((map_network K rec links).is_open code), absent_code)
     ∷ [])
+
+-- the answer: how many codes are listed, or the refusal's number
+pub data Listing : Type 0 where
+  Listed : ℕ → Listing
+  Refused : ℕ → Listing
+
+-- for each case of the code's answer, the number
+abbrev pub listing_of : Result ℕ Refusal → Listing
+listing_of (Ok n) = Listed n
+listing_of (Err k) = Refused (number_of k)
 
 -- what the call leaves: its answer (how many codes are listed, or the refusal's number), hop table and layer rows, and the places for the codes
 pub record WithinLeft : Type 0 where

@@ -7,23 +7,16 @@ ghost use Rattle.lists.specs.Lists.{filterb};
 ghost use Rattle.graph.specs.Distance.{vertices};
 ghost use Rattle.graph.specs.Nearby.{nearer_of, nearest_from};
 ghost use Rattle.rows.specs.Rows.{row_bit};
-ghost use Rattle.map.specs.Slices.{tables_before, tables_after};
+ghost use Rattle.map.specs.Slices.{tables_in, IsSameScratch};
 ghost use Rattle.map.specs.Memory.{base, places, network_of};
 ghost use Rattle.nearby.specs.Steps.{codes_listed, list_more, list_over, FirstListed};
-ghost use Rattle.nearby.specs.WithinCall.{within_left, within_call};
-ghost use Rattle.nearby.specs.NearestCall.{nearest_left, nearest_call};
+ghost use Rattle.nearby.specs.WithinCall.{listing_of, within_left, within_call};
+ghost use Rattle.nearby.specs.NearestCall.{closest_of, nearest_left, nearest_call};
 
-use map::Record;
-use rows::Next;
+use map::{Record, Scratch};
+use outcome::Refusal;
 
 // ---- within so many handovers
-
-// The answer of a listing: how many codes are listed, or the refusal's number.
-#[derive(Clone, Copy)]
-pub enum Listing {
-    Listed(u16),
-    Refused(u8),
-}
 
 // Puts the code v behind the `count` that are listed where its hop is at most k, and answers how many are listed then.
 fn put_near(codes: &mut [u8], count: usize, v: usize, hop: u16, k: u32) -> usize
@@ -38,21 +31,18 @@ fn put_near(codes: &mut [u8], count: usize, v: usize, hop: u16, k: u32) -> usize
 }
 
 // Writes the open codes whose hop is at most k over the first places of `codes`, rising, and answers how many.
-fn list_within(members: &[u64], hops: &[u16], codes: &mut [u8], k: u32) -> u16
-    requires { (base.words ≤ length members.now) × (places base ≤ length hops.now) × (places base ≤ length codes.old) }
+fn list_within(members: &[u64], scratch: &Scratch<'_>, codes: &mut [u8], k: u32) -> u16
+    requires { (base.words ≤ length members.now) × (places base ≤ length scratch.now.hops.now) × (places base ≤ length codes.old) }
     ensures { let depots = vertices (network_of base.words members.now []) in
-        codes_listed result codes.new ≡ list_over (filterb (λ v. leb (get_or hops.now v 0) k) depots) codes.old }
+        codes_listed result codes.new ≡ list_over (filterb (λ v. leb (get_or scratch.now.hops.now v 0) k) depots) codes.old }
 {
     let mut count: usize = 0;
     let mut from: usize = 0;
-    loop {
-        let next = map::next_open(members, map::WORDS, from);
-        let Next::At(v) = next else {
-            return count as u16;
-        };
-        count = put_near(codes, count, v, hops[v], k);
+    while let Some(v) = map::next_open(members, map::WORDS, from) {
+        count = put_near(codes, count, v, scratch.hops[v], k);
         from = v + 1;
     }
+    count as u16
 }
 
 // The depots at most k handovers from a code, rising, in the first of the lent places, with their number; or the first refusal that holds, and then
@@ -60,53 +50,42 @@ fn list_within(members: &[u64], hops: &[u16], codes: &mut [u8], k: u32) -> u16
 pub fn within(
     rec: Record,
     links: &[u64],
-    hops: &mut [u16],
-    even: &mut [u64],
-    odd: &mut [u64],
+    scratch: &mut Scratch<'_>,
     codes: &mut [u8],
     code: u8,
     k: u32,
-) -> Listing
-    ensures { let before = tables_before hops even odd in
-        let after = tables_after hops even odd in
-        within_left result after codes.new ≡ within_call base rec links.now before codes.old code k }
+) -> Result<u16, Refusal>
+    ensures same { IsSameScratch scratch.old scratch.new }
+    ensures left { let call = within_call base rec links.now (tables_in scratch.old) codes.old code k in
+        within_left (listing_of result) (tables_in scratch.new) codes.new ≡ call }
 {
     if codes.len() < map::PLACES {
-        return Listing::Refused(outcome::SHORT);
+        return Err(Refusal::Short);
     }
-    let refusal = search::search_refusal(rec, links, hops.len(), even.len(), odd.len(), code);
-    if refusal != 0 {
-        return Listing::Refused(refusal);
-    }
-    search::search_sound(links, hops, even, odd, code as usize);
+    search::search_refusal(rec, links, &*scratch, code)?;
+    search::search_sound(links, scratch, code as usize);
     let members = rec.members;
-    let count = list_within(&members, &*hops, codes, k);
-    Listing::Listed(count)
+    Ok(list_within(&members, &*scratch, codes, k))
 }
 
 // ---- the nearest of a list
 
-// The answer of a choice: the code with its distance, or the refusal's number.
+// What a choice found: the code with its distance.
 #[derive(Clone, Copy)]
-pub enum Closest {
-    At(u8, u16),
-    Refused(u8),
+pub struct NearestDepot {
+    pub code: u8,
+    pub distance: u16,
 }
 
 // The first code of a list that is open.
-fn first_listed(members: &[u64], listed: &[u8]) -> Next
+fn first_listed(members: &[u64], listed: &[u8]) -> Option<usize>
     requires { base.words ≤ length members.now }
     ensures { FirstListed (filterb (row_bit base.words members.now) listed.now) result }
 {
-    let mut i = 0;
-    while i < listed.len() {
-        let v = listed[i] as usize;
-        if map::is_open(members, map::WORDS, v) {
-            return Next::At(v);
-        }
-        i += 1;
-    }
-    Next::Nothing
+    listed
+        .iter()
+        .map(|v| *v as usize)
+        .find(|v| map::is_open(members, map::WORDS, *v))
 }
 
 // Of two codes the one with the smaller hop, the lower one on a tie.
@@ -135,16 +114,14 @@ fn nearer_open(members: &[u64], hops: &[u16], found: usize, v: usize) -> usize
 }
 
 // The nearest of `first` and the open codes of a list.
-fn nearest_listed(members: &[u64], hops: &[u16], listed: &[u8], first: usize) -> usize
-    requires { (base.words ≤ length members.now) × (places base ≤ length hops.now) × (first < places base) }
+fn nearest_listed(members: &[u64], scratch: &Scratch<'_>, listed: &[u8], first: usize) -> usize
+    requires { (base.words ≤ length members.now) × (places base ≤ length scratch.now.hops.now) × (first < places base) }
     ensures { let depots = filterb (row_bit base.words members.now) listed.now in
-        (result ≡ nearest_from (λ u. get_or hops.now u 0) first depots) × (result < places base) }
+        (result ≡ nearest_from (λ u. get_or scratch.now.hops.now u 0) first depots) × (result < places base) }
 {
     let mut found = first;
-    let mut i = 0;
-    while i < listed.len() {
-        found = nearer_open(members, hops, found, listed[i] as usize);
-        i += 1;
+    for v in listed {
+        found = nearer_open(members, &*scratch.hops, found, *v as usize);
     }
     found
 }
@@ -154,27 +131,22 @@ fn nearest_listed(members: &[u64], hops: &[u16], listed: &[u8], first: usize) ->
 pub fn nearest(
     rec: Record,
     links: &[u64],
-    hops: &mut [u16],
-    even: &mut [u64],
-    odd: &mut [u64],
+    scratch: &mut Scratch<'_>,
     code: u8,
     listed: &[u8],
-) -> Closest
-    ensures { let before = tables_before hops even odd in
-        let after = tables_after hops even odd in
-        nearest_left result after ≡ nearest_call base rec links.now before code listed.now }
+) -> Result<NearestDepot, Refusal>
+    ensures same { IsSameScratch scratch.old scratch.new }
+    ensures left { let call = nearest_call base rec links.now (tables_in scratch.old) code listed.now in
+        nearest_left (closest_of result) (tables_in scratch.new) ≡ call }
 {
-    let refusal = search::search_refusal(rec, links, hops.len(), even.len(), odd.len(), code);
-    if refusal != 0 {
-        return Closest::Refused(refusal);
-    }
+    search::search_refusal(rec, links, &*scratch, code)?;
     let members = rec.members;
-    let some = first_listed(&members, listed);
-    let Next::At(first) = some else {
-        return Closest::Refused(outcome::NOBODY);
-    };
-    search::search_sound(links, hops, even, odd, code as usize);
-    let found = nearest_listed(&members, &*hops, listed, first);
-    let distance = hops[found];
-    Closest::At(found as u8, distance)
+    let first = first_listed(&members, listed).ok_or(Refusal::Nobody)?;
+    search::search_sound(links, scratch, code as usize);
+    let found = nearest_listed(&members, &*scratch, listed, first);
+    let distance = scratch.hops[found];
+    Ok(NearestDepot {
+        code: found as u8,
+        distance,
+    })
 }

@@ -5,16 +5,17 @@
 ghost use Rattle.std.specs.Prelude.{◌≡◌, ◌&&◌, ◌||◌, ◌≤◌, eqb, length};
 ghost use Rattle.lists.specs.Lists.{overwrite};
 ghost use Rattle.rows.specs.Rows.{row_bit, encode_row};
+ghost use Rattle.graph.specs.Opening.{notice_of};
 ghost use Rattle.graph.specs.Updates.{opens};
 ghost use Rattle.map.specs.Memory.{base};
 ghost use Rattle.map.specs.Slices.{lent_in, room_sizes, IsSameRoom};
 ghost use Rattle.update.specs.UpdateCall.{update_refusal, update_left, update_given, update_call};
-ghost use Rattle.update.specs.Steps.{map_refusal, notice_in};
+ghost use Rattle.update.specs.Steps.{map_refusal};
 
 use map::{Record, Room};
 use outcome::Outcome;
 use rounds::Plan;
-use update::{Notice, Report, Returned};
+use update::{Report, Returned};
 
 // ---- the opening
 
@@ -39,18 +40,25 @@ fn put_yard(yards: &mut [u64], yard: bool, code: u8)
 }
 
 // The opening of a notice that nothing refuses: its links in place, then the figures.
-fn open_map(rec: Record, links: &mut [u64], room: &mut Room<'_>, notice: Notice<'_>) -> Returned
+fn open_map(
+    rec: Record,
+    links: &mut [u64],
+    room: &mut Room<'_>,
+    yard: bool,
+    code: u8,
+    neighbours: &[u8],
+) -> Returned
     requires { let long = room_sizes (length links.old) room.old in
-        update_refusal base rec links.old room.old.pairs.now long (opens (notice_in notice)) ≡ 0 }
+        update_refusal base rec links.old room.old.pairs.now long (opens (notice_of yard code neighbours.now)) ≡ 0 }
     ensures same { IsSameRoom room.old room.new }
     ensures left { update_left result links.new (lent_in room.new)
-        ≡ update_given 0 base rec links.old (lent_in room.old) (opens (notice_in notice.entry)) }
+        ≡ update_given 0 base rec links.old (lent_in room.old) (opens (notice_of yard code neighbours.now)) }
 {
-    admission::link_depot(links, map::WORDS, notice.code, notice.neighbours);
+    admission::link_depot(links, map::WORDS, code, neighbours);
     let mut members = rec.members;
-    put_code(&mut members, notice.code);
+    put_code(&mut members, code);
     let mut yards = rec.yards;
-    put_yard(&mut yards, notice.yard, notice.code);
+    put_yard(&mut yards, yard, code);
     let mut targets = members;
     map::keep_delivering(&mut targets, &yards, map::WORDS);
     let plan = Plan {
@@ -58,7 +66,7 @@ fn open_map(rec: Record, links: &mut [u64], room: &mut Room<'_>, notice: Notice<
         targets: &targets,
         links: &*links,
     };
-    let got = insertion::refigure(plan, room, notice.code as usize, rec.chain, rec.count);
+    let got = insertion::refigure(plan, room, code as usize, rec.chain, rec.count);
     let mut after = rec;
     after.members = members;
     after.number = rec.number + 1;
@@ -77,24 +85,21 @@ pub fn open_sound(
     rec: Record,
     links: &mut [u64],
     room: &mut Room<'_>,
-    notice: Notice<'_>,
+    yard: bool,
+    code: u8,
+    neighbours: &[u8],
 ) -> Returned
     requires { let long = room_sizes (length links.old) room.old in
         map_refusal base rec links.old room.old.pairs.now long ≡ 0 }
     ensures same { IsSameRoom room.old room.new }
     ensures left { update_left result links.new (lent_in room.new)
-        ≡ update_call base rec links.old (lent_in room.old) (opens (notice_in notice.entry)) }
+        ≡ update_call base rec links.old (lent_in room.old) (opens (notice_of yard code neighbours.now)) }
 {
     let members = rec.members;
-    if let Err(refusal) = admission::notice_refusal(
-        &members,
-        map::WORDS,
-        notice.code,
-        notice.neighbours,
-    ) {
-        return update::refused(rec, refusal.number());
+    match admission::notice_refusal(&members, map::WORDS, code, neighbours) {
+        Ok(()) => open_map(rec, links, room, yard, code, neighbours),
+        Err(refusal) => update::refused(rec, refusal.number()),
     }
-    open_map(rec, links, room, notice)
 }
 
 // The opening of a depot, or of a yard, record in and out by value: grew, kept or shrank with the number of searches; or the first refusal that holds, and then
@@ -103,14 +108,16 @@ pub fn open_step(
     rec: Record,
     links: &mut [u64],
     room: &mut Room<'_>,
-    notice: Notice<'_>,
+    yard: bool,
+    code: u8,
+    neighbours: &[u8],
 ) -> Returned
     ensures same { IsSameRoom room.old room.new }
     ensures left { update_left result links.new (lent_in room.new)
-        ≡ update_call base rec links.old (lent_in room.old) (opens (notice_in notice.entry)) }
+        ≡ update_call base rec links.old (lent_in room.old) (opens (notice_of yard code neighbours.now)) }
 {
-    if let Err(refusal) = update::map_refusal(rec, &*links, &*room) {
-        return update::refused(rec, refusal.number());
+    match update::map_refusal(rec, &*links, &*room) {
+        Ok(()) => open_sound(rec, links, room, yard, code, neighbours),
+        Err(refusal) => update::refused(rec, refusal.number()),
     }
-    open_sound(rec, links, room, notice)
 }

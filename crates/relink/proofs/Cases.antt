@@ -1,11 +1,11 @@
 -- The two ways in which a link ends, each by the test that the code makes. Assumes nothing.
-use mathlib.Core.Path.{◌≡◌, sym, ap, ap₂, ◌∙◌}
+use mathlib.Core.Path.{◌≡◌, refl, sym, ap, ap₂, ◌∙◌}
 use mathlib.Core.Logic.{◌⊎◌, ◌≢◌, inl, inr}
 use mathlib.Core.Bool.{Bool, true, false, not, ◌||◌}
 use mathlib.Core.List.{List}
 use Prim.Native.Nat.{ℕ, ◌<◌}
 use lib.Dec.{T, eqb}
-use lib.ListN.{length}
+use lib.ListN.{length, get_or}
 use borrow.Author.Tests.{eq-eqb, ne_eqb}
 use Rattle.lists.specs.Lists.{overwrite}
 use Rattle.lists.proofs.Tests.{eq_or_ne}
@@ -40,38 +40,38 @@ use Rattle.relink.proofs.Taking.{relinked_over}
 
 -- ---- the searches
 
--- over N₀ the one from lo leaves N₁ and says R of it, over Y₀ the one from hi leaves Y₁ and says Q
+-- over N₀ the one from lo leaves N₁ and says R of it, over Y₀ the one from hi leaves Y₁ and says Q; near and Y are then what these leave
 module _ (K : Shape) (shape : IsShape K) (members targets links : List ℕ) (are : AreTargets K.words members targets) (lo d hi f : ℕ) (N₀ N₁ Y₀ Y₁ : Tables)
-    (net : IsNet (target_network K.words members targets links)) where
+    (near : List ℕ) (Y : Tables) (net : IsNet (target_network K.words members targets links)) where
   abbrev H : Network
   H = target_network K.words members targets links
 
   -- both stand in their tables
   pub both_stand : T ((target_network K.words members targets links).is_open lo) → T ((target_network K.words members targets links).is_open hi) → (lo ≡ hi → ⊥)
       → searched d N₁ ≡ search_table K.words links lo N₀ → searched f Y₁ ≡ search_table K.words links hi Y₀
-      → (a b : List ℕ) {R Q : Reached} → R ≡ reach_in K.words targets lo d N₁ a → Q ≡ reach_in K.words targets hi f Y₁ b
-      → StandBoth K (target_network K.words members targets links) N₁.hops Y₁ lo R hi Q
-  both_stand open-lo open-hi apart q r a b x y =
-      let lower = search_stands K shape members targets links are lo d N₀ N₁ net open-lo q a x in
+      → (a b : List ℕ) {R Q : Reached} → R ≡ reach_in K.words targets lo d N₁ a → Q ≡ reach_in K.words targets hi f Y₁ b → near ≡ N₁.hops → Y ≡ Y₁
+      → StandBoth K (target_network K.words members targets links) near Y lo R hi Q
+  both_stand open-lo open-hi apart q r a b x y n e =
+      let lower = search_stands K shape members targets links are lo d N₀ N₁ N₁ net open-lo q a x refl in
       record {
         present = open-lo;
         spans = lower.spans;
-        hops = hop_stands K H N₁ lo lower.stands;
-        higher = search_stands K shape members targets links are hi f Y₀ Y₁ net open-hi r b y;
+        hops = λ v l. ap (λ (t : List ℕ). get_or t v 0) n ∙ hop_stands K H N₁ lo lower.stands v l;
+        higher = search_stands K shape members targets links are hi f Y₀ Y₁ Y net open-hi r b y e;
         apart = apart;
       }
 
 -- what is answered by the tables that hold the search from hi is answered by the tables before
-module _ (K : Shape) (shape : IsShape K) (members targets links : List ℕ) (are : AreTargets K.words members targets) (lo hi f : ℕ) (Y₀ Y₁ : Tables)
+module _ (K : Shape) (shape : IsShape K) (members targets links : List ℕ) (are : AreTargets K.words members targets) (lo hi f : ℕ) (Y₀ Y₁ Y : Tables)
     (net : IsNet (target_network K.words members targets links)) where
   pub relinked_first : (p b s : List ℕ) (D : ℕ) (X : Figured) → T ((target_network K.words members targets links).is_open hi)
       → searched f Y₁ ≡ search_table K.words links hi Y₀
-      → X ≡ relinked_by K (target_network K.words members targets links) lo hi D (lent p Y₁ b s)
+      → X ≡ relinked_by K (target_network K.words members targets links) lo hi D (lent p Y b s) → Y ≡ Y₁
       → X ≡ relinked_by K (target_network K.words members targets links) lo hi D (lent p Y₀ b s)
-  relinked_first p b s D X o q h =
+  relinked_first p b s D X o q h e =
       h
-      ∙ ap (λ (Y : Tables). relinked_by K (target_network K.words members targets links) lo hi D (lent p Y b s))
-      (table_is K.words members targets links net are hi o Y₀ shape.most q).1
+      ∙ ap (λ (Z : Tables). relinked_by K (target_network K.words members targets links) lo hi D (lent p Z b s))
+      (e ∙ (table_is K.words members targets links net are hi o Y₀ shape.most q).1)
       ∙ relinked_over K (target_network K.words members targets links) lo hi Y₀ p b s D
 
 -- ---- the cases

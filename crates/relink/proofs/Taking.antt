@@ -129,17 +129,17 @@ module _ (K : Shape) (shape : IsShape K) (members targets links : List ℕ) (are
     taken_in = ap₂ (λ (A : Absorbed) (Y : Tables). workspace A.paired Y A.marked A.candidate 2) (sym takes) (sym I.higher.stands)
 
     -- WHAT THE CALLS LEAVE: the network's rounds after the ones from both ends
-    pub shrink_is : (k : ℕ) → k ≡ 2 → (Y : Tables) (t' : Tally) (m' : Marks) (c' n : ℕ)
-        → workspace t' Y m' c' n ≡ run_of K.words targets links K.searched_mark (places K) (workspace t B.searched m c k)
+    pub shrink_is : (k : ℕ) → k ≡ 2 → (m₀ : Marks) (Y : Tables) (t' : Tally) (m' : Marks) (c' n : ℕ)
+        → workspace t' Y m' c' n ≡ run_of K.words targets links K.searched_mark (places K) (workspace t B.searched m₀ c k) → m₀ ≡ m
         → ran (lent t'.pairs Y m'.bounds m'.skips) c' t'.count n
         ≡ ran_by K (target_network K.words members targets links)
         (rounds (chart (target_network K.words members targets links)) (length (chart (target_network K.words members targets links)).depots)
         (first_two (chart (target_network K.words members targets links)) lo hi way)) B
     unfolding first_two
-    shrink_is k two Y t' m' c' n q =
+    shrink_is k two m₀ Y t' m' c' n q e =
         run_is K shape members targets links are I.higher.net S₂ running_second O (workspace t B.searched m c 2) (workspace t' Y m' c' n)
         (subst (Holds K.words K.searched_mark K.other_mark G O S₂) taken_in second_holds)
-        (q ∙ ap (λ (x : ℕ). run_of K.words targets links K.searched_mark (places K) (workspace t B.searched m c x)) two)
+        (q ∙ ap₂ (λ (x : ℕ) (z : Marks). run_of K.words targets links K.searched_mark (places K) (workspace t B.searched z c x)) two e)
 
 -- ---- over tables that held the search from hi
 

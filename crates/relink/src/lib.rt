@@ -9,23 +9,24 @@ ghost use Rattle.graph.specs.Linking.{first_two};
 ghost use Rattle.map.specs.Room.{AreLong};
 ghost use Rattle.map.specs.Memory.{base, places, table_words};
 ghost use Rattle.targets.specs.Reach.{reached};
-ghost use Rattle.map.specs.Slices.{tables_at, lent_at, lent_before, lent_after, sizes_at};
+ghost use Rattle.map.specs.Slices.{lent_in, room_sizes, IsSameRoom};
 ghost use Rattle.pairs.specs.Pairs.{tally, Counted};
 ghost use Rattle.ranks.specs.Ranks.{AreRanks};
-ghost use Rattle.bounds.specs.Bounds.{Fits};
 ghost use Rattle.bounds.specs.Once.{marking, mark_twice};
-ghost use Rattle.bounds.specs.Slices.{marks_before, marks_after};
+ghost use Rattle.bounds.specs.Slices.{marks_in, MarksFit, IsSameMarks};
 ghost use Rattle.rounds.specs.Leaves.{ran, ran_by};
-ghost use Rattle.rounds.specs.Targets.{target_network, AreTargets};
+ghost use Rattle.rounds.specs.Targets.{plan_network, AreTargets};
 ghost use Rattle.rounds.specs.Workspace.{absorbed, rounds_begun};
 ghost use Rattle.insertion.specs.Figured.{figured};
 ghost use Rattle.insertion.specs.Steps.{AreOpen};
 ghost use Rattle.relink.specs.Relinked.{relinked_by, IsRelinkable};
 ghost use Rattle.relink.specs.Steps.{low_taken, both_taken, StandBoth};
 
+use bounds::Marks;
 use insertion::Figures;
+use map::{Room, Scratch};
 use outcome::Change;
-use rounds::RoundFigures;
+use rounds::{Desk, Plan, RoundFigures};
 use targets::Span;
 
 // ---- the chain is kept
@@ -71,49 +72,43 @@ fn mark_both(bounds: &mut [u16], skips: &mut [u16], low: usize, e: u16, high: us
 // The start of rounds with the candidate way, and the search from low, whose hops stand in near and whose partners in nears, taken in. Nobody is skipped
 // yet.
 fn take_low(
-    members: &[u64],
-    links: &[u64],
+    plan: Plan<'_>,
     pairs: &mut [u64],
-    bounds: &mut [u16],
-    skips: &mut [u16],
+    marks: &mut Marks<'_>,
     near: &[u16],
     nears: &[u64],
-    ranks: &mut [u16],
     low: usize,
     e: Span,
     way: u16,
 ) -> RoundFigures
-    requires { Fits base.words bounds.old skips.old ranks.old
-        × (base.words ≤ length members.now)
-        × (table_words base ≤ length links.now)
+    requires { MarksFit base.words marks.old
+        × (base.words ≤ length plan.members.now)
+        × (table_words base ≤ length plan.links.now)
         × (table_words base ≤ length pairs.old)
         × (places base ≤ length near.now)
         × (base.words ≤ length nears.now)
         × (low < places base) }
-    ensures { let R = reached e.ecc e.own nears.now in
-        let before = rounds_begun pairs.old (marks_before base.words bounds skips ranks) in
-        let after = absorbed (tally pairs.new result.count) (marks_after base.words bounds skips ranks) result.candidate in
-        (after ≡ low_taken base members.now near.now low R way before)
-        × Counted base.words pairs.new result.count
-        × AreRanks base.words links.now ranks.new }
+    ensures same { IsSameMarks marks.old marks.new }
+    ensures taken { let R = reached e.ecc e.own nears.now in
+        let before = rounds_begun pairs.old (marks_in base.words marks.old) in
+        let after = absorbed (tally pairs.new result.count) (marks_in base.words marks.new) result.candidate in
+        after ≡ low_taken base plan.entry.members.now near.now low R way before }
+    ensures counted { Counted base.words pairs.new result.count }
+    ensures ranked { AreRanks base.words plan.entry.links.now marks.new.ranks.now }
 {
     rounds::begin(
-        members,
-        links,
+        plan.members,
+        plan.links,
         pairs,
-        bounds,
-        skips,
-        ranks,
+        marks,
         map::WORDS,
         map::OTHER,
     );
     rounds::absorb(
         pairs,
         near,
-        bounds,
-        skips,
+        marks,
         nears,
-        ranks,
         map::WORDS,
         map::SEARCHED,
         low,
@@ -126,25 +121,22 @@ fn take_low(
 
 // Then the search from high, which stands in the lent tables; after it depots are skipped.
 fn take_both(
-    members: &[u64],
-    links: &[u64],
+    plan: Plan<'_>,
     pairs: &mut [u64],
+    marks: &mut Marks<'_>,
     hops: &[u16],
-    bounds: &mut [u16],
-    skips: &mut [u16],
+    fars: &[u64],
     near: &[u16],
     nears: &[u64],
-    fars: &[u64],
-    ranks: &mut [u16],
     low: usize,
     e: Span,
     high: usize,
     f: Span,
     way: u16,
 ) -> RoundFigures
-    requires { Fits base.words bounds.old skips.old ranks.old
-        × (base.words ≤ length members.now)
-        × (table_words base ≤ length links.now)
+    requires { MarksFit base.words marks.old
+        × (base.words ≤ length plan.members.now)
+        × (table_words base ≤ length plan.links.now)
         × (table_words base ≤ length pairs.old)
         × (places base ≤ length near.now)
         × (places base ≤ length hops.now)
@@ -152,27 +144,24 @@ fn take_both(
         × (base.words ≤ length fars.now)
         × (low < places base)
         × (high < places base) }
-    ensures { let N = near.now in
+    ensures same { IsSameMarks marks.old marks.new }
+    ensures taken { let N = near.now in
         let H = hops.now in
         let R = reached e.ecc e.own nears.now in
         let Q = reached f.ecc f.own fars.now in
-        let before = rounds_begun pairs.old (marks_before base.words bounds skips ranks) in
-        let after = absorbed (tally pairs.new result.count) (marks_after base.words bounds skips ranks) result.candidate in
-        (after ≡ both_taken base members.now N H low R high Q way before)
-        × Counted base.words pairs.new result.count
-        × AreRanks base.words links.now ranks.new
-        × (result.searches ≡ 2) }
+        let before = rounds_begun pairs.old (marks_in base.words marks.old) in
+        let after = absorbed (tally pairs.new result.count) (marks_in base.words marks.new) result.candidate in
+        after ≡ both_taken base plan.entry.members.now N H low R high Q way before }
+    ensures counted { Counted base.words pairs.new result.count }
+    ensures ranked { AreRanks base.words plan.entry.links.now marks.new.ranks.now }
+    ensures searches { result.searches ≡ 2 }
 {
-    let first = take_low(
-        members, links, pairs, bounds, skips, near, nears, ranks, low, e, way,
-    );
+    let first = take_low(plan, pairs, marks, near, nears, low, e, way);
     let second = rounds::absorb(
         pairs,
         hops,
-        bounds,
-        skips,
+        marks,
         fars,
-        ranks,
         map::WORDS,
         map::SEARCHED,
         high,
@@ -190,15 +179,8 @@ fn take_both(
 
 // Rounds with the candidate way, whose first two references are the searches from low and from high.
 fn shrink(
-    members: &[u64],
-    targets: &[u64],
-    links: &[u64],
-    pairs: &mut [u64],
-    hops: &mut [u16],
-    bounds: &mut [u16],
-    skips: &mut [u16],
-    even: &mut [u64],
-    odd: &mut [u64],
+    plan: Plan<'_>,
+    room: &mut Room<'_>,
     near: &[u16],
     nears: &[u64],
     fars: &mut [u64],
@@ -208,45 +190,47 @@ fn shrink(
     f: Span,
     way: u16,
 ) -> RoundFigures
-    requires { let far = tables_at hops even odd in
-        let G = target_network base.words members.now targets.now links.now in
+    requires { let G = plan_network base.words plan in
         let R = reached e.ecc e.own nears.now in
         let Q = reached f.ecc f.own fars.old in
-        AreLong base (sizes_at links.now pairs hops bounds skips even odd)
-        × AreTargets base.words members.now targets.now
+        AreLong base (room_sizes (length plan.links.now) room.old)
+        × AreTargets base.words plan.members.now plan.targets.now
         × (places base ≤ length near.now)
         × (base.words ≤ length nears.now)
         × (base.words ≤ length fars.old)
-        × StandBoth base G near.now far low R high Q
+        × StandBoth base G near.now (lent_in room.old).searched low R high Q
         × (low < places base)
         × (high < places base) }
-    ensures { let before = lent_before pairs hops bounds skips even odd in
-        let after = lent_after pairs hops bounds skips even odd in
-        let G = target_network base.words members.now targets.now links.now in
+    ensures same { IsSameRoom room.old room.new }
+    ensures left { let G = plan_network base.words plan.entry in
         let M = chart G in
-        ran after result.candidate result.count result.searches
-        ≡ ran_by base G (rounds M (length M.depots) (first_two M low high way)) before }
+        ran (lent_in room.new) result.candidate result.count result.searches
+        ≡ ran_by base G (rounds M (length M.depots) (first_two M low high way)) (lent_in room.old) }
 {
     let mut ranks = [0u16; map::PLACES];
     let mut seen = [0u64; map::WORDS];
     let mut next = [0u64; map::WORDS];
+    let pairs = &mut *room.pairs;
+    let hops = &mut *room.hops;
+    let mut marks = Marks {
+        bounds: &mut *room.bounds,
+        skips: &mut *room.skips,
+        ranks: &mut ranks,
+    };
     let before = take_both(
-        members, links, pairs, &*hops, bounds, skips, near, nears, &*fars, &mut ranks, low, e,
-        high, f, way,
+        plan, pairs, &mut marks, &*hops, &*fars, near, nears, low, e, high, f, way,
     );
+    let mut desk = Desk {
+        seen: &mut seen,
+        next: &mut next,
+        partners: &mut *fars,
+        ranks: &mut ranks,
+    };
     rounds::run_rounds(
-        targets,
-        links,
-        pairs,
-        hops,
-        bounds,
-        skips,
-        even,
-        odd,
-        &mut seen,
-        &mut next,
-        fars,
-        &mut ranks,
+        plan.targets,
+        plan.links,
+        room,
+        &mut desk,
         map::WORDS,
         map::SEARCHED,
         before,
@@ -257,15 +241,8 @@ fn shrink(
 
 // The figures by the finished searches of both ends, without the stale pairs.
 fn settle(
-    members: &[u64],
-    targets: &[u64],
-    links: &[u64],
-    pairs: &mut [u64],
-    hops: &mut [u16],
-    bounds: &mut [u16],
-    skips: &mut [u16],
-    even: &mut [u64],
-    odd: &mut [u64],
+    plan: Plan<'_>,
+    room: &mut Room<'_>,
     near: &[u16],
     nears: &[u64],
     fars: &mut [u64],
@@ -275,38 +252,36 @@ fn settle(
     f: Span,
     chain: u16,
 ) -> Figures
-    requires { let far = tables_at hops even odd in
-        let G = target_network base.words members.now targets.now links.now in
+    requires { let G = plan_network base.words plan in
         let R = reached e.ecc e.own nears.now in
         let Q = reached f.ecc f.own fars.old in
-        AreLong base (sizes_at links.now pairs hops bounds skips even odd)
-        × AreTargets base.words members.now targets.now
-        × AreOpen base G pairs.old
+        AreLong base (room_sizes (length plan.links.now) room.old)
+        × AreTargets base.words plan.members.now plan.targets.now
+        × AreOpen base G room.old.pairs.now
         × (places base ≤ length near.now)
         × (base.words ≤ length nears.now)
         × (base.words ≤ length fars.old)
-        × StandBoth base G near.now far low R high Q
+        × StandBoth base G near.now (lent_in room.old).searched low R high Q
         × (low < places base)
         × (high < places base) }
-    ensures { let before = lent_before pairs hops bounds skips even odd in
-        let after = lent_after pairs hops bounds skips even odd in
-        let G = target_network base.words members.now targets.now links.now in
-        figured result.change (ran after result.chain result.count result.searches) ≡ relinked_by base G low high chain before }
+    ensures same { IsSameRoom room.old room.new }
+    ensures left { let G = plan_network base.words plan.entry in
+        figured result.change (ran (lent_in room.new) result.chain result.count result.searches)
+        ≡ relinked_by base G low high chain (lent_in room.old) }
 {
+    let pairs = &mut *room.pairs;
+    let hops = &mut *room.hops;
     let left = stale_pairs::drop_stale_either(pairs, near, &*hops, map::WORDS, chain);
     if is_kept(left.count, chain) {
-        mark_both(bounds, skips, low, e.ecc, high, f.ecc);
+        mark_both(room.bounds, room.skips, low, e.ecc, high, f.ecc);
         return Figures {
             change: Change::Kept,
-            chain: chain,
+            chain,
             count: left.count,
             searches: 2,
         };
     }
-    let got = shrink(
-        members, targets, links, pairs, hops, bounds, skips, even, odd, near, nears, fars, low, e,
-        high, f, left.way,
-    );
+    let got = shrink(plan, room, near, nears, fars, low, e, high, f, left.way);
     Figures {
         change: Change::Shrank,
         chain: got.candidate,
@@ -317,59 +292,34 @@ fn settle(
 
 // The figures after the link of low and high is in place, by the stored chain: the search from low on local tables and the one from high on the lent
 // ones, what each says of its end, then the pairs, the marks and, if the chain shrank, the rounds. The targets are the depots that deliver.
-pub fn relink(
-    members: &[u64],
-    targets: &[u64],
-    links: &[u64],
-    pairs: &mut [u64],
-    hops: &mut [u16],
-    bounds: &mut [u16],
-    skips: &mut [u16],
-    even: &mut [u64],
-    odd: &mut [u64],
-    low: usize,
-    high: usize,
-    chain: u16,
-) -> Figures
-    requires { let given = lent_at pairs hops bounds skips even odd in
-        AreLong base (sizes_at links.now pairs hops bounds skips even odd)
-        × IsRelinkable base members.now targets.now links.now given low high
+pub fn relink(plan: Plan<'_>, room: &mut Room<'_>, low: usize, high: usize, chain: u16) -> Figures
+    requires { AreLong base (room_sizes (length plan.links.now) room.old)
+        × IsRelinkable base plan.members.now plan.targets.now plan.links.now (lent_in room.old) low high
         × (low < places base)
         × (high < places base) }
-    ensures { let before = lent_before pairs hops bounds skips even odd in
-        let after = lent_after pairs hops bounds skips even odd in
-        let G = target_network base.words members.now targets.now links.now in
-        figured result.change (ran after result.chain result.count result.searches) ≡ relinked_by base G low high chain before }
+    ensures same { IsSameRoom room.old room.new }
+    ensures left { let G = plan_network base.words plan.entry in
+        figured result.change (ran (lent_in room.new) result.chain result.count result.searches)
+        ≡ relinked_by base G low high chain (lent_in room.old) }
 {
     let mut near = [0u16; map::PLACES];
     let mut evens = [0u64; map::WORDS];
     let mut odds = [0u64; map::WORDS];
     let mut nears = [0u64; map::WORDS];
     let mut fars = [0u64; map::WORDS];
-    let d = search::search_sound(links, &mut near, &mut evens, &mut odds, low);
-    let e = rounds::reach_by(
-        targets,
-        &near,
-        &evens,
-        &odds,
-        &mut nears,
-        map::WORDS,
-        low,
-        d,
-    );
-    let b = search::search_sound(links, hops, even, odd, high);
-    let f = rounds::reach_by(
-        targets,
-        &*hops,
-        &*even,
-        &*odd,
-        &mut fars,
-        map::WORDS,
-        high,
-        b,
-    );
-    settle(
-        members, targets, links, pairs, hops, bounds, skips, even, odd, &near, &nears, &mut fars,
-        low, e, high, f, chain,
-    )
+    let mut own = Scratch {
+        hops: &mut near,
+        even: &mut evens,
+        odd: &mut odds,
+    };
+    let d = search::search_sound(plan.links, &mut own, low);
+    let e = rounds::reach_by(plan.targets, &own, &mut nears, map::WORDS, low, d);
+    let mut lent = Scratch {
+        hops: &mut *room.hops,
+        even: &mut *room.even,
+        odd: &mut *room.odd,
+    };
+    let b = search::search_sound(plan.links, &mut lent, high);
+    let f = rounds::reach_by(plan.targets, &lent, &mut fars, map::WORDS, high, b);
+    settle(plan, room, &near, &nears, &mut fars, low, e, high, f, chain)
 }

@@ -26,9 +26,8 @@ use Rattle.layers.specs.Layers.{search_leaves}
 use Rattle.lent_map.specs.Faults.{lent_faults, lent_refusal}
 use Rattle.lent_map.proofs.Passes.{lent_first, lent_then, lent-passed, passed_net}
 use Rattle.search.specs.SearchCall.{search_sizes}
-use Rattle.summary.specs.SummaryCall.{summary_refusal, summary_left, summary_given, summary_call}
+use Rattle.summary.specs.SummaryCall.{summary_refusal, Summed, Refused, summary_left, summary_given, summary_call}
 use Rattle.summary.specs.Steps.{Totalled, totalled, total_over}
-use Rattle.summary.specs.declared.Summing.TheVariants.{Summed, Refused}
 use Rattle.summary.proofs.Leaving.{number_is, total_is}
 
 -- ---- what no refusal says
@@ -63,8 +62,7 @@ module _ (K : Shape) (rec : Record) (links : List ℕ) (hops even odd counts : �
         two = omega (arith, two);
       }
 
-  -- ---- each refusal, by its test: the counts, those of the lent map, then the number of destinations. The code lends the links for the pairs, which are
-  -- not looked at
+  -- ---- each refusal, by its test: the counts, those of the lent map, then the number of destinations
 
   pub refused_counts : counts < places K → short_buffer ≡ summary_refusal K rec links hops even odd counts
   unfolding summary_refusal lent_faults first_of
@@ -74,34 +72,32 @@ module _ (K : Shape) (rec : Record) (links : List ℕ) (hops even odd counts : �
       none true = refl
       none false = refl
 
-  lent_is : {k : ℕ} {b : Bool} → places K ≤ counts → b ≡ long → k ≡ lent_refusal K b false rec links links
+  lent_is : {k : ℕ} {b : Bool} → places K ≤ counts → b ≡ long → k ≡ lent_refusal K b false rec links []
       → k ≡ lent_refusal K (long && leb (places K) counts) false rec links []
-  unfolding lent_refusal lent_faults
-  lent_is l q e = rw (le-leb (places K) counts l, and-with-true) (e ∙ ap (λ (b : Bool). lent_refusal K b false rec links links) q)
+  lent_is l q e = rw (le-leb (places K) counts l, and-with-true) (e ∙ ap (λ (b : Bool). lent_refusal K b false rec links []) q)
 
-  pub refused_map : {k : ℕ} {b : Bool} → places K ≤ counts → b ≡ long → k ≡ lent_refusal K b false rec links links → (k ≡ 0 → ⊥)
+  pub refused_map : {k : ℕ} {b : Bool} → places K ≤ counts → b ≡ long → k ≡ lent_refusal K b false rec links [] → (k ≡ 0 → ⊥)
       → k ≡ summary_refusal K rec links hops even odd counts
   unfolding summary_refusal
   refused_map l q e n = lent_first K (long && leb (places K) counts) false rec links [] few (lent_is l q e) n
 
-  passed : {k : ℕ} {b : Bool} → places K ≤ counts → b ≡ long → k ≡ lent_refusal K b false rec links links → k ≡ 0
-      → first_of few ≡ summary_refusal K rec links hops even odd counts
+  passed : {b : Bool} → places K ≤ counts → b ≡ long → 0 ≡ lent_refusal K b false rec links [] → first_of few ≡ summary_refusal K rec links hops even odd counts
   unfolding summary_refusal
-  passed l q e z = lent_then K (long && leb (places K) counts) false rec links [] few (sym z ∙ lent_is l q e)
+  passed l q e = lent_then K (long && leb (places K) counts) false rec links [] few (lent_is l q e)
 
   -- the number is that of a row of the depots that deliver
   module _ {row : List ℕ} (kept : row ≡ overwrite (encode_row K.words (delivers (map_network K rec []))) rec.members) where
-    pub refused_few : {k n : ℕ} {b : Bool} → places K ≤ counts → b ≡ long → k ≡ lent_refusal K b false rec links links → k ≡ 0
+    pub refused_few : {n : ℕ} {b : Bool} → places K ≤ counts → b ≡ long → 0 ≡ lent_refusal K b false rec links []
         → n ≡ countb (table_bit K.words row 0) (range (64 * K.words)) → n < 2 → too_few ≡ summary_refusal K rec links hops even odd counts
     unfolding first_of
-    refused_few l q e z d s =
-        rw (lt-ltb (countb (delivers G) (vertices G)) 2 (omega (arith, d, s, number_is K.words rec.members rec.yards links kept))) at (passed l q e z)
+    refused_few l q e d s =
+        rw (lt-ltb (countb (delivers G) (vertices G)) 2 (omega (arith, d, s, number_is K.words rec.members rec.yards links kept))) at (passed l q e)
 
-    pub refused_never : {k n : ℕ} {b : Bool} → places K ≤ counts → b ≡ long → k ≡ lent_refusal K b false rec links links → k ≡ 0
+    pub refused_never : {n : ℕ} {b : Bool} → places K ≤ counts → b ≡ long → 0 ≡ lent_refusal K b false rec links []
         → n ≡ countb (table_bit K.words row 0) (range (64 * K.words)) → 2 ≤ n → 0 ≡ summary_refusal K rec links hops even odd counts
     unfolding first_of
-    refused_never l q e z d s =
-        rw (le-ltb (countb (delivers G) (vertices G)) 2 (omega (arith, d, s, number_is K.words rec.members rec.yards links kept))) at (passed l q e z)
+    refused_never l q e d s =
+        rw (le-ltb (countb (delivers G) (vertices G)) 2 (omega (arith, d, s, number_is K.words rec.members rec.yards links kept))) at (passed l q e)
 
 -- ---- the call
 

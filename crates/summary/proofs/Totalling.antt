@@ -37,13 +37,13 @@ module _ (W : ℕ) (targets links : List ℕ) (u : ℕ) where
 
   -- its hops are the distances over the link table
   module _ (B : Tables) {d ecc : ℕ} {hops even odd : List ℕ}
-      (is : (searched d (tables hops even odd) ≡ search_table W links u B) × (ecc ≡ max_of (dist (table_network W links) u) (vertices (network_of W targets [])))) where
+      (is : searched d (tables hops even odd) ≡ search_table W links u B) (far : ecc ≡ max_of (dist (table_network W links) u) (vertices (network_of W targets []))) where
     pub tables_left : tables hops even odd ≡ search_leaves W (table_network W links) u B
-    tables_left = search_leaves_lem W targets links u B is.0
+    tables_left = search_leaves_lem W targets links u B is
 
     pub count_is : (l : List ℕ) → set l ecc (get_or l ecc 0 + 1) ≡ count_one (max_of (dist (table_network W links) u) (vertices (network_of W targets []))) l
     unfolding count_one
-    count_is l = ap (λ (e : ℕ). set l e (get_or l e 0 + 1)) is.1
+    count_is l = ap (λ (e : ℕ). set l e (get_or l e 0 + 1)) far
 
     pub tally_is : {sum pairs : ℕ}
         → (sum ≡ sum_of (λ v. get_or hops v 0) (filterb (λ v. ltb u v) (vertices (network_of W targets []))))
@@ -54,8 +54,8 @@ module _ (W : ℕ) (targets links : List ℕ) (u : ℕ) where
         let s : sum ≡ sum_of (dist N u) (filterb (λ v. ltb u v) vs) =
         later.0
         ∙ sum_alike (filterb (λ v. ltb u v) vs) (λ v. get_or hops v 0) (dist N u)
-        (λ v m. hop_is W targets links u B is.0 v (target_below W targets links u v (filter_out (λ v. ltb u v) vs m).0)) in
-        rw (s, later.1, is.1)
+        (λ v m. hop_is W targets links u B is v (target_below W targets links u v (filter_out (λ v. ltb u v) vs m).0)) in
+        rw (s, later.1, far)
 
 -- a count grows by at most one
 count_most : (e i : ℕ) (l : List ℕ) → e < length l → get_or (count_one e l) i 0 ≤ get_or l i 0 + 1

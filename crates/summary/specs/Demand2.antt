@@ -10,8 +10,7 @@ use Rattle.map.specs.declared.Record.{Record}
 use Rattle.search.specs.SearchCall.{search_left}
 use Rattle.search.specs.Demand2.{KeepsPast, IsSearch}
 use Rattle.search.specs.SearchCall.{Reached}
-use Rattle.summary.specs.SummaryCall.{summary_refusal, SummaryLeft, summary_call}
-use Rattle.summary.specs.declared.Summing.TheVariants.{Summed}
+use Rattle.summary.specs.SummaryCall.{summary_refusal, Summed, SummaryLeft, summary_call}
 
 -- A report of the network G: it is one by the published words, its counts stand in their places, and the tables are as the search from the highest
 -- destination leaves them. No pair is as far apart as there are places.

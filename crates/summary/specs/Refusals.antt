@@ -11,8 +11,7 @@ use Rattle.map.specs.Room.{Tables}
 use Rattle.map.specs.declared.Record.{Record}
 use Rattle.lent_map.specs.Faults.{lent_conditions}
 use Rattle.search.specs.Refusals.{search_buffers}
-use Rattle.summary.specs.SummaryCall.{SummaryLeft, summary_left, summing_number}
-use Rattle.summary.specs.declared.Summing.TheVariants.{Refused}
+use Rattle.summary.specs.SummaryCall.{Refused, SummaryLeft, summary_left, summing_number}
 
 -- 15, too few: fewer than two destinations
 abbrev pub AreTooFew : Network → Type 0

@@ -1,9 +1,11 @@
 -- THE CALL OF THE NETWORK REPORT on lent memory, whole: its answer and every place that it leaves. The code's contract is one equation with
 -- `summary_call`.
 -- Assumes nothing.
-use Rattle.std.specs.Prelude.{false, ◌&&◌, List, [], ◌∷◌, ◌++◌, ℕ, zero, suc, ◌/◌, ◌%◌, leb, ltb, length}
+use Rattle.std.specs.Prelude.{false, ◌&&◌, List, [], ◌∷◌, ◌++◌, ℕ, zero, suc, ◌/◌, ◌%◌, leb, ltb, length, Result, Ok, Err}
 use Rattle.lists.specs.Lists.{range, countb, last_or, mapl, overwrite, first_of}
 use Rattle.outcome.specs.Numbers.{too_few}
+use Rattle.outcome.specs.Refusals.{number_of}
+use Rattle.outcome.specs.declared.Refusal.{Refusal}
 use Rattle.graph.specs.Network.{delivers}
 use Rattle.graph.specs.Distance.{vertices}
 use Rattle.graph.specs.Chart.{chart, destinations}
@@ -14,8 +16,7 @@ use Rattle.map.specs.declared.Record.{Record}
 use Rattle.layers.specs.Layers.{search_leaves}
 use Rattle.lent_map.specs.Faults.{lent_faults}
 use Rattle.search.specs.SearchCall.{search_sizes}
-use Rattle.summary.specs.declared.Summing.{Summing}
-use Rattle.summary.specs.declared.Summing.TheVariants.{Summed, Refused}
+use Rattle.summary.specs.declared.Summary.{Summary}
 
 -- the first refusal that holds, by the lengths of what is lent: short (the tables of a search, or the counts), spoilt (links alone), apart, too few
 -- (fewer than two destinations); 0: none
@@ -27,6 +28,16 @@ summary_refusal K rec links hops even odd counts =
     (lent_faults K (long_enough K sizes && leb (places K) counts) false rec links []
     ++ (ltb (countb (delivers G) (vertices G)) 2, too_few)
     ∷ [])
+
+-- the answer: sum, pairs, quotient and remainder, or the refusal's number
+pub data Summing : Type 0 where
+  Summed : ℕ → ℕ → ℕ → ℕ → Summing
+  Refused : ℕ → Summing
+
+-- for each case of the code's answer, the values or the number
+abbrev pub summing_of : Result Summary Refusal → Summing
+summing_of (Ok s) = Summed s.sum s.pairs s.quotient s.remainder
+summing_of (Err k) = Refused (number_of k)
 
 -- what the call leaves: its answer (sum, pairs, quotient and remainder, or the refusal's number), hop table and layer rows, and the counts
 pub record SummaryLeft : Type 0 where

@@ -3,17 +3,19 @@
 
 #![tactic(auto)]
 
-ghost use Rattle.std.specs.Prelude.{[], ◌≡◌, ◌<◌, ◌≤◌, length, get_or};
-ghost use Rattle.lists.specs.Lists.{max_of};
+ghost use Rattle.std.specs.Prelude.{[], ◌≡◌, ◌<◌, ◌≤◌, ltb, length, get_or};
+ghost use Rattle.lists.specs.Lists.{filterb, sum_of, max_of};
 ghost use Rattle.graph.specs.Distance.{vertices, unreached, dist};
-ghost use Rattle.map.specs.Slices.{tables_before, tables_after};
+ghost use Rattle.outcome.specs.Refusals.{refused_by};
+ghost use Rattle.map.specs.Slices.{tables_in, IsSameScratch};
 ghost use Rattle.map.specs.Memory.{base, places, table_words, network_of, table_network};
 ghost use Rattle.layers.specs.Layers.{search_leaves};
 ghost use Rattle.summary.specs.Steps.{tally_of, count_one, AreNear, totalled, total_over};
-ghost use Rattle.summary.specs.SummaryCall.{summary_refusal, summary_left, summary_call};
+ghost use Rattle.summary.specs.SummaryCall.{summary_refusal, summing_of, summary_left, summary_call};
 
-use map::Record;
-use rows::Next;
+use map::{Record, Scratch};
+use outcome::Refusal;
+use targets::Later;
 
 // ---- one destination
 
@@ -25,13 +27,20 @@ struct Tally {
     ecc: u16,
 }
 
+// The hops of the targets above u added, and how many these are, after a search from u.
+fn sum_later(targets: &[u64], scratch: &Scratch<'_>, u: usize) -> Later
+    requires { (base.words ≤ length targets.now) × (places base ≤ length scratch.now.hops.now) × (u < places base) }
+    ensures { let later = filterb (λ v. ltb u v) (vertices (network_of base.words targets.now [])) in
+        (result.sum ≡ sum_of (λ v. get_or scratch.now.hops.now v 0) later) × (result.pairs ≡ length later) }
+{
+    targets::sum_above(targets, &*scratch.hops, map::WORDS, u)
+}
+
 // Searches from u, tallies the targets, and counts one destination of its eccentricity.
 fn search_target(
     targets: &[u64],
     links: &[u64],
-    hops: &mut [u16],
-    even: &mut [u64],
-    odd: &mut [u64],
+    scratch: &mut Scratch<'_>,
     counts: &mut [u16],
     u: usize,
 ) -> Tally
@@ -39,23 +48,22 @@ fn search_target(
         let ecc = max_of (dist (table_network base.words links.now) u) depots in
         (base.words ≤ length targets.now)
         × (table_words base ≤ length links.now)
-        × (places base ≤ length hops.old)
-        × (base.words ≤ length even.old)
-        × (base.words ≤ length odd.old)
+        × (places base ≤ length scratch.old.hops.now)
+        × (base.words ≤ length scratch.old.even.now)
+        × (base.words ≤ length scratch.old.odd.now)
         × (ecc < length counts.old)
         × (ecc < unreached)
         × (get_or counts.old ecc 0 ≤ places base)
         × (u < places base) }
-    ensures { let N = table_network base.words links.now in
+    ensures same { IsSameScratch scratch.old scratch.new }
+    ensures left { let N = table_network base.words links.now in
         let depots = vertices (network_of base.words targets.now []) in
-        let before = tables_before hops even odd in
-        let after = tables_after hops even odd in
         (result ≡ tally_of (dist N u) u depots)
-        × (after ≡ search_leaves base.words N u before)
+        × (tables_in scratch.new ≡ search_leaves base.words N u (tables_in scratch.old))
         × (counts.new ≡ count_one (max_of (dist N u) depots) counts.old) }
 {
-    let found = search::search_to(targets, links, hops, even, odd, u);
-    let later = targets::sum_above(targets, &*hops, map::WORDS, u);
+    let found = search::search_to(targets, links, scratch, u);
+    let later = sum_later(targets, &*scratch, u);
     let e = found.ecc as usize;
     counts[e] = counts[e] + 1;
     Tally {
@@ -78,85 +86,65 @@ struct Totals {
 fn total_over(
     targets: &[u64],
     links: &[u64],
-    hops: &mut [u16],
-    even: &mut [u64],
-    odd: &mut [u64],
+    scratch: &mut Scratch<'_>,
     counts: &mut [u16],
 ) -> Totals
     requires { (base.words ≤ length targets.now)
         × (table_words base ≤ length links.now)
-        × (places base ≤ length hops.old)
-        × (base.words ≤ length even.old)
-        × (base.words ≤ length odd.old)
+        × (places base ≤ length scratch.old.hops.now)
+        × (base.words ≤ length scratch.old.even.now)
+        × (base.words ≤ length scratch.old.odd.now)
         × (places base ≤ length counts.old)
         × AreNear base.words targets.now links.now }
-    ensures { let before = tables_before hops even odd in
-        let after = tables_after hops even odd in
-        totalled result.sum result.pairs after counts.new
-        ≡ total_over base.words targets.now links.now before counts.old }
+    ensures same { IsSameScratch scratch.old scratch.new }
+    ensures left { totalled result.sum result.pairs (tables_in scratch.new) counts.new
+        ≡ total_over base.words targets.now links.now (tables_in scratch.old) counts.old }
 {
     rows::fill(counts, map::PLACES, 0);
     let mut sum: u64 = 0;
     let mut pairs: u64 = 0;
     let mut from: usize = 0;
-    loop {
-        let next = map::next_open(targets, map::WORDS, from);
-        let Next::At(u) = next else {
-            return Totals {
-                sum: sum,
-                pairs: pairs,
-            };
-        };
-        let t = search_target(targets, links, hops, even, odd, counts, u);
-        sum = sum + t.sum;
-        pairs = pairs + t.pairs;
+    while let Some(u) = map::next_open(targets, map::WORDS, from) {
+        let t = search_target(targets, links, scratch, counts, u);
+        sum += t.sum;
+        pairs += t.pairs;
         from = u + 1;
     }
+    Totals { sum, pairs }
 }
 
 // ---- the public call
 
-// The answer of a report: sum of the distances, number of pairs, quotient and remainder of the mean; or the refusal's number.
+// What a report answers: the sum of the distances, the number of pairs, and quotient and remainder of the mean.
 #[derive(Clone, Copy)]
-pub enum Summing {
-    Summed(u64, u64, u64, u64),
-    Refused(u8),
+pub struct Summary {
+    pub sum: u64,
+    pub pairs: u64,
+    pub quotient: u64,
+    pub remainder: u64,
 }
 
-// The first refusal of a report that holds, 0 for none. It only reads.
+// The first refusal of a report that holds. It only reads.
 fn summary_refusal(
     rec: Record,
     links: &[u64],
-    hops: usize,
-    even: usize,
-    odd: usize,
+    scratch: &Scratch<'_>,
     counts: usize,
-) -> u8
-    ensures { result ≡ summary_refusal base rec links.now hops even odd counts }
+) -> Result<(), Refusal>
+    ensures { let T = tables_in scratch.now in
+        refused_by result ≡ summary_refusal base rec links.now (length T.hops) (length T.even) (length T.odd) counts }
 {
     if counts < map::PLACES {
-        return outcome::SHORT;
+        return Err(Refusal::Short);
     }
-    let long = map::are_long(
-        links.len(),
-        map::TABLE,
-        hops,
-        map::PLACES,
-        map::PLACES,
-        even,
-        odd,
-    );
-    let refusal = lent_map::map_refusal(rec, links, links, long, false);
-    if refusal != 0 {
-        return refusal;
-    }
+    lent_map::map_refusal(rec, links, None, scratch.is_long(links.len()))?;
     let mut delivering = rec.members;
     let yards = rec.yards;
     map::keep_delivering(&mut delivering, &yards, map::WORDS);
     if rows::degree(&delivering, map::WORDS, 0) < 2 {
-        return outcome::TOO_FEW;
+        return Err(Refusal::TooFew);
     }
-    0
+    Ok(())
 }
 
 // The network report, with how many depots have each eccentricity in the lent counts; or the first refusal that holds, and then nothing is changed.
@@ -164,22 +152,22 @@ fn summary_refusal(
 pub fn summarise(
     rec: Record,
     links: &[u64],
-    hops: &mut [u16],
-    even: &mut [u64],
-    odd: &mut [u64],
+    scratch: &mut Scratch<'_>,
     counts: &mut [u16],
-) -> Summing
-    ensures { let before = tables_before hops even odd in
-        let after = tables_after hops even odd in
-        summary_left result after counts.new ≡ summary_call base rec links.now before counts.old }
+) -> Result<Summary, Refusal>
+    ensures same { IsSameScratch scratch.old scratch.new }
+    ensures left { let call = summary_call base rec links.now (tables_in scratch.old) counts.old in
+        summary_left (summing_of result) (tables_in scratch.new) counts.new ≡ call }
 {
-    let refusal = summary_refusal(rec, links, hops.len(), even.len(), odd.len(), counts.len());
-    if refusal != 0 {
-        return Summing::Refused(refusal);
-    }
+    summary_refusal(rec, links, &*scratch, counts.len())?;
     let mut targets = rec.members;
     let yards = rec.yards;
     map::keep_delivering(&mut targets, &yards, map::WORDS);
-    let t = total_over(&targets, links, hops, even, odd, counts);
-    Summing::Summed(t.sum, t.pairs, t.sum / t.pairs, t.sum % t.pairs)
+    let t = total_over(&targets, links, scratch, counts);
+    Ok(Summary {
+        sum: t.sum,
+        pairs: t.pairs,
+        quotient: t.sum / t.pairs,
+        remainder: t.sum % t.pairs,
+    })
 }

@@ -2,9 +2,14 @@
 use mathlib.Core.Path.{◌≡◌, refl, sym, ap, ◌∙◌}
 use mathlib.Core.Bool.{Bool, true, false, cond}
 use mathlib.Core.List.{List}
-use Prim.Native.Nat.{ℕ, ◌+◌, ◌*◌, ◌≤◌, ◌<◌, max}
+use Prim.Native.Nat.{ℕ, zero, suc, ◌+◌, ◌*◌, ◌≤◌, ◌<◌, max}
+use native.Mathlib.Numerals.{add-one}
 use native.Mathlib.Omega.{arith}
-use lib.ListN.{get_or}
+use lib.ListN.{length, get_or, take}
+use Rattle.std.specs.List.{sum, between}
+use Rattle.std.proofs.lemmas.List.{take_all}
+use Rattle.std.proofs.lemmas.List.Sums.{sum_by_more}
+use Rattle.std.proofs.lemmas.List.Edits.{get_or-between, length-between}
 use Rattle.lists.specs.Lists.{range, allb, sum_of, max_of}
 use Rattle.lists.proofs.Members.{all_elim, range_in}
 use Rattle.lists.proofs.Ranges.{sum_nothing, sum_more, sum_same, sum_skip, sum_but, sum_few, sum_has, max_none, max_put}
@@ -18,6 +23,16 @@ use Rattle.targets.specs.Hops.{hop_in}
 pub one_small : (t : Bool) (h : ℕ) → h < 65536 → cond t h 0 ≤ 65535
 one_small true h s = omega arith
 one_small false h s = omega arith
+
+-- the first n numbers of a list, added
+sum_taken : (xs : List ℕ) (n : ℕ) → n ≤ length xs → sum (take n xs) ≡ sum_of (λ b. get_or xs b 0) (range n)
+sum_taken xs zero h = sym (sum_nothing (λ b. get_or xs b 0))
+sum_taken xs (suc n) h =
+    ap (λ (k : ℕ). sum (take k xs)) (sym (add-one n))
+    ∙ sum_by_more (λ x. x) xs n 0 h
+    ∙ ap (λ (s : ℕ). s + get_or xs n 0) (sum_taken xs n (omega arith))
+    ∙ sym (sum_more (λ b. get_or xs b 0) n)
+    ∙ ap (λ (k : ℕ). sum_of (λ b. get_or xs b 0) (range k)) (add-one n)
 
 -- every bit of the full word
 full_bits : allb (bit 18446744073709551615) (range 64) ≡ true
@@ -47,24 +62,14 @@ module _ (hops : List ℕ) (w : ℕ) where
 
   -- ---- a full word: the hops of all its codes
 
-  pub record AllSummed (sum b : ℕ) : Type 0 where
-    pub within : b ≤ 64
-    pub is : sum ≡ sum_of (λ k. get_or hops (64 * w + k) 0) (range b)
-
-  pub all_none : AllSummed 0 0
-  all_none = record { within = omega arith; is = sym (sum_nothing (λ k. get_or hops (64 * w + k) 0)) }
-
-  pub all_next : {sum b : ℕ} → AllSummed sum b → b < 64 → AllSummed (sum + get_or hops (64 * w + b) 0) (b + 1)
-  all_next {sum} {b} g l = record {
-    within = omega arith;
-    is = ap (λ (n : ℕ). n + get_or hops (64 * w + b) 0) g.is ∙ sym (sum_more (λ k. get_or hops (64 * w + k) 0) b);
-  }
-
-  pub all_most : {sum b : ℕ} → AllSummed sum b → ((v : ℕ) → get_or hops v 0 < 65536) → sum ≤ 65535 * b
-  all_most {sum} {b} g fits = omega (arith, g.is, sum_few (λ k. get_or hops (64 * w + k) 0) 65535 b (λ k l. omega (arith, fits (64 * w + k))))
-
-  pub all_end : {sum b : ℕ} → AllSummed sum b → 64 ≤ b → sum ≡ sum_of (λ k. get_or hops (64 * w + k) 0) (range 64)
-  all_end {sum} {b} g l = g.is ∙ ap (λ (n : ℕ). sum_of (λ k. get_or hops (64 * w + k) 0) (range n)) (omega (arith, g.within))
+  pub all_sum : 64 * w + 64 ≤ length hops → sum (between (64 * w) (64 * w + 64) hops) ≡ sum_of (λ b. get_or hops (64 * w + b) 0) (range 64)
+  all_sum h =
+      let e : length part ≡ 64 = omega (arith, length-between hops (64 * w) (64 * w + 64) h) in
+      ap sum (sym (take_all 64 part (omega arith))) ∙ sum_taken part 64 (omega arith)
+      ∙ sum_same (λ b. get_or part b 0) (λ b. get_or hops (64 * w + b) 0) 64 (λ b l. get_or-between hops (64 * w) (64 * w + 64) b 0 (omega arith))
+    where
+      part : List ℕ
+      part = between (64 * w) (64 * w + 64) hops
 
   pub full_sum : {word sum : ℕ} → word ≡ 18446744073709551615 → sum ≡ sum_of (λ k. get_or hops (64 * w + k) 0) (range 64) → sum ≡ sum_of (hop_in hops w word) (range 64)
   full_sum {word} {sum} e s =

@@ -42,10 +42,8 @@ fn greatest_of_all(targets: &[u64], hops: &[u16], words: usize) -> u16
     ensures { result ≡ max_of (λ v. get_or hops.now v 0) (vertices (network_of words targets.now [])) }
 {
     let mut most: u16 = 0;
-    let mut w = 0;
-    while w < words {
+    for w in 0..words {
         most = greater(most, greatest_of_word(hops, w, targets[w]));
-        w += 1;
     }
     most
 }
@@ -56,10 +54,8 @@ fn meet(a: &[u64], b: &[u64], words: usize) -> bool
     ensures { result ≡ anyb (λ v. row_bit words a.now v && row_bit words b.now v) (range (64 * words)) }
 {
     let mut both: u64 = 0;
-    let mut w = 0;
-    while w < words {
+    for w in 0..words {
         both = both | (a[w] & b[w]);
-        w += 1;
     }
     both != 0
 }
@@ -98,10 +94,8 @@ fn put_both(targets: &[u64], last: &[u64], row: &mut [u64], words: usize)
     ensures { let both = encode_row words (λ v. row_bit words targets.now v && row_bit words last.now v) in
         row.new ≡ overwrite both row.old }
 {
-    let mut w = 0;
-    while w < words {
+    for w in 0..words {
         row[w] = targets[w] & last[w];
-        w += 1;
     }
 }
 
@@ -131,10 +125,8 @@ fn put_at(targets: &[u64], hops: &[u16], row: &mut [u64], words: usize, e: u16)
     ensures { let here = encode_row words (λ v. row_bit words targets.now v && eqb (get_or hops.now v 0) e) in
         row.new ≡ overwrite here row.old }
 {
-    let mut w = 0;
-    while w < words {
+    for w in 0..words {
         row[w] = word_at(hops, w, targets[w], e);
-        w += 1;
     }
 }
 
@@ -195,13 +187,10 @@ fn sum_of_all(hops: &[u16], w: usize) -> u64
     requires { (64 * w + 64 ≤ length hops.now) × (w < 2 ^ 32) }
     ensures { result ≡ sum_of (λ b. get_or hops.now (64 * w + b) 0) (range 64) }
 {
-    let mut sum: u64 = 0;
-    let mut b = 0;
-    while b < 64 {
-        sum = sum + hops[64 * w + b] as u64;
-        b += 1;
-    }
-    sum
+    hops[64 * w..64 * w + 64]
+        .iter()
+        .map(|hop| *hop as u64)
+        .sum()
 }
 
 // The hops of the members that word w of a row holds, added. A full word, of which a large map has most, is gone through without a test for each code.
@@ -239,12 +228,10 @@ pub fn sum_above(targets: &[u64], hops: &[u16], words: usize, u: usize) -> Later
     let x = above(targets[first], u % 64);
     let mut sum = sum_of_word(hops, first, x);
     let mut pairs = words::count(x) as u64;
-    let mut w = first + 1;
-    while w < words {
+    for w in first + 1..words {
         let word = targets[w];
         sum = sum + sum_of_word(hops, w, word);
         pairs = pairs + words::count(word) as u64;
-        w += 1;
     }
     Later {
         sum: sum,

@@ -5,8 +5,6 @@ use Rattle.map.specs.Memory.{Shape}
 use Rattle.map.specs.declared.Record.{Record}
 use Rattle.map.specs.Room.{Sizes, long_enough}
 use Rattle.outcome.specs.declared.Outcome.TheVariants.{Refused}
-use Rattle.graph.specs.Opening.{Notice, notice_of}
-use Rattle.update.specs.declared.Notice.{Notice as Asked}
 use Rattle.update.specs.declared.Returned.{Returned}
 use Rattle.lent_map.specs.Faults.{lent_refusal}
 
@@ -16,7 +14,3 @@ map_refusal K rec links pairs sizes = lent_refusal K (long_enough K sizes) true 
 
 abbrev pub refused_with : ℕ → Record → Returned
 refused_with number rec = record { report = record { outcome = Refused number; searches = 0 }; after = rec }
-
--- the notice that a call is lent
-abbrev pub notice_in : Asked → Notice
-notice_in n = notice_of n.yard n.code n.neighbours.now

@@ -11,14 +11,6 @@ ghost use Rattle.update.specs.Steps.{map_refusal, refused_with};
 use map::{Record, Room};
 use outcome::{Outcome, Refusal};
 
-// What an opening asks: whether the depot is a yard, its code, and its neighbours' codes.
-#[derive(Clone, Copy)]
-pub struct Notice<'a> {
-    pub yard: bool,
-    pub code: u8,
-    pub neighbours: &'a [u8],
-}
-
 // The report of a call: its outcome, and the number of searches.
 #[derive(Clone, Copy)]
 pub struct Report {

@@ -29,10 +29,10 @@ use Rattle.search.specs.SearchCall.{Reached, Refused}
 use Rattle.search.proofs.Accepts.{granted}
 use Rattle.nearby.specs.WithinCall.{WithinLeft, within_refusal, within_given, within_call}
 use Rattle.nearby.specs.NearestCall.{NearestLeft, nearest_refusal, nearest_given, nearest_call}
-use Rattle.nearby.specs.declared.Listing.TheVariants.{Listed}
-use Rattle.nearby.specs.declared.Closest.TheVariants.{At}
+use Rattle.nearby.specs.WithinCall.{Listed}
+use Rattle.nearby.specs.NearestCall.{At}
 use Rattle.summary.specs.SummaryCall.{SummaryLeft, summary_refusal, summary_given, summary_call}
-use Rattle.summary.specs.declared.Summing.TheVariants.{Summed}
+use Rattle.summary.specs.SummaryCall.{Summed}
 use Rattle.rounds.specs.Leaves.{rounds_leave}
 use Rattle.reckon.specs.ReckonCall.{ReckonLeft, reckon_refusal, figured_by, reckon_given, reckon_call}
 use Rattle.reckon.specs.declared.Reckoning.TheVariants.{Searches}

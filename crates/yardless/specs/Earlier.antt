@@ -34,10 +34,10 @@ use Rattle.search.specs.SearchCall.{search_sizes, SearchLeft}
 use Rattle.search.specs.SearchCall.{Reached, Refused as RefusedSearch}
 use Rattle.nearby.specs.WithinCall.{WithinLeft}
 use Rattle.nearby.specs.NearestCall.{NearestLeft}
-use Rattle.nearby.specs.declared.Listing.TheVariants.{Listed, Refused as RefusedListing}
-use Rattle.nearby.specs.declared.Closest.TheVariants.{At, Refused as RefusedNearest}
+use Rattle.nearby.specs.WithinCall.{Listed, Refused as RefusedListing}
+use Rattle.nearby.specs.NearestCall.{At, Refused as RefusedNearest}
 use Rattle.summary.specs.SummaryCall.{SummaryLeft}
-use Rattle.summary.specs.declared.Summing.TheVariants.{Summed, Refused as RefusedSumming}
+use Rattle.summary.specs.SummaryCall.{Summed, Refused as RefusedSumming}
 use Rattle.rounds.specs.Leaves.{rounds_leave}
 use Rattle.reckon.specs.ReckonCall.{ReckonLeft}
 use Rattle.reckon.specs.declared.Reckoning.TheVariants.{Searches, Refused as RefusedReckoning}

@@ -1,64 +1,49 @@
 -- `insertion::refigure` meets its contract: the search is the network's; an eccentricity above the chain is the case grew, any other is `settle_low`.
 use native.Mathlib.Omega.{arith}
+use Rattle.rounds.proofs.Turns.{same_tables}
 use Rattle.insertion.proofs.Cases.{search_stands, figured_first, grew_is}
 use Rattle.map.specs.Memory.{base}
 use Rattle.map.proofs.Theorems.{base_shape}
 use borrow.Author.Rules.{rules}
 use Rattle.insertion.proofs.refigure.Goals as goal
 
-pub slice_bounds-join-end : goal.slice_bounds-join-end
-slice_bounds-join-end c = search rules
-
 pub join-own-requires : goal.join-own-requires
 join-own-requires c =
     let pre = c.requires in (
       record { positive = omega arith; most = omega arith; table = pre.0.pairs; counted = pre.1.counted },
-      pre.0.bounds,
-      pre.0.skips,
-      omega (arith, slice_bounds-join-end c),
+      search rules,
+      search rules,
+      search rules,
       pre.2,
     )
 
-pub returns-then-chain-span : goal.returns-then-chain-span
-returns-then-chain-span c =
+pub returns-then-chain-span-clause-left : goal.returns-then-chain-span-clause-left
+returns-then-chain-span-clause-left c =
     let pre = c.requires.1 in
-    let found = c.search_sound-depth.ensures in
-    let stands = search_stands base base_shape _ _ _ pre.are _ _ _ _ pre.net pre.present found _ c.reach_by-span.ensures in
-    figured_first base base_shape _ _ _ pre.are _ _ _ _ pre.net pre.present found _ _ _ _ _
-    (grew_is base _ _ _ _ _ _ _ stands c.if-chain-span.true _ _ _ _ c.join-own.ensures)
-
-pub slice_bounds-settle_low-end : goal.slice_bounds-settle_low-end
-slice_bounds-settle_low-end c = search rules
+    let found = c.search_sound-depth.ensures.left in
+    figured_first base base_shape _ _ _ pre.are _ _ _ _ _ pre.net pre.present found _ _ _ _ _
+    (grew_is base _ _ _ _ _ _ _
+    (search_stands base base_shape _ _ _ pre.are _ _ _ _ _ pre.net pre.present found _ c.reach_by-span.ensures
+    (same_tables _ _ _ _ _ _ (search rules) (search rules) (search rules)))
+    c.if-chain-span.true _ _ _ _ c.join-own.ensures)
+    (same_tables _ _ _ _ _ _ (search rules) (search rules) (search rules))
 
 pub settle_low-requires : goal.settle_low-requires
 settle_low-requires c =
-    let pre = c.requires.1 in
-    let found = c.search_sound-depth.ensures in (
+    let pre = c.requires.1 in (
       search rules,
       pre.are,
-      omega (arith, slice_bounds-settle_low-end c),
+      search rules,
       record { ends = pre.ends },
-      search_stands base base_shape _ _ _ pre.are _ _ _ _ pre.net pre.present found _ c.reach_by-span.ensures,
+      search_stands base base_shape _ _ _ pre.are _ _ _ _ _ pre.net pre.present c.search_sound-depth.ensures.left _ c.reach_by-span.ensures
+          (same_tables _ _ _ _ _ _ (search rules) (search rules) (search rules)),
       c.requires.2,
       omega (arith, c.if-chain-span.false),
       omega (arith, pre.counted),
     )
 
--- the two calls keep the lengths of hops and rows
-pub shape_of-hops : goal.shape_of-hops
-shape_of-hops c =
-    omega (arith, c.settle_low.auto, c.search_sound-depth.auto)
-
-pub shape_of-even : goal.shape_of-even
-shape_of-even c =
-    omega (arith, c.settle_low.auto, c.search_sound-depth.auto)
-
-pub shape_of-odd : goal.shape_of-odd
-shape_of-odd c =
-    omega (arith, c.settle_low.auto, c.search_sound-depth.auto)
-
-pub returns : goal.returns
-returns c =
+pub returns-clause-left : goal.returns-clause-left
+returns-clause-left c =
     let pre = c.requires.1 in
-    figured_first base base_shape _ _ _ pre.are _ _ _ _ pre.net pre.present c.search_sound-depth.ensures _ _ _ _ _
-    c.settle_low.ensures
+    figured_first base base_shape _ _ _ pre.are _ _ _ _ _ pre.net pre.present c.search_sound-depth.ensures.left _ _ _ _ _
+    c.settle_low.ensures.left (same_tables _ _ _ _ _ _ (search rules) (search rules) (search rules))

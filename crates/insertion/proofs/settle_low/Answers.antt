@@ -14,14 +14,14 @@ join-sum-requires c = (
   search rules,
 )
 
-pub returns-then-span-chain : goal.returns-then-span-chain
-returns-then-span-chain c =
+pub returns-then-span-chain-clause-left : goal.returns-then-span-chain-clause-left
+returns-then-span-chain-clause-left c =
     let pre = c.requires in
     equal_is base _ _ _ _ _ _ _ pre.4 pre.3.ends pre.6 _ _ _ c.drop_stale-left.ensures c.if-span-chain.true _ _ _
     c.join-sum.ensures
 
-pub returns-then-left-ne0 : goal.returns-then-left-ne0
-returns-then-left-ne0 c =
+pub returns-then-left-ne0-clause-left : goal.returns-then-left-ne0-clause-left
+returns-then-left-ne0-clause-left c =
     let pre = c.requires in
     kept_is base _ _ _ _ _ _ _ pre.4 pre.3.ends pre.6 _ _ _ c.drop_stale-left.ensures c.if-span-chain.false
     c.if-left-ne0.true _ c.mark_once.ensures
@@ -36,8 +36,8 @@ shrink-got-requires c =
       pre.5,
     )
 
-pub returns : goal.returns
-returns c =
+pub returns-clause-left : goal.returns-clause-left
+returns-clause-left c =
     let pre = c.requires in
     shrank_is base _ _ _ _ _ _ _ pre.4 pre.3.ends pre.6 _ _ _ c.drop_stale-left.ensures c.if-span-chain.false c.if-left-ne0.false
-    _ c.shrink-got.ensures
+    _ c.shrink-got.ensures.left

@@ -1,22 +1,22 @@
--- `search::all_reached` meets its contract. The loop's invariant: every code below v passes. The measure is the codes left.
-use mathlib.Core.Path.{sym, ◌∙◌}
-use borrow.Author.Tests.{not-true, not-false}
-use Rattle.lent_map.proofs.Connects.{all_none, all_more, all_end, all_fault}
+-- `lent_map::all_reached` meets its contract: each code is tried, as `is_reached` answers.
+use mathlib.Core.Path.{refl, ◌∙◌}
+use mathlib.Core.Bool.{Bool, not, ◌||◌}
+use Prim.Native.Nat.{ℕ, ◌*◌}
+use native.Mathlib.Omega.{arith}
 use borrow.Author.Rules.{rules}
+use borrow.Author.Tests.{tests}
+use lib.Dec.{ltb}
+use lib.ListN.{get_or}
+use Rattle.std.proofs.lemmas.Iterator.{YieldsList-from_range}
+use Rattle.std.proofs.lemmas.Iterator.Search.{all_from_yields_List}
+use Rattle.graph.specs.Distance.{unreached}
+use Rattle.rows.specs.Rows.{row_bit}
+use Rattle.lent_map.proofs.Connects.{all_range}
 use Rattle.lent_map.proofs.all_reached.Goals as goal
 
-pub returns-then-not-is_reached : goal.returns-then-not-is_reached
-returns-then-not-is_reached c =
-    all_fault _ _ _ c.loop-v-test.true (sym c.is_reached.ensures ∙ not-true _ c.if-not-is_reached.true-raw)
-
-pub loop-v-preserved : goal.loop-v-preserved
-loop-v-preserved c = (
-  search rules,
-  all_more _ _ c.loop-v.invariant.1 (sym c.is_reached.ensures ∙ not-false _ c.if-not-is_reached.false-raw),
-)
-
-pub loop-v-init : goal.loop-v-init
-loop-v-init c = search (all_none, rules)
-
 pub returns : goal.returns
-returns c = search all_end
+returns c =
+    let a = c.args in
+    let test : ℕ → Bool = λ v. not (row_bit a.words a.members.now v) || ltb (get_or a.hops.now v 0) unreached in
+    let road = YieldsList-from_range 0 (64 * a.words) (64 * a.words) refl (omega arith) in
+    all_from_yields_List test _ _ _ c.all.ensures.ran road (λ x b q k. search (rules, tests)) ∙ all_range test (64 * a.words)

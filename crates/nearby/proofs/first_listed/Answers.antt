@@ -1,31 +1,16 @@
--- `nearby::first_listed` meets its contract. The loop's invariant: no code before place i is open. The measure is the codes left.
-use mathlib.Core.Path.{refl, sym, ◌∙◌}
-use native.Mathlib.Omega.{arith}
-use borrow.Author.Rules.{rules}
-use Rattle.lists.proofs.Scans.{filter-took, filter-passed, filter-done}
+-- `nearby::first_listed` meets its contract: the chain goes through the list's codes and stops at the first that is open.
+use Rattle.std.proofs.Common.{rules, tests}
+use Rattle.std.proofs.lemmas.Iterator.{YieldsList-from_slice, YieldsList-from_map}
+use Rattle.std.proofs.lemmas.Iterator.Consumers.{YieldsList-at}
+use Rattle.std.proofs.lemmas.Iterator.Search.{find_from_yields_List}
+use Rattle.rows.specs.Rows.{row_bit}
+use Rattle.nearby.proofs.Choosing.{first_found}
 use Rattle.nearby.proofs.first_listed.Goals as goal
-
-pub loop-i-init : goal.loop-i-init
-loop-i-init c = (search rules, refl)
-
-pub overflow_cast-v : goal.overflow_cast-v
-overflow_cast-v c =
-    omega (arith, (c.shared_slice_known-in-loop-i-1.given c.loop-i.i).fits)
-
-pub is_open-requires : goal.is_open-requires
-is_open-requires c =
-    (search rules, omega (arith, (c.shared_slice_known-in-loop-i-1.given c.loop-i.i).fits))
-
-pub returns-then-is_open : goal.returns-then-is_open
-returns-then-is_open c =
-    (_, c.loop-i.invariant.1 ∙ filter-took _ _ _ 0 c.loop-i-test.true (sym c.is_open.ensures ∙ c.if-is_open.true))
-
-pub loop-i-preserved : goal.loop-i-preserved
-loop-i-preserved c = (
-  search rules,
-  c.loop-i.invariant.1 ∙ filter-passed _ _ _ 0 c.loop-i-test.true (sym c.is_open.ensures ∙ c.if-is_open.false),
-)
 
 pub returns : goal.returns
 returns c =
-    c.loop-i.invariant.1 ∙ filter-done _ _ _ c.loop-i-test.false
+    first_found _ _ _
+    (find_from_yields_List (row_bit 4 c.args.members.now) _ _ c.find.result c.find.ensures.ran
+    (YieldsList-from_map _ (λ v. v) (YieldsList-at c.map.ensures.source (YieldsList-from_slice c.args.listed.now cc)) c.map.ensures.closure
+    (λ x r q k. search (rules, tests)))
+    (λ x b q k. search (rules, tests)))

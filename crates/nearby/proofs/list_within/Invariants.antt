@@ -9,7 +9,7 @@ use Rattle.nearby.proofs.list_within.Given as goal
 
 abbrev pub invariant-loop-v : goal.invariant-loop-v
 invariant-loop-v l =
-    IsWriting (λ v. leb (get_or l.hops v 0) l.k) (network_of 4 l.members []) l.initial.codes l.codes l.count l.from × (l.from ≤ 256)
+    IsWriting (λ v. leb (get_or l.scratch.hops.now v 0) l.k) (network_of 4 l.members []) l.initial.codes l.codes l.count l.from × (l.from ≤ 256)
 
 abbrev pub decreases-loop-v : goal.decreases-loop-v
 decreases-loop-v l = 256 - l.from

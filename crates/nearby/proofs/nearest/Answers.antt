@@ -4,73 +4,53 @@ use mathlib.Core.Path.{◌≡◌, sym, ◌∙◌, subst}
 use mathlib.Core.List.{List, ◌∷◌}
 use Prim.Native.Nat.{ℕ}
 use native.Mathlib.Omega.{arith}
-use lib.ListN.{length}
+use Rattle.std.proofs.lemmas.Result.{err_from_is_err_and}
+use Rattle.outcome.proofs.Numbering.{refuses}
 use Rattle.lists.specs.Lists.{filterb}
 use Rattle.rows.specs.Rows.{row_bit}
 use Rattle.map.specs.Memory.{base, network_of}
 use Rattle.map.proofs.Theorems.{base_shape}
-use Rattle.search.specs.SearchCall.{search_refusal}
 use Rattle.search.proofs.Accepts.{granted}
 use Rattle.nearby.specs.Steps.{FirstListed}
-use Rattle.nearby.proofs.Accepts.{listed_below, nearest_as_search, nearest_nobody, nearest_refused, nearest_accepted}
-use borrow.Author.Rules.{rules}
+use Rattle.nearby.proofs.Accepts.{listed_below, nobody_listed, nearest_as_search, nearest_nobody, nearest_refused, nearest_accepted}
 use Rattle.nearby.proofs.nearest.Goals as goal
-use Rattle.nearby.proofs.nearest.Goals.{Else-refusal-ne0, In-At}
+use Rattle.nearby.proofs.nearest.Goals.{In_ok-first}
 
-pub returns-then-refusal-ne0 : goal.returns-then-refusal-ne0
-returns-then-refusal-ne0 c =
-    nearest_refused base _ _ _ _ _ (nearest_as_search base _ _ _ _ _ c.search_refusal-refusal.ensures c.if-refusal-ne0.true) c.if-refusal-ne0.true
+pub returns-in_err-search_refusal-clause-left : goal.returns-in_err-search_refusal-clause-left
+returns-in_err-search_refusal-clause-left c =
+    let p = err_from_is_err_and c.from_residual.result c.from_residual.ensures.1 in
+    rw (p.1, p.2) (nearest_refused base _ _ _ _ _ (nearest_as_search base _ _ _ _ _ c.in_err-search_refusal.ensures (refuses _)) (refuses _))
 
--- what refuses a search does not hold
-unrefused : (c : Else-refusal-ne0) → let a = c.args in search_refusal base a.rec a.links.now (length a.hops.now) (length a.even.now)
-    (length a.odd.now) a.code ≡ 0
-unrefused c =
-    sym c.search_refusal-refusal.ensures ∙ c.if-refusal-ne0.false
-
-pub slice_bounds-first_listed-end : goal.slice_bounds-first_listed-end
-slice_bounds-first_listed-end c = search rules
-
-pub first_listed-some-requires : goal.first_listed-some-requires
-first_listed-some-requires c = omega (arith, slice_bounds-first_listed-end c)
-
-pub returns-in_default : goal.returns-in_default
+pub returns-in_err-first-clause-left : goal.returns-in_err-first-clause-left
 unfolding network_of
-returns-in_default c =
-    nearest_refused base _ _ _ _ _
-    (nearest_nobody base _ _ _ _ _ (unrefused (goal.at.returns-in_default c).Else-refusal-ne0)
-    (subst (FirstListed _) c.in_default.is c.first_listed-some.ensures))
-    (λ z. omega arith)
+returns-in_err-first-clause-left c =
+    let p = err_from_is_err_and c.from_residual-in_err-first.result c.from_residual-in_err-first.ensures.1 in
+    let n = nobody_listed _ _ c.in_err-first.ensures.value c.first_listed.ensures in
+    rw (p.1, p.2) (nearest_refused base _ _ _ _ _ (n.0 ∙ nearest_nobody base _ _ _ _ _ (sym c.in_ok-search_refusal.ensures) n.1) (refuses _))
 
 pub search_sound-distance-requires : goal.search_sound-distance-requires
 search_sound-distance-requires c =
-    let g = granted base _ _ _ _ _ _ base_shape (unrefused (goal.at.search_sound-distance-requires c).Else-refusal-ne0) in
+    let g = granted base _ _ _ _ _ _ base_shape (sym c.in_ok-search_refusal.ensures) in
     (g.long.links, g.long.hops, g.long.even, g.long.odd, omega (arith, c.ranges.code.fits))
 
-pub slice_bounds-nearest_listed-end : goal.slice_bounds-nearest_listed-end
-slice_bounds-nearest_listed-end c =
-    omega arith
-
 -- the first listed code that is open
-is-first : (c : In-At) → (rest : List ℕ) × (filterb (row_bit 4 c.args.rec.members) c.args.listed.now ≡ c.in-At.first ∷ rest)
+is-first : (c : In_ok-first) → (rest : List ℕ) × (filterb (row_bit 4 c.args.rec.members) c.args.listed.now ≡ c.in_ok-first.first ∷ rest)
 is-first c =
-    subst (FirstListed _) c.in-At.is c.first_listed-some.ensures
+    subst (FirstListed _) c.in_ok-first.ensures.ok_part c.first_listed.ensures
 
 pub nearest_listed-found-requires : goal.nearest_listed-found-requires
 nearest_listed-found-requires c =
-    let f = is-first (goal.at.nearest_listed-found-requires c).In-At in
-    let g = granted base _ _ _ _ _ _ base_shape (unrefused (goal.at.nearest_listed-found-requires c).Else-refusal-ne0) in (
-      omega arith,
-      omega (arith, c.search_sound-distance.auto, g.long.hops),
-      listed_below 4 _ _ _ f.0 f.1,
-    )
+    let f = is-first (goal.at.nearest_listed-found-requires c).In_ok-first in
+    let g = granted base _ _ _ _ _ _ base_shape (sym c.in_ok-search_refusal.ensures) in
+    (omega arith, omega (arith, c.search_sound-distance.ensures.same.hops.long, g.long.hops), listed_below 4 _ _ _ f.0 f.1)
 
-pub bounds-hops-found : goal.bounds-hops-found
-bounds-hops-found c =
-    let g = granted base _ _ _ _ _ _ base_shape (unrefused (goal.at.bounds-hops-found c).Else-refusal-ne0) in
-    omega (arith, c.nearest_listed-found.ensures.1, c.search_sound-distance.auto, g.long.hops)
+pub bounds-scratch-found : goal.bounds-scratch-found
+bounds-scratch-found c =
+    let g = granted base _ _ _ _ _ _ base_shape (sym c.in_ok-search_refusal.ensures) in
+    omega (arith, c.nearest_listed-found.ensures.1, c.search_sound-distance.ensures.same.hops.long, g.long.hops)
 
-pub returns : goal.returns
-returns c =
-    let f = is-first (goal.at.returns c).In-At in
-    nearest_accepted base base_shape _ _ _ _ (unrefused (goal.at.returns c).Else-refusal-ne0) c.search_sound-distance.ensures
+pub returns-clause-left : goal.returns-clause-left
+returns-clause-left c =
+    let f = is-first (goal.at.returns-clause-left c).In_ok-first in
+    nearest_accepted base base_shape _ _ _ _ (sym c.in_ok-search_refusal.ensures) c.search_sound-distance.ensures.left
     _ f.0 f.1 c.nearest_listed-found.ensures.0 c.nearest_listed-found.ensures.1

@@ -48,19 +48,16 @@ refigure-got-requires c =
 
 pub overflow_add-after : goal.overflow_add-after
 overflow_add-after c =
+    let room = c.args.room.now in
     let small =
-    number_small base base_shape c.args.rec c.args.links.now c.args.pairs.now c.args.hops.now c.args.bounds.now
-    c.args.skips.now c.args.even.now c.args.odd.now c.args.yard c.args.code c.args.neighbours.now
+    number_small base base_shape c.args.rec c.args.links.now room.pairs.now room.hops.now room.bounds.now
+    room.skips.now room.even.now room.odd.now c.args.yard c.args.code c.args.neighbours.now
     c.requires c.ranges.code.fits (λ k l. (c.shared_slice_known-1.given k).fits) in
     omega arith
 
-pub shape_of-links : goal.shape_of-links
-shape_of-links c =
-    omega (arith, c.refigure-got.auto, c.link_depot.auto)
-
-pub returns : goal.returns
-returns c =
+pub returns-clause-left : goal.returns-clause-left
+returns-clause-left c =
     opened_is base base_shape _ _ _ _ _ _ _ _ _ _ _ c.requires c.ranges.code.fits
     (λ k l. (c.shared_slice_known-1.given k).fits) _ _ _ c.put_code.ensures
     c.put_yard.ensures c.link_depot.ensures _ (omega arith)
-    (omega arith) c.keep_delivering.ensures _ _ c.refigure-got.ensures
+    (omega arith) c.keep_delivering.ensures _ _ c.refigure-got.ensures.left

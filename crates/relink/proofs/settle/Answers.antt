@@ -1,11 +1,11 @@
 -- `relink::settle` meets its contract: each end is one of the network's linking, by the test before it.
-use native.Mathlib.Omega.{arith}
+use borrow.Author.Rules.{rules}
 use Rattle.map.specs.Memory.{base}
 use Rattle.relink.proofs.Cases.{kept_is, shrank_is}
 use Rattle.relink.proofs.settle.Goals as goal
 
-pub returns-then-is_kept : goal.returns-then-is_kept
-returns-then-is_kept c =
+pub returns-then-is_kept-clause-left : goal.returns-then-is_kept-clause-left
+returns-then-is_kept-clause-left c =
     let pre = c.requires in
     kept_is base _ _ _ _ _ _ _ _ _ _ pre.6 pre.2.ends _ _ _ c.drop_stale_either-left.ensures _ c.is_kept.ensures
     c.if-is_kept.true _ c.mark_both.ensures
@@ -13,15 +13,7 @@ returns-then-is_kept c =
 pub shrink-got-requires : goal.shrink-got-requires
 shrink-got-requires c =
     let pre = c.requires in (
-      record {
-        links = pre.0.links;
-        pairs = omega (arith, pre.0.pairs, c.drop_stale_either-left.auto);
-        hops = pre.0.hops;
-        bounds = pre.0.bounds;
-        skips = pre.0.skips;
-        even = pre.0.even;
-        odd = pre.0.odd;
-      },
+      search rules,
       pre.1,
       pre.3,
       pre.4,
@@ -31,8 +23,8 @@ shrink-got-requires c =
       pre.8,
     )
 
-pub returns : goal.returns
-returns c =
+pub returns-clause-left : goal.returns-clause-left
+returns-clause-left c =
     let pre = c.requires in
     shrank_is base _ _ _ _ _ _ _ _ _ _ pre.6 pre.2.ends _ _ _ c.drop_stale_either-left.ensures _ c.is_kept.ensures
-    c.if-is_kept.false _ c.shrink-got.ensures
+    c.if-is_kept.false _ c.shrink-got.ensures.left

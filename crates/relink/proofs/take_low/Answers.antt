@@ -12,19 +12,22 @@ use Rattle.relink.proofs.take_low.Goals as goal
 pub absorb-requires : goal.absorb-requires
 absorb-requires c =
     let pre = c.requires in (
-      begun_counted _ _ _ _ _ _ (omega arith) (omega arith) pre.3 c.begin.ensures.0,
+      begun_counted _ _ _ _ _ _ (omega arith) (omega arith) pre.3 c.begin.ensures.begun,
       search rules,
       search rules,
       search rules,
       search rules,
     )
 
-pub returns : goal.returns
-returns c =
-    let pre = c.requires in (
-      low_taken_lem base _ _ _ _ _ _ _ _ _ c.begin.ensures.0 c.absorb.ensures.0,
-      absorbed_counted false _ _ _ _ _ _ _ _ _ _
-          (begun_counted _ _ _ _ _ _ (omega arith) (omega arith) pre.3 c.begin.ensures.0)
-          c.absorb.ensures.0,
-      search (thinned_ranks, rules),
-    )
+pub returns-clause-taken : goal.returns-clause-taken
+returns-clause-taken c =
+    low_taken_lem base _ _ _ _ _ _ _ _ _ c.begin.ensures.begun c.absorb.ensures.taken
+
+pub returns-clause-counted : goal.returns-clause-counted
+returns-clause-counted c =
+    absorbed_counted false _ _ _ _ _ _ _ _ _ _
+    (begun_counted _ _ _ _ _ _ (omega arith) (omega arith) c.requires.3 c.begin.ensures.begun)
+    c.absorb.ensures.taken
+
+pub returns-clause-ranked : goal.returns-clause-ranked
+returns-clause-ranked c = search (thinned_ranks, rules)

@@ -17,7 +17,7 @@ use Rattle.summary.specs.declared.Tally.{Tally}
 use Rattle.summary.proofs.Totalling.{totalling_none, totalling_all, totalling_in, totalling_sum, totalling_pairs}
 use Rattle.summary.proofs.Totalling.{totalling_room, totalling_more, total_all, ecc_small, sum_small, pairs_small}
 use Rattle.summary.proofs.total_over.Goals as goal
-use Rattle.summary.proofs.total_over.Goals.{In-At}
+use Rattle.summary.proofs.total_over.Goals.{In-Some}
 
 pub loop-u-init : goal.loop-u-init
 loop-u-init c = (
@@ -26,30 +26,28 @@ loop-u-init c = (
   search rules,
   search rules,
   search rules,
-  search rules,
-  search rules,
 )
 
-pub returns-in_default : goal.returns-in_default
-returns-in_default c =
+pub returns-clause-left : goal.returns-clause-left
+returns-clause-left c =
     total_all 4 _ _ _ _ c.fill.ensures
-    (totalling_all _ 4 _ _ _ _ c.loop-u.invariant.0 (subst (NextOpen _ _) c.in_default.is c.next_open-next.ensures))
+    (totalling_all _ 4 _ _ _ _ c.loop-u.invariant.0 (subst (NextOpen _ _) c.in_default.is c.next_open.ensures))
 
 -- the next target, and its code
-is-next : (c : In-At) → IsNextOpen (network_of 4 c.args.targets.now []) c.loop-u.from c.in-At.u
+is-next : (c : In-Some) → IsNextOpen (network_of 4 c.args.targets.now []) c.loop-u.from c.in-Some.u
 is-next c =
-    subst (NextOpen _ _) c.in-At.is c.next_open-next.ensures
+    subst (NextOpen _ _) c.in-Some.is c.next_open.ensures
 
-is_code : (c : In-At) → c.in-At.u < 256
+is_code : (c : In-Some) → c.in-Some.u < 256
 is_code c =
     network_open_below 4 c.args.targets.now [] _ (is-next c).is_open
 
 -- it is a target, and its eccentricity has a place in the counts
-is-target : (c : In-At) → Memᴰ c.in-At.u (vertices (network_of 4 c.args.targets.now []))
+is-target : (c : In-Some) → Memᴰ c.in-Some.u (vertices (network_of 4 c.args.targets.now []))
 is-target c =
     totalling_in _ 4 _ _ _ _ c.loop-u.invariant.0 (is-next c)
 
-has-place : (c : In-At) → let a = c.args in max_of (dist (table_network 4 a.links.now) c.in-At.u) (vertices (network_of 4 a.targets.now [])) < 256
+has-place : (c : In-Some) → let a = c.args in max_of (dist (table_network 4 a.links.now) c.in-Some.u) (vertices (network_of 4 a.targets.now [])) < 256
 has-place c =
     ecc_small 4 _ _ c.requires.6 _ (is-target c)
 
@@ -61,41 +59,39 @@ search_target-t-requires c =
       search rules,
       search rules,
       search rules,
-      omega (arith, w.5, c.fill.auto, c.requires.5, has-place (goal.at.search_target-t-requires c).In-At),
-      omega (arith, has-place (goal.at.search_target-t-requires c).In-At),
-      totalling_room _ 4 _ _ _ _ w.0 (is-next (goal.at.search_target-t-requires c).In-At) _ (has-place (goal.at.search_target-t-requires c).In-At),
-      is_code (goal.at.search_target-t-requires c).In-At,
+      omega (arith, w.3, c.fill.auto, c.requires.5, has-place (goal.at.search_target-t-requires c).In-Some),
+      omega (arith, has-place (goal.at.search_target-t-requires c).In-Some),
+      totalling_room _ 4 _ _ _ _ w.0 (is-next (goal.at.search_target-t-requires c).In-Some) _ (has-place (goal.at.search_target-t-requires c).In-Some),
+      is_code (goal.at.search_target-t-requires c).In-Some,
     )
 
 pub overflow_add-sum : goal.overflow_add-sum
 overflow_add-sum c =
-    let e = ap (λ (t : Tally). t.sum) c.search_target-t.ensures.0 in
-    omega (arith, e, totalling_sum _ 4 _ _ _ _ c.loop-u.invariant.0 (is-next (goal.at.overflow_add-sum c).In-At), sum_small 4 _ _ c.requires.6)
+    let e = ap (λ (t : Tally). t.sum) c.search_target-t.ensures.left.0 in
+    omega (arith, e, totalling_sum _ 4 _ _ _ _ c.loop-u.invariant.0 (is-next (goal.at.overflow_add-sum c).In-Some), sum_small 4 _ _ c.requires.6)
 
 pub overflow_add-pairs : goal.overflow_add-pairs
 overflow_add-pairs c =
-    let e = ap (λ (t : Tally). t.pairs) c.search_target-t.ensures.0 in
-    omega (arith, e, totalling_pairs _ 4 _ _ _ _ c.loop-u.invariant.0 (is-next (goal.at.overflow_add-pairs c).In-At), pairs_small 4 _ _ c.requires.6)
+    let e = ap (λ (t : Tally). t.pairs) c.search_target-t.ensures.left.0 in
+    omega (arith, e, totalling_pairs _ 4 _ _ _ _ c.loop-u.invariant.0 (is-next (goal.at.overflow_add-pairs c).In-Some), pairs_small 4 _ _ c.requires.6)
 
 pub overflow_add-from : goal.overflow_add-from
 overflow_add-from c =
-    omega (arith, is_code (goal.at.overflow_add-from c).In-At)
+    omega (arith, is_code (goal.at.overflow_add-from c).In-Some)
 
 pub loop-u-smaller : goal.loop-u-smaller
 loop-u-smaller c =
-    omega (arith, is_code (goal.at.loop-u-smaller c).In-At, (is-next (goal.at.loop-u-smaller c).In-At).after)
+    omega (arith, is_code (goal.at.loop-u-smaller c).In-Some, (is-next (goal.at.loop-u-smaller c).In-Some).after)
 
 pub loop-u-preserved : goal.loop-u-preserved
 unfolding tally_of
 loop-u-preserved c =
     let w = c.loop-u.invariant in
-    let left = c.search_target-t.ensures in
+    let left = c.search_target-t.ensures.left in
     let kept = c.search_target-t.auto in (
-      totalling_more _ 4 _ _ _ _ w.0 (is-next (goal.at.loop-u-preserved c).In-At)
-          (omega (arith, w.5, c.fill.auto, c.requires.5, has-place (goal.at.loop-u-preserved c).In-At)) left.0 left.1 left.2,
-      omega (arith, is_code (goal.at.loop-u-preserved c).In-At),
-      omega (arith, w.2, kept),
+      totalling_more _ 4 _ _ _ _ w.0 (is-next (goal.at.loop-u-preserved c).In-Some)
+          (omega (arith, w.3, c.fill.auto, c.requires.5, has-place (goal.at.loop-u-preserved c).In-Some)) left.0 left.1 left.2,
+      omega (arith, is_code (goal.at.loop-u-preserved c).In-Some),
+      search rules,
       omega (arith, w.3, kept),
-      omega (arith, w.4, kept),
-      omega (arith, w.5, kept),
     )

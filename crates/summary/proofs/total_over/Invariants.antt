@@ -6,7 +6,7 @@ use Prim.Native.Nat.{◌-◌, ◌≤◌}
 use lib.ListN.{length}
 use Rattle.graph.specs.Distance.{vertices, dist}
 use Rattle.map.specs.Memory.{network_of, table_network}
-use Rattle.map.specs.Room.{tables}
+use Rattle.map.specs.Slices.{tables_in, IsSameScratch}
 use Rattle.summary.specs.Steps.{tally_of}
 use Rattle.summary.proofs.Totalling.{IsTotalling}
 use Rattle.summary.proofs.total_over.Given as goal
@@ -15,12 +15,10 @@ abbrev pub invariant-loop-u : goal.invariant-loop-u
 invariant-loop-u l =
     let N = table_network 4 l.links in
     let G = network_of 4 l.targets [] in
-    IsTotalling (λ u. tally_of (dist N u) u (vertices G)) 4 N G (tables l.initial.hops l.initial.even l.initial.odd) l.initial.counts l.sum
-    l.pairs (tables l.hops l.even l.odd) l.counts l.from
+    IsTotalling (λ u. tally_of (dist N u) u (vertices G)) 4 N G (tables_in l.initial.scratch) l.initial.counts l.sum
+    l.pairs (tables_in l.scratch) l.counts l.from
     × (l.from ≤ 256)
-    × (length l.hops ≡ length l.initial.hops)
-    × (length l.even ≡ length l.initial.even)
-    × (length l.odd ≡ length l.initial.odd)
+    × IsSameScratch l.initial.scratch l.scratch
     × (length l.counts ≡ length l.initial.counts)
 
 abbrev pub decreases-loop-u : goal.decreases-loop-u

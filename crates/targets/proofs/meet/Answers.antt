@@ -1,5 +1,4 @@
--- `targets::meet` meets its contract. The loop's invariant (Meets.antt): a bit is set that both rows have in one of the first w words. The measure is the
--- words left.
+-- `targets::meet` meets its contract. The loop's invariant (Meets.antt): a bit is set that both rows have in one of the first w words.
 use native.Mathlib.Omega.{arith}
 use Rattle.targets.proofs.Meets.{meeting_none, meeting_more, meeting_all}
 use Rattle.targets.proofs.meet.Goals as goal

@@ -1,4 +1,4 @@
--- `targets::put_at` meets its contract. The loop's invariant (Partners.antt): the first w words are put. The measure is the words left.
+-- `targets::put_at` meets its contract. The loop's invariant (Partners.antt): the first w words are put.
 use native.Mathlib.Omega.{arith}
 use Rattle.targets.proofs.Partners.{put_none, put_more, put_all, at_word}
 use Rattle.targets.proofs.put_at.Goals as goal

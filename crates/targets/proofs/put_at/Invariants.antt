@@ -1,6 +1,5 @@
--- `targets::put_at` meets its contract. The loop's invariant (Partners.antt): the first w words are put. The measure is the words left.
+-- `targets::put_at` meets its contract. The loop's invariant (Partners.antt): the first w words are put.
 use mathlib.Core.Bool.{◌&&◌}
-use Prim.Native.Nat.{◌-◌}
 use lib.Dec.{eqb}
 use lib.ListN.{get_or}
 use Rattle.rows.specs.Rows.{row_bit}
@@ -9,6 +8,3 @@ use Rattle.targets.proofs.put_at.Given as goal
 
 abbrev pub invariant-loop-w : goal.invariant-loop-w
 invariant-loop-w l = IsPut (λ v. row_bit l.words l.targets v && eqb (get_or l.hops v 0) l.e) l.words l.initial.row l.row l.w
-
-abbrev pub decreases-loop-w : goal.decreases-loop-w
-decreases-loop-w l = l.words - l.w

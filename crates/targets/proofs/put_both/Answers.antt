@@ -1,4 +1,4 @@
--- `targets::put_both` meets its contract. The loop's invariant (Partners.antt): the first w words are put. The measure is the words left.
+-- `targets::put_both` meets its contract. The loop's invariant (Partners.antt): the first w words are put.
 use native.Mathlib.Omega.{arith}
 use Rattle.targets.proofs.Partners.{put_none, put_more, put_all, both_word}
 use Rattle.targets.proofs.put_both.Goals as goal

@@ -1,4 +1,4 @@
--- `targets::sum_above` meets its contract. The loop's invariant (Rows.antt): the targets above u in the first w words. The measure is the words left.
+-- `targets::sum_above` meets its contract. The loop's invariant (Rows.antt): the targets above u in the first w words.
 use mathlib.Core.Path.{refl}
 use native.Mathlib.Omega.{arith}
 use Rattle.targets.proofs.Rows.{summed_first, summed_more, summed_sum, summed_pairs, summed_small, summed_few}

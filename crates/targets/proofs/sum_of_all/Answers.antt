@@ -1,24 +1,24 @@
--- `targets::sum_of_all` meets its contract. The loop's invariant (Words.antt): the sum of the codes so far. The measure is the codes left.
+-- `targets::sum_of_all` meets its contract: 64 hops are added.
+use mathlib.Core.Path.{◌≡◌, refl, ◌∙◌}
 use Prim.Native.Nat.{◌+◌, ◌*◌}
 use native.Mathlib.Omega.{arith}
-use Rattle.targets.proofs.Words.{all_none, all_next, all_most, all_end}
+use borrow.Author.Rules.{rules}
+use borrow.Author.Tests.{tests}
+use Rattle.std.proofs.lemmas.Iterator.{YieldsList-from_slice}
+use Rattle.std.proofs.lemmas.Iterator.Adapters.{fits_from_length, at_most_from_yields_List}
+use Rattle.std.proofs.lemmas.Iterator.Consumers.{YieldsList-at}
+use Rattle.std.specs.List.{sum, between}
+use Rattle.targets.proofs.Words.{all_sum}
 use Rattle.targets.proofs.sum_of_all.Goals as goal
 
-pub overflow_cast-sum : goal.overflow_cast-sum
-overflow_cast-sum c =
-    omega (arith, (c.shared_slice_known-1.given (64 * c.args.w + c.loop-b.b)).fits)
-
-pub overflow_add-sum-in-loop-b : goal.overflow_add-sum-in-loop-b
-overflow_add-sum-in-loop-b c =
-    let fits = (c.shared_slice_known-1.given (64 * c.args.w + c.loop-b.b)).fits in
-    omega (arith, all_most _ _ c.loop-b.invariant (λ v. (c.shared_slice_known-1.given v).fits), fits, c.loop-b-test.true)
+pub sum-requires-clause-fits : goal.sum-requires-clause-fits
+sum-requires-clause-fits c =
+    let road = YieldsList-at c.map.ensures.source (YieldsList-from_slice c.iter.result.rest.now refl) in
+    fits_from_length _ _ 64 _ (at_most_from_yields_List road (omega arith)) c.map.ensures.closure (omega arith)
+    (λ x r q k. search (rules, tests))
 
 pub returns : goal.returns
 returns c =
-    all_end _ _ c.loop-b.invariant (omega (arith, c.loop-b-test.false))
-
-pub loop-b-init : goal.loop-b-init
-loop-b-init c = search all_none
-
-pub loop-b-preserved : goal.loop-b-preserved
-loop-b-preserved c = search all_next
+    let a = c.args in
+    let e : c.sum.result ≡ sum (between (64 * a.w) (64 * a.w + 64) a.hops.now) = search rules in
+    e ∙ all_sum a.hops.now a.w c.requires.0
