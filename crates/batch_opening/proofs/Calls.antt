@@ -13,12 +13,11 @@ use Rattle.notice.specs.Lines.{lines_of}
 use Rattle.batch.specs.Lines.{is_opening, entries_of}
 use Rattle.batch.specs.Steps.{leavings, left_numbers, left_over}
 use Rattle.batch.proofs.Entries.{entries_length, waiting_left, waiting_all}
-use Rattle.batch_update.specs.BatchCall.{batch_refusal, lent_memory, batch_on, batch_left, batch_given, batch_call}
+use Rattle.batch_update.specs.BatchCall.{batch_refusal, lent_memory, batch_on, batch_left, batch_given, batch_call, Opened}
 use Rattle.batch_update.specs.Steps.{BatchStanding, turns_from, turns_on}
 use Rattle.batch_update.proofs.Turns.{given_memory}
 use Rattle.batch_opening.specs.Steps.{batch_standing, refused_batch, batch_begun}
 use Rattle.batch_update.specs.declared.Batched.{Batched}
-use Rattle.batch_update.specs.declared.BatchAnswer.TheVariants.{Opened}
 use Rattle.batch_opening.specs.declared.BatchProgress.{BatchProgress}
 
 module _ (K : Shape) (rec : Record) (links : List ℕ) (B : Lent) (places input : List ℕ) where

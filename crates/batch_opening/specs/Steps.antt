@@ -4,9 +4,8 @@ use Rattle.map.specs.declared.Record.{Record}
 use Rattle.map.specs.Room.{Lent}
 use Rattle.batch.specs.Lines.{entries_of}
 use Rattle.batch.specs.Steps.{waiting_of}
-use Rattle.batch_update.specs.BatchCall.{lent_memory}
+use Rattle.batch_update.specs.BatchCall.{lent_memory, Refused}
 use Rattle.batch_update.specs.Steps.{BatchStanding}
-use Rattle.batch_update.specs.declared.BatchAnswer.TheVariants.{Refused}
 use Rattle.batch_update.specs.declared.Batched.{Batched}
 use Rattle.batch_opening.specs.declared.BatchProgress.{BatchProgress}
 

@@ -3,7 +3,7 @@
 -- it. Which notices are accepted, in which order, and which lines are left over, is `batch_of` of the network. The code's contract is one equation with
 -- `batch_call`.
 -- Assumes nothing.
-use Rattle.std.specs.Prelude.{true, ◌&&◌, List, [], ◌∷◌, ◌++◌, ℕ, zero, suc, leb, length}
+use Rattle.std.specs.Prelude.{true, ◌&&◌, List, [], ◌∷◌, ◌++◌, ℕ, zero, suc, leb, length, Result, Ok, Err}
 use Rattle.lists.specs.Lists.{overwrite, first_of}
 use Rattle.graph.specs.Distance.{vertices}
 use Rattle.graph.specs.Opening.{Notice}
@@ -14,9 +14,9 @@ use Rattle.map.specs.declared.Record.{Record}
 use Rattle.map.specs.Room.{Lent, Sizes, sizes_of, long_enough}
 use Rattle.lent_map.specs.Faults.{lent_faults}
 use Rattle.update.specs.UpdateCall.{UpdateLeft, update_call}
+use Rattle.outcome.specs.Refusals.{number_of}
+use Rattle.outcome.specs.declared.Refusal.{Refusal}
 use Rattle.batch.specs.Lines.{batch_limit, entries_of, batch_faults}
-use Rattle.batch_update.specs.declared.BatchAnswer.{BatchAnswer}
-use Rattle.batch_update.specs.declared.BatchAnswer.TheVariants.{Opened, Refused}
 use Rattle.batch_update.specs.declared.Batched.{Batched}
 
 -- the first refusal that holds: 1 short (the buffers of an opening, and the places), 2 spoilt (links or figures), 3 apart, 11 overfull, 12 bare,
@@ -55,14 +55,21 @@ open_all K M (o ∷ os) = open_all K (memory_left (opening_on K M o)) os
 unfoldable pub batch_on : Shape → Record → List ℕ → List ℕ → Batch
 batch_on K rec links input = batch_of (map_network K rec links) (entries_of input)
 
+-- the answer: how many lines are left over, or the refusal's number
+pub data BatchAnswer : Type 0 where
+  Opened : ℕ → BatchAnswer
+  Refused : ℕ → BatchAnswer
+
 -- what the call leaves: its answer (how many lines are left over, or the refusal's number), the memory, and the lent places
 pub record BatchLeft : Type 0 where
   pub answer : BatchAnswer
   pub memory : LentMemory
   pub left : List ℕ
 
-abbrev pub batch_left : Batched → List ℕ → Lent → List ℕ → BatchLeft
-batch_left r links B left = record { answer = r.answer; memory = lent_memory r.after links B; left = left }
+-- of a call that was passed the record rec: one that is refused hands out none, and rec stands
+abbrev pub batch_left : Record → Result Batched Refusal → List ℕ → Lent → List ℕ → BatchLeft
+batch_left rec (Ok b) links B left = record { answer = Opened b.left; memory = lent_memory b.after links B; left = left }
+batch_left rec (Err k) links B left = record { answer = Refused (number_of k); memory = lent_memory rec links B; left = left }
 
 unfoldable pub batch_given : ℕ → Shape → Record → List ℕ → Lent → List ℕ → List ℕ → BatchLeft
 unfolding open_all batch_on notices_of numbers_of overwrite

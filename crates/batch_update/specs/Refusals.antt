@@ -12,9 +12,7 @@ use Rattle.map.specs.Room.{Lent, rounds_buffers}
 use Rattle.lent_map.specs.Faults.{lent_conditions}
 use Rattle.notice.specs.Lines.{lines_of}
 use Rattle.batch.specs.Lines.{batch_limit, is_opening}
-use Rattle.batch_update.specs.BatchCall.{lent_memory, BatchLeft}
-use Rattle.batch_update.specs.declared.BatchAnswer.{BatchAnswer}
-use Rattle.batch_update.specs.declared.BatchAnswer.TheVariants.{Opened, Refused}
+use Rattle.batch_update.specs.BatchCall.{lent_memory, BatchLeft, BatchAnswer, Opened, Refused}
 
 -- 11, overfull: more than 64 lines
 abbrev pub IsOverfull : List ℕ → Type 0

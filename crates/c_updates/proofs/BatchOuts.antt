@@ -14,9 +14,8 @@ use Rattle.map.specs.Memory.{base}
 use Rattle.map.specs.declared.Record.{Record}
 use Rattle.lent_map.specs.Faults.{lent_faults}
 use Rattle.batch.specs.Lines.{batch_limit, batch_faults}
-use Rattle.batch_update.specs.BatchCall.{batch_refusal, BatchLeft, batch_left, batch_given, batch_call}
+use Rattle.batch_update.specs.BatchCall.{batch_refusal, BatchLeft, batch_left, batch_given, batch_call, Opened, Refused as NoBatch}
 use Rattle.batch_update.specs.declared.Batched.{Batched}
-use Rattle.batch_update.specs.declared.BatchAnswer.TheVariants.{Opened, Refused as NoBatch}
 use Rattle.batch_update.proofs.Refuses.{granted}
 use Rattle.c_values.specs.Words.{record_words, record_of, words_of, clamped_of}
 use Rattle.c_values.proofs.Clamps.{network_in, links_clamp, figures_clamp, clamped_is}

@@ -23,7 +23,7 @@ use Rattle.graph.specs.Opening.{Notice}
 use Rattle.graph.specs.Updates.{Update, opens}
 use Rattle.graph.specs.Batch.{notices_of}
 use Rattle.batch_update.specs.BatchCall.{batch_refusal, LentMemory, lent_memory, opening_on, memory_left, open_all, batch_on, BatchLeft, batch_given, batch_call}
-use Rattle.batch_update.specs.declared.BatchAnswer.TheVariants.{Opened}
+use Rattle.batch_update.specs.BatchCall.{Opened}
 
 -- open set and yard set have four words each
 abbrev HasRows : Record → Type 0

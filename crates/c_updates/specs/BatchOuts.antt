@@ -4,9 +4,7 @@ use Rattle.std.specs.Prelude.{cond, List, ℕ, ltb, length}
 use Rattle.lists.specs.Lists.{overwrite}
 use Rattle.map.specs.Room.{Lent}
 use Rattle.map.specs.Memory.{base}
-use Rattle.batch_update.specs.BatchCall.{BatchLeft, batch_call}
-use Rattle.batch_update.specs.declared.BatchAnswer.{BatchAnswer}
-use Rattle.batch_update.specs.declared.BatchAnswer.TheVariants.{Opened, Refused as NoBatch}
+use Rattle.batch_update.specs.BatchCall.{BatchLeft, batch_call, BatchAnswer, Opened, Refused as NoBatch}
 use Rattle.outcome.specs.Numbers.{short_buffer}
 use Rattle.c_values.specs.Words.{record_words, record_of, words_of}
 

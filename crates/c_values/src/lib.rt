@@ -5,13 +5,14 @@
 ghost use Rattle.std.specs.Prelude.{◌≡◌, ◌++◌, ◌+◌, ◌≤◌, ◌<◌, min, length, set, take, drop};
 ghost use Rattle.lists.specs.Lists.{overwrite};
 ghost use Rattle.map.specs.Memory.{base};
-ghost use Rattle.map.specs.Room.{sizes};
+ghost use Rattle.map.specs.Slices.{room_sizes};
+ghost use Rattle.outcome.specs.Refusals.{refused_by};
 ghost use Rattle.c_values.specs.Words.{record_words, most16, most32, words_of, clamped_of};
 ghost use Rattle.c_values.specs.Outcomes.{outcome_of};
 ghost use Rattle.c_values.specs.Refusal.{step_refusal};
 
-use map::Record;
-use outcome::{Change, Outcome};
+use map::{Record, Room};
+use outcome::{Change, Outcome, Refusal};
 
 // ---- the record
 
@@ -129,35 +130,24 @@ pub fn outcome_of(answer: u8) -> Outcome
 
 // ---- the step of a stream
 
-// The first refusal of a step that holds, 0 for none. It only reads.
+// The first refusal of a step that holds. It only reads.
 pub fn step_refusal(
     words: &[u64],
     links: &[u64],
-    pairs: &[u64],
-    hops: usize,
-    bounds: usize,
-    skips: usize,
-    even: usize,
-    odd: usize,
+    room: &Room<'_>,
     line: usize,
     out: usize,
     held: usize,
-) -> u8
-    ensures { let long = sizes (length links.now) (length pairs.now) hops bounds skips even odd in
-        result ≡ step_refusal words.now links.now pairs.now long line out held }
+) -> Result<(), Refusal>
+    ensures { let long = room_sizes (length links.now) room.now in
+        refused_by result ≡ step_refusal words.now links.now room.now.pairs.now long line out held }
 {
-    if words.len() < RECORD_WORDS {
-        return outcome::SHORT;
+    if words.len() < RECORD_WORDS
+        || line < notice::LINE_LIMIT
+        || out < report::BUFFER_LIMIT
+        || notice::LINE_LIMIT < held
+    {
+        return Err(Refusal::Short);
     }
-    if line < notice::LINE_LIMIT {
-        return outcome::SHORT;
-    }
-    if out < report::BUFFER_LIMIT {
-        return outcome::SHORT;
-    }
-    if notice::LINE_LIMIT < held {
-        return outcome::SHORT;
-    }
-    let rec = record_of(words);
-    update::map_refusal(rec, links, pairs, hops, bounds, skips, even, odd)
+    update::map_refusal(record_of(words), links, room)
 }

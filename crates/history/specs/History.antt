@@ -7,10 +7,8 @@ use Rattle.map.specs.Memory.{Shape, table_words}
 use Rattle.outcome.specs.declared.Outcome.TheVariants.{Refused as RefusedUpdate}
 use Rattle.update.specs.UpdateCall.{Step, update_call}
 use Rattle.update.specs.Memory.{Memory}
-use Rattle.batch_update.specs.BatchCall.{LentMemory, memory_left, batch_call}
+use Rattle.batch_update.specs.BatchCall.{LentMemory, memory_left, batch_call, BatchAnswer, Opened, Refused}
 use Rattle.batch_update.specs.Refusals.{BatchStep}
-use Rattle.batch_update.specs.declared.BatchAnswer.{BatchAnswer}
-use Rattle.batch_update.specs.declared.BatchAnswer.TheVariants.{Opened, Refused}
 use Rattle.history.specs.PlainRun.{Ask, update, batch, Answer, told, left_over, Feed}
 
 -- how a table of the map is lent: its first k words alone, or whole, with further words of the caller's behind it

@@ -7,7 +7,6 @@ ghost use Rattle.notice.specs.Lines.{line_limit};
 ghost use Rattle.report.specs.Line.{buffer_limit, report_line};
 ghost use Rattle.line_buffer.specs.Lines.{holding, hold_byte, part_left, part_from, report_of, pasted, is_stopped};
 
-use report::Written;
 use update::Returned;
 
 // What the line buffer took of a piece: the place behind it, the bytes held then, and whether the line ended.
@@ -70,20 +69,15 @@ pub fn put_report(out: &mut [u8], at: usize, number: u32, got: Returned) -> usiz
 {
     let rec = got.after;
     let call = got.report;
-    let outcome = call.outcome;
     let line = report::ReportFields {
-        number: number,
-        outcome: outcome,
+        number,
+        outcome: call.outcome,
         depots: rec.number,
         chain: rec.chain,
         pairs: rec.count,
         searches: call.searches,
     };
-    let answer = report::write_report(&mut out[at..], line);
-    match answer {
-        Written::Line(k) => at + k,
-        Written::Refused(_) => at,
-    }
+    at + report::write_report(&mut out[at..], line).unwrap()
 }
 
 // ---- the stop

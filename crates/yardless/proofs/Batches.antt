@@ -25,7 +25,7 @@ use Rattle.lent_map.specs.Faults.{lent_faults}
 use Rattle.update.specs.UpdateCall.{UpdateLeft, update_call}
 use Rattle.batch.specs.Lines.{batch_limit, opening_in, notice_in, is_some, is_opening, entry_before, entries_from, entries_of, batch_faults}
 use Rattle.batch_update.specs.BatchCall.{batch_refusal, LentMemory, lent_memory, opening_on, memory_left, open_all, batch_on, BatchLeft, batch_given, batch_call}
-use Rattle.batch_update.specs.declared.BatchAnswer.TheVariants.{Opened}
+use Rattle.batch_update.specs.BatchCall.{Opened}
 use Rattle.yardless.specs.Earlier.{earlier_network, earlier_faults, earlier_read_line, earlier_update_in, earlier_notice_in, earlier_entries, earlier_open_all, earlier_batch}
 use Rattle.yardless.specs.Stands.{IsYardless, kind_in, BeginsNoYard, HasNoYardLine}
 use Rattle.yardless.proofs.Calls.{ends_same, network_same, faults_same}

@@ -49,8 +49,7 @@ use Rattle.plain_list.specs.PlainList.{moved}
 use Rattle.report.specs.Line.{report_line}
 use Rattle.transcript.specs.Transcript.{lines_limit, Followed}
 use Rattle.batch.specs.Lines.{batch_limit, opening_in, is_some, entry_before}
-use Rattle.batch_update.specs.BatchCall.{LentMemory, lent_memory, memory_left, BatchLeft}
-use Rattle.batch_update.specs.declared.BatchAnswer.TheVariants.{Opened as OpenedBatch, Refused as RefusedBatch}
+use Rattle.batch_update.specs.BatchCall.{LentMemory, lent_memory, memory_left, BatchLeft, Opened as OpenedBatch, Refused as RefusedBatch}
 
 -- ---- over networks
 
