@@ -3,9 +3,8 @@ ghost use Rattle.std.specs.Prelude.{◌≡◌};
 ghost use Rattle.map.specs.Slices.{tables_before, tables_after, lent_before, lent_after};
 ghost use Rattle.c_maps.specs.Outs.{empty_out, emptied_out, search_out, searched_out, reckon_out, reckoned_out};
 
-use map::Emptying;
-use reckon::Reckoning;
-use search::Found;
+use map::{Room, Scratch};
+use outcome::Refusal;
 
 // Empties a map. 0; or 1 (short).
 #[unsafe(no_mangle)]
@@ -14,18 +13,15 @@ pub extern "C" fn zorpedi_empty(words: &mut [u64], links: &mut [u64], pairs: &mu
         ≡ empty_out words.old links.old pairs.old }
 {
     if words.len() < c_values::RECORD_WORDS {
-        return outcome::SHORT;
+        return Refusal::Short.number();
     }
     let rec = c_values::record_of(&*words);
-    let got = map::empty_map(rec, links, pairs);
-    let after = got.after;
-    let answer = got.answer;
-    match answer {
-        Emptying::Done => {
+    match map::empty_map(rec, links, pairs) {
+        Ok(after) => {
             c_values::put_record(words, after);
             0
         }
-        Emptying::Refused(k) => k,
+        Err(refusal) => refusal.number(),
     }
 }
 
@@ -48,17 +44,17 @@ pub extern "C" fn zorpedi_search(
         ≡ search_out words.now links.now before eccentricity.old depth.old code }
 {
     if words.len() < c_values::RECORD_WORDS {
-        return outcome::SHORT;
+        return Refusal::Short.number();
     }
     let rec = c_values::record_of(words);
-    let found = search::search_from(rec, links, hops, even, odd, code);
-    match found {
-        Found::Reached(e, d) => {
-            *eccentricity = e;
-            *depth = d;
+    let mut scratch = Scratch { hops, even, odd };
+    match search::search_from(rec, links, &mut scratch, code) {
+        Ok(reach) => {
+            *eccentricity = reach.ecc;
+            *depth = reach.depth;
             0
         }
-        Found::Refused(k) => k,
+        Err(refusal) => refusal.number(),
     }
 }
 
@@ -81,18 +77,24 @@ pub extern "C" fn zorpedi_reckon(
         ≡ reckon_out words.old links.now before searches.old }
 {
     if words.len() < c_values::RECORD_WORDS {
-        return outcome::SHORT;
+        return Refusal::Short.number();
     }
     let rec = c_values::record_of(&*words);
-    let got = reckon::reckon_all(rec, links, pairs, hops, bounds, skips, even, odd);
-    let after = got.after;
-    let answer = got.answer;
-    match answer {
-        Reckoning::Searches(n) => {
+    let mut room = Room {
+        pairs,
+        hops,
+        bounds,
+        skips,
+        even,
+        odd,
+    };
+    match reckon::reckon_all(rec, links, &mut room) {
+        Ok(reckoned) => {
+            let after = reckoned.after;
             c_values::put_record(words, after);
-            *searches = n;
+            *searches = reckoned.searches;
             0
         }
-        Reckoning::Refused(k) => k,
+        Err(refusal) => refusal.number(),
     }
 }

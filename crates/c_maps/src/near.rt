@@ -3,7 +3,8 @@ ghost use Rattle.std.specs.Prelude.{◌≡◌};
 ghost use Rattle.map.specs.Slices.{tables_before, tables_after};
 ghost use Rattle.c_maps.specs.Nears.{within_out, listed_out, nearest_out, chosen_out};
 
-use nearby::{Closest, Listing};
+use map::Scratch;
+use outcome::Refusal;
 
 // The depots at most k handovers from a depot. 0, and how many they are; or 1 (short), 2 (spoilt), 3 (apart), 4 (absent).
 #[unsafe(no_mangle)]
@@ -24,16 +25,16 @@ pub extern "C" fn zorpedi_within(
         ≡ within_out words.now links.now before codes.old count.old code k }
 {
     if words.len() < c_values::RECORD_WORDS {
-        return outcome::SHORT;
+        return Refusal::Short.number();
     }
     let rec = c_values::record_of(words);
-    let listing = nearby::within(rec, links, hops, even, odd, codes, code, k);
-    match listing {
-        Listing::Listed(n) => {
+    let mut scratch = Scratch { hops, even, odd };
+    match nearby::within(rec, links, &mut scratch, codes, code, k) {
+        Ok(n) => {
             *count = n;
             0
         }
-        Listing::Refused(number) => number,
+        Err(refusal) => refusal.number(),
     }
 }
 
@@ -57,16 +58,16 @@ pub extern "C" fn zorpedi_nearest(
         ≡ nearest_out words.now links.now before found.old distance.old code asked }
 {
     if words.len() < c_values::RECORD_WORDS {
-        return outcome::SHORT;
+        return Refusal::Short.number();
     }
     let rec = c_values::record_of(words);
-    let closest = nearby::nearest(rec, links, hops, even, odd, code, listed);
-    match closest {
-        Closest::At(v, d) => {
-            *found = v;
-            *distance = d;
+    let mut scratch = Scratch { hops, even, odd };
+    match nearby::nearest(rec, links, &mut scratch, code, listed) {
+        Ok(nearest) => {
+            *found = nearest.code;
+            *distance = nearest.distance;
             0
         }
-        Closest::Refused(number) => number,
+        Err(refusal) => refusal.number(),
     }
 }

@@ -3,7 +3,8 @@ ghost use Rattle.std.specs.Prelude.{◌≡◌};
 ghost use Rattle.map.specs.Slices.{tables_before, tables_after};
 ghost use Rattle.c_maps.specs.Summaries.{four_numbers, summary_out, summed_out};
 
-use summary::Summing;
+use map::Scratch;
+use outcome::Refusal;
 
 // The network report. 0, the sum of the distances, the number of pairs, quotient and remainder of the mean; or 1 (short), 2 (spoilt), 3 (apart),
 // 15 (too few).
@@ -27,18 +28,18 @@ pub extern "C" fn zorpedi_summary(
         summed_out result new after counts.new ≡ summary_out words.now links.now before counts.old old }
 {
     if words.len() < c_values::RECORD_WORDS {
-        return outcome::SHORT;
+        return Refusal::Short.number();
     }
     let rec = c_values::record_of(words);
-    let summing = summary::summarise(rec, links, hops, even, odd, counts);
-    match summing {
-        Summing::Summed(s, p, q, r) => {
-            *sum = s;
-            *pair_number = p;
-            *quotient = q;
-            *remainder = r;
+    let mut scratch = Scratch { hops, even, odd };
+    match summary::summarise(rec, links, &mut scratch, counts) {
+        Ok(summary) => {
+            *sum = summary.sum;
+            *pair_number = summary.pairs;
+            *quotient = summary.quotient;
+            *remainder = summary.remainder;
             0
         }
-        Summing::Refused(number) => number,
+        Err(refusal) => refusal.number(),
     }
 }

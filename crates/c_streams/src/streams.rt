@@ -3,6 +3,7 @@ ghost use Rattle.std.specs.Prelude.{◌≡◌};
 ghost use Rattle.map.specs.Slices.{lent_before, lent_after};
 ghost use Rattle.c_streams.specs.Feeds.{fed_out, feed_out, finish_out};
 
+use map::Room;
 use stream::Progress;
 
 // Feeds a piece of a stream's input. 0, with the bytes of the piece used and the bytes of reports written; or 1 (short), 2 (spoilt), 3 (apart).
@@ -33,31 +34,26 @@ pub extern "C" fn zorpedi_feed(
         links.new after line.new out.new in
         exit ≡ feed_out entry piece.now }
 {
-    let refusal = c_values::step_refusal(
-        &*words,
-        &*links,
-        &*pairs,
-        hops.len(),
-        bounds.len(),
-        skips.len(),
-        even.len(),
-        odd.len(),
-        line.len(),
-        out.len(),
-        *held,
-    );
-    if refusal != 0 {
-        return refusal;
+    let mut room = Room {
+        pairs,
+        hops,
+        bounds,
+        skips,
+        even,
+        odd,
+    };
+    if let Err(refusal) =
+        c_values::step_refusal(&*words, &*links, &room, line.len(), out.len(), *held)
+    {
+        return refusal.number();
     }
     let rec = c_values::record_of(&*words);
     let progress = Progress {
-        rec: rec,
+        rec,
         lines: *lines,
         held: *held,
     };
-    let fed = stream::feed(
-        progress, links, pairs, hops, bounds, skips, even, odd, line, out, piece,
-    );
+    let fed = stream::feed(progress, links, &mut room, line, out, piece);
     let now = fed.progress;
     let after = now.rec;
     c_values::put_record(words, after);
@@ -93,31 +89,26 @@ pub extern "C" fn zorpedi_finish(
         links.new after line.now out.new in
         exit ≡ finish_out entry }
 {
-    let refusal = c_values::step_refusal(
-        &*words,
-        &*links,
-        &*pairs,
-        hops.len(),
-        bounds.len(),
-        skips.len(),
-        even.len(),
-        odd.len(),
-        line.len(),
-        out.len(),
-        *held,
-    );
-    if refusal != 0 {
-        return refusal;
+    let mut room = Room {
+        pairs,
+        hops,
+        bounds,
+        skips,
+        even,
+        odd,
+    };
+    if let Err(refusal) =
+        c_values::step_refusal(&*words, &*links, &room, line.len(), out.len(), *held)
+    {
+        return refusal.number();
     }
     let rec = c_values::record_of(&*words);
     let progress = Progress {
-        rec: rec,
+        rec,
         lines: *lines,
         held: *held,
     };
-    let fed = stream::finish(
-        progress, links, pairs, hops, bounds, skips, even, odd, line, out,
-    );
+    let fed = stream::finish(progress, links, &mut room, line, out);
     let now = fed.progress;
     let after = now.rec;
     c_values::put_record(words, after);

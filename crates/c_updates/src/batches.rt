@@ -3,7 +3,8 @@ ghost use Rattle.std.specs.Prelude.{◌≡◌};
 ghost use Rattle.map.specs.Slices.{lent_before, lent_after};
 ghost use Rattle.c_updates.specs.BatchOuts.{batch_out, batched_out};
 
-use batch_update::BatchAnswer;
+use map::Room;
+use outcome::Refusal;
 
 // Openings by up to 64 notice lines. 0, and how many lines are left over; or 1 (short), 2 (spoilt), 3 (apart), 11 (overfull), 12 (bare), 9 (garbled).
 #[unsafe(no_mangle)]
@@ -27,20 +28,24 @@ pub extern "C" fn zorpedi_open_batch(
         ≡ batch_out words.old links.old before left.old count.old asked }
 {
     if words.len() < c_values::RECORD_WORDS {
-        return outcome::SHORT;
+        return Refusal::Short.number();
     }
     let rec = c_values::record_of(&*words);
-    let got = batch_opening::open_batch(
-        rec, links, pairs, hops, bounds, skips, even, odd, left, lines,
-    );
-    let after = got.after;
-    let answer = got.answer;
-    match answer {
-        BatchAnswer::Opened(over) => {
+    let mut room = Room {
+        pairs,
+        hops,
+        bounds,
+        skips,
+        even,
+        odd,
+    };
+    match batch_opening::open_batch(rec, links, &mut room, left, lines) {
+        Ok(batched) => {
+            let after = batched.after;
             c_values::put_record(words, after);
-            *count = over;
+            *count = batched.left;
             0
         }
-        BatchAnswer::Refused(k) => k,
+        Err(refusal) => refusal.number(),
     }
 }

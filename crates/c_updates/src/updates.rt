@@ -1,12 +1,13 @@
 // The calls that open a depot or a yard and that link two.
 ghost use Rattle.std.specs.Prelude.{◌≡◌, true, false, ◌≤◌, length};
-ghost use Rattle.map.specs.Slices.{lent_before, lent_after};
+ghost use Rattle.map.specs.Slices.{lent_in, lent_before, lent_after, IsSameRoom};
 ghost use Rattle.graph.specs.Updates.{opens, joins};
 ghost use Rattle.graph.specs.Opening.{notice_of};
 ghost use Rattle.c_values.specs.Words.{record_words};
 ghost use Rattle.c_updates.specs.UpdateOuts.{handed, handed_by, update_out, updated_out};
 
-use outcome::Outcome;
+use map::Room;
+use outcome::{Outcome, Refusal};
 use update::Returned;
 
 // Hands what an update gave to its caller: the letter, and then record and number of searches are written; or the number of the refusal.
@@ -31,30 +32,24 @@ fn hand_over(words: &mut [u64], searches: &mut u16, got: Returned) -> u8
 fn open_depot(
     words: &mut [u64],
     links: &mut [u64],
-    pairs: &mut [u64],
-    hops: &mut [u16],
-    bounds: &mut [u16],
-    skips: &mut [u16],
-    even: &mut [u64],
-    odd: &mut [u64],
+    room: &mut Room<'_>,
     searches: &mut u16,
     yard: bool,
     code: u8,
     neighbours: &[u8],
 ) -> u8
-    ensures { let before = lent_before pairs hops bounds skips even odd in
-        let after = lent_after pairs hops bounds skips even odd in
+    ensures same { IsSameRoom room.old room.new }
+    ensures left { let before = lent_in room.old in
+        let after = lent_in room.new in
         let asked = opens (notice_of yard code neighbours.now) in
         updated_out result words.new searches.new links.new after
         ≡ update_out words.old links.old before asked searches.old }
 {
     if words.len() < c_values::RECORD_WORDS {
-        return outcome::SHORT;
+        return Refusal::Short.number();
     }
     let rec = c_values::record_of(&*words);
-    let got = opening::open_step(
-        rec, links, pairs, hops, bounds, skips, even, odd, yard, code, neighbours,
-    );
+    let got = opening::open_step(rec, links, room, yard, code, neighbours);
     hand_over(words, searches, got)
 }
 
@@ -79,9 +74,15 @@ pub extern "C" fn zorpedi_open(
         updated_out result words.new searches.new links.new after
         ≡ update_out words.old links.old before asked searches.old }
 {
-    open_depot(
-        words, links, pairs, hops, bounds, skips, even, odd, searches, false, code, neighbours,
-    )
+    let mut room = Room {
+        pairs,
+        hops,
+        bounds,
+        skips,
+        even,
+        odd,
+    };
+    open_depot(words, links, &mut room, searches, false, code, neighbours)
 }
 
 // The opening of a yard, which makes no chain grow. 75 (K, kept) or 83 (S, shrank), and the number of searches; or the number of the refusal.
@@ -105,9 +106,15 @@ pub extern "C" fn zorpedi_open_yard(
         updated_out result words.new searches.new links.new after
         ≡ update_out words.old links.old before asked searches.old }
 {
-    open_depot(
-        words, links, pairs, hops, bounds, skips, even, odd, searches, true, code, neighbours,
-    )
+    let mut room = Room {
+        pairs,
+        hops,
+        bounds,
+        skips,
+        even,
+        odd,
+    };
+    open_depot(words, links, &mut room, searches, true, code, neighbours)
 }
 
 // The link of two open depots. 75 (K, kept) or 83 (S, shrank), and the number of searches; or the number of the refusal.
@@ -132,11 +139,17 @@ pub extern "C" fn zorpedi_link(
         ≡ update_out words.old links.old before asked searches.old }
 {
     if words.len() < c_values::RECORD_WORDS {
-        return outcome::SHORT;
+        return Refusal::Short.number();
     }
     let rec = c_values::record_of(&*words);
-    let got = linking::link_step(
-        rec, links, pairs, hops, bounds, skips, even, odd, first, second,
-    );
+    let mut room = Room {
+        pairs,
+        hops,
+        bounds,
+        skips,
+        even,
+        odd,
+    };
+    let got = linking::link_step(rec, links, &mut room, first, second);
     hand_over(words, searches, got)
 }

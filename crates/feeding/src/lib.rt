@@ -25,20 +25,16 @@ fn answer(
     rt: &HostRuntime,
     progress: Progress,
     links: &mut [u64],
-    pairs: &mut [u64],
-    hops: &mut [u16],
-    bounds: &mut [u16],
-    skips: &mut [u16],
-    even: &mut [u64],
-    odd: &mut [u64],
+    room: &mut Room<'_>,
     line: &mut [u8],
     out: &mut [u8],
     piece: &[u8],
     name: &[u8],
     reporting: bool,
 ) -> Answered
-    requires { IsReady progress links.old (lent_at pairs hops bounds skips even odd) line.old }
-    ensures { IsReady result.progress links.new (lent_after pairs hops bounds skips even odd) line.new }
+    requires { IsReady progress links.old (lent_in room.old) line.old }
+    ensures same { IsSameRoom room.old room.new }
+    ensures left { IsReady result.progress links.new (lent_in room.new) line.new }
 {
     let mut now = progress;
     let mut at: usize = 0;
@@ -46,12 +42,7 @@ fn answer(
         let fed = stream::feed(
             now,
             links,
-            pairs,
-            hops,
-            bounds,
-            skips,
-            even,
-            odd,
+            room,
             line,
             out,
             &piece[at..],
@@ -96,12 +87,7 @@ pub fn answer_all<R: Read>(
     rt: &HostRuntime,
     progress: Progress,
     links: &mut [u64],
-    pairs: &mut [u64],
-    hops: &mut [u16],
-    bounds: &mut [u16],
-    skips: &mut [u16],
-    even: &mut [u64],
-    odd: &mut [u64],
+    room: &mut Room<'_>,
     line: &mut [u8],
     out: &mut [u8],
     input: &mut [u8],
@@ -109,8 +95,9 @@ pub fn answer_all<R: Read>(
     name: &[u8],
     reporting: bool,
 ) -> Ended
-    requires { IsReady progress links.old (lent_at pairs hops bounds skips even odd) line.old }
-    ensures { IsReady result.progress links.new (lent_after pairs hops bounds skips even odd) line.new }
+    requires { IsReady progress links.old (lent_in room.old) line.old }
+    ensures same { IsSameRoom room.old room.new }
+    ensures left { IsReady result.progress links.new (lent_in room.new) line.new }
 {
     let mut now = progress;
     let mut turns = u64::MAX;
@@ -136,12 +123,7 @@ pub fn answer_all<R: Read>(
             rt,
             now,
             links,
-            pairs,
-            hops,
-            bounds,
-            skips,
-            even,
-            odd,
+            room,
             line,
             out,
             &input[..n],

@@ -24,20 +24,16 @@ fn end(
     rt: &HostRuntime,
     progress: Progress,
     links: &mut [u64],
-    pairs: &mut [u64],
-    hops: &mut [u16],
-    bounds: &mut [u16],
-    skips: &mut [u16],
-    even: &mut [u64],
-    odd: &mut [u64],
+    room: &mut Room<'_>,
     line: &[u8],
     out: &mut [u8],
     failure: Option<io::Error>,
 )
-    requires { IsReady progress links.old (lent_at pairs hops bounds skips even odd) line.now }
+    requires { IsReady progress links.old (lent_in room.old) line.now }
+    ensures same { IsSameRoom room.old room.new }
 {
     let fed = stream::finish(
-        progress, links, pairs, hops, bounds, skips, even, odd, line, out,
+        progress, links, room, line, out,
     );
     let written = fed.written;
     let told = feeding::system::write_out(rt, &out[..written], b"follow: standard output");
@@ -49,29 +45,20 @@ fn follow(
     rt: &HostRuntime,
     progress: Progress,
     links: &mut [u64],
-    pairs: &mut [u64],
-    hops: &mut [u16],
-    bounds: &mut [u16],
-    skips: &mut [u16],
-    even: &mut [u64],
-    odd: &mut [u64],
+    room: &mut Room<'_>,
     line: &mut [u8],
     out: &mut [u8],
     input: &mut [u8],
 )
-    requires { IsReady progress links.old (lent_at pairs hops bounds skips even odd) line.old }
+    requires { IsReady progress links.old (lent_in room.old) line.old }
+    ensures same { IsSameRoom room.old room.new }
 {
     let mut from = rt.stdin();
     let ended = feeding::answer_all(
         rt,
         progress,
         links,
-        pairs,
-        hops,
-        bounds,
-        skips,
-        even,
-        odd,
+        room,
         line,
         out,
         input,
@@ -85,12 +72,7 @@ fn follow(
             rt,
             now,
             links,
-            pairs,
-            hops,
-            bounds,
-            skips,
-            even,
-            odd,
+            room,
             &*line,
             out,
             ended.failure,

@@ -4,7 +4,7 @@
 
 ghost use Rattle.std.specs.Prelude.{◌≡◌, ◌+◌, ◌≤◌, ◌<◌, length};
 ghost use Rattle.map.specs.Memory.{base, table_words};
-ghost use Rattle.map.specs.Slices.{lent_at, lent_before, lent_after, sizes_at};
+ghost use Rattle.map.specs.Slices.{lent_in, room_sizes, IsSameRoom};
 ghost use Rattle.notice.specs.Lines.{read_line};
 ghost use Rattle.report.specs.Line.{buffer_limit};
 ghost use Rattle.update.specs.UpdateCall.{update_left, update_call};
@@ -12,8 +12,8 @@ ghost use Rattle.update.specs.Steps.{map_refusal};
 ghost use Rattle.transcript.specs.Transcript.{lines_limit, update_in};
 ghost use Rattle.stream.specs.Feeding.{stream_begun, begin_call, answer_to, IsReady, feeding, took_line, feed_call, finish_call};
 
-use map::Record;
-use notice::Reading;
+use map::{Record, Room};
+use notice::Kind;
 use update::Returned;
 
 // How far a stream has come: the map's record, the lines answered, and the bytes that the line buffer holds of the next one.
@@ -34,14 +34,13 @@ pub struct Fed {
 
 // Begins a stream: the map is emptied, and no line is read.
 pub fn begin(links: &mut [u64], pairs: &mut [u64]) -> Progress
-    requires { (table_words base ≤ length links.old) × (table_words base ≤ length pairs.old) }
-    ensures { stream_begun result links.new pairs.new ≡ begin_call links.old pairs.old }
+    requires { (table_words base ≤ length links.old) × (table_words base ≤ length room.old.pairs.now) }
+    ensures { stream_begun result links.new pairs.new ≡ begin_call links.old room.old.pairs.now }
 {
     let none = map::empty_record();
-    let got = map::empty_map(none, links, pairs);
-    let rec = got.after;
+    let rec = map::empty_map(none, links, pairs).unwrap_or(none);
     Progress {
-        rec: rec,
+        rec,
         lines: 0,
         held: 0,
     }
@@ -53,18 +52,14 @@ pub fn begin(links: &mut [u64], pairs: &mut [u64]) -> Progress
 fn answer_frame(
     rec: Record,
     links: &mut [u64],
-    pairs: &mut [u64],
-    hops: &mut [u16],
-    bounds: &mut [u16],
-    skips: &mut [u16],
-    even: &mut [u64],
-    odd: &mut [u64],
+    room: &mut Room<'_>,
     frame: &[u8],
 ) -> Returned
-    requires { let long = sizes_at links.old pairs hops bounds skips even odd in
-        (map_refusal base rec links.old pairs.old long ≡ 0) × (3 ≤ length frame.now) }
-    ensures { let before = lent_before pairs hops bounds skips even odd in
-        let after = lent_after pairs hops bounds skips even odd in
+    requires { let long = room_sizes (length links.old) room.old in
+        (map_refusal base rec links.old room.old.pairs.now long ≡ 0) × (3 ≤ length frame.now) }
+    ensures same { IsSameRoom room.old room.new }
+    ensures left { let before = lent_in room.old in
+        let after = lent_in room.new in
         update_left result links.new after ≡ update_call base rec links.old before (update_in frame.now) }
 {
     let kind = frame[0];
@@ -74,12 +69,7 @@ fn answer_frame(
         return opening::open_sound(
             rec,
             links,
-            pairs,
-            hops,
-            bounds,
-            skips,
-            even,
-            odd,
+            room,
             yard,
             code,
             &frame[3..],
@@ -87,7 +77,7 @@ fn answer_frame(
     }
     let other = frame[2];
     linking::link_sound(
-        rec, links, pairs, hops, bounds, skips, even, odd, code, other,
+        rec, links, room, code, other,
     )
 }
 
@@ -95,18 +85,14 @@ fn answer_frame(
 fn answer_line(
     rec: Record,
     links: &mut [u64],
-    pairs: &mut [u64],
-    hops: &mut [u16],
-    bounds: &mut [u16],
-    skips: &mut [u16],
-    even: &mut [u64],
-    odd: &mut [u64],
+    room: &mut Room<'_>,
     text: &[u8],
 ) -> Returned
-    requires { let long = sizes_at links.old pairs hops bounds skips even odd in
-        map_refusal base rec links.old pairs.old long ≡ 0 }
-    ensures { let before = lent_before pairs hops bounds skips even odd in
-        let after = lent_after pairs hops bounds skips even odd in
+    requires { let long = room_sizes (length links.old) room.old in
+        map_refusal base rec links.old room.old.pairs.now long ≡ 0 }
+    ensures same { IsSameRoom room.old room.new }
+    ensures left { let before = lent_in room.old in
+        let after = lent_in room.new in
         update_left result links.new after ≡ answer_to (read_line text.now) rec links.old before }
 {
     let mut frame = [0u8; notice::FRAME_LIMIT];
@@ -115,12 +101,7 @@ fn answer_line(
         Reading::Frame(n, _) => answer_frame(
             rec,
             links,
-            pairs,
-            hops,
-            bounds,
-            skips,
-            even,
-            odd,
+            room,
             &frame[..n],
         ),
         Reading::Refused(k) => update::refused(rec, k),
@@ -131,22 +112,18 @@ fn answer_line(
 fn take_line(
     fed: Fed,
     links: &mut [u64],
-    pairs: &mut [u64],
-    hops: &mut [u16],
-    bounds: &mut [u16],
-    skips: &mut [u16],
-    even: &mut [u64],
-    odd: &mut [u64],
+    room: &mut Room<'_>,
     line: &[u8],
     out: &mut [u8],
 ) -> Fed
-    requires { let long = sizes_at links.old pairs hops bounds skips even odd in
-        (map_refusal base fed.progress.rec links.old pairs.old long ≡ 0)
+    requires { let long = room_sizes (length links.old) room.old in
+        (map_refusal base fed.progress.rec links.old room.old.pairs.now long ≡ 0)
         × (fed.progress.held ≤ length line.now)
         × (fed.progress.lines < lines_limit)
         × (fed.written + buffer_limit ≤ length out.old) }
-    ensures { let before = lent_before pairs hops bounds skips even odd in
-        let after = lent_after pairs hops bounds skips even odd in
+    ensures same { IsSameRoom room.old room.new }
+    ensures left { let before = lent_in room.old in
+        let after = lent_in room.new in
         let entry = feeding fed links.old before line.now out.old in
         let exit = feeding result links.new after line.now out.new in
         (exit ≡ took_line entry)
@@ -158,12 +135,7 @@ fn take_line(
     let got = answer_line(
         rec,
         links,
-        pairs,
-        hops,
-        bounds,
-        skips,
-        even,
-        odd,
+        room,
         &line[..held],
     );
     let number = before.lines + 1;
@@ -188,19 +160,15 @@ fn take_line(
 pub fn feed(
     progress: Progress,
     links: &mut [u64],
-    pairs: &mut [u64],
-    hops: &mut [u16],
-    bounds: &mut [u16],
-    skips: &mut [u16],
-    even: &mut [u64],
-    odd: &mut [u64],
+    room: &mut Room<'_>,
     line: &mut [u8],
     out: &mut [u8],
     piece: &[u8],
 ) -> Fed
-    requires { IsReady progress links.old (lent_at pairs hops bounds skips even odd) line.old }
-    ensures { let before = lent_before pairs hops bounds skips even odd in
-        let after = lent_after pairs hops bounds skips even odd in
+    requires { IsReady progress links.old (lent_in room.old) line.old }
+    ensures same { IsSameRoom room.old room.new }
+    ensures left { let before = lent_in room.old in
+        let after = lent_in room.new in
         let exit = feeding result links.new after line.new out.new in
         (exit ≡ feed_call progress links.old before line.old out.old piece.now)
         × IsReady result.progress links.new after line.new
@@ -233,7 +201,7 @@ pub fn feed(
             return kept;
         }
         now = take_line(
-            kept, links, pairs, hops, bounds, skips, even, odd, &*line, out,
+            kept, links, room, &*line, out,
         );
     }
     now
@@ -243,18 +211,14 @@ pub fn feed(
 pub fn finish(
     progress: Progress,
     links: &mut [u64],
-    pairs: &mut [u64],
-    hops: &mut [u16],
-    bounds: &mut [u16],
-    skips: &mut [u16],
-    even: &mut [u64],
-    odd: &mut [u64],
+    room: &mut Room<'_>,
     line: &[u8],
     out: &mut [u8],
 ) -> Fed
-    requires { IsReady progress links.old (lent_at pairs hops bounds skips even odd) line.now }
-    ensures { let before = lent_before pairs hops bounds skips even odd in
-        let after = lent_after pairs hops bounds skips even odd in
+    requires { IsReady progress links.old (lent_in room.old) line.now }
+    ensures same { IsSameRoom room.old room.new }
+    ensures left { let before = lent_in room.old in
+        let after = lent_in room.new in
         let exit = feeding result links.new after line.now out.new in
         (exit ≡ finish_call progress links.old before line.now out.old)
         × (result.written ≤ length out.new) }
@@ -270,5 +234,5 @@ pub fn finish(
     if line_buffer::is_stopped(progress.lines, 0, out.len()) {
         return fed;
     }
-    take_line(fed, links, pairs, hops, bounds, skips, even, odd, line, out)
+    take_line(fed, links, room, line, out)
 }

@@ -12,8 +12,7 @@ use Rattle.decimal.specs.Placed.{Placed}
 use Rattle.decimal.proofs.Decimals.{decimal_long}
 use Rattle.decimal.proofs.Places.{placed_byte, placed_join, placed_text}
 use Rattle.decimal.proofs.Numbers.{field-length}
-use Rattle.summary.specs.declared.Summing.{Summing}
-use Rattle.summary.specs.declared.Summing.TheVariants.{Summed, Refused}
+use Rattle.summary.specs.SummaryCall.{Summing, Summed, Refused}
 use Rattle.summaries.specs.declared.Totals.{Totals}
 use Rattle.summaries.specs.Run.{summing_text, with_file, total_of, total_line}
 use Rattle.line_buffer.specs.Lines.{pasted}
@@ -35,7 +34,7 @@ pub refusal_placed : (n at : ℕ) (out : List ℕ) {end : ℕ} {new : List ℕ} 
 unfolding summing_text
 refusal_placed n at out {end} {new} w h l = placed_join (placed_join (placed_byte at out 82 h) w (omega arith)) (placed_byte end new 10 l) (omega arith)
 
-pub answer_placed : {a b : Summing} {at end : ℕ} {out new : List ℕ} → a ≡ b → Placed (summing_text b) at out end new → Placed (summing_text a) at out end new
+answer_placed : {a b : Summing} {at end : ℕ} {out new : List ℕ} → a ≡ b → Placed (summing_text b) at out end new → Placed (summing_text a) at out end new
 answer_placed e w = placed_text w (ap summing_text (sym e))
 
 -- ---- the totals

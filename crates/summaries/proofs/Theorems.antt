@@ -22,10 +22,8 @@ use Rattle.map.specs.declared.Record.{Record}
 use Rattle.map.proofs.Theorems.{base_shape, network_most}
 use Rattle.line_buffer.specs.Lines.{pasted}
 use Rattle.decimal.proofs.Decimals.{decimal_long, decimal_byte}
-use Rattle.summary.specs.SummaryCall.{summary_refusal, SummaryLeft, summary_left, summary_given, summary_call}
+use Rattle.summary.specs.SummaryCall.{summary_refusal, Summing, Summed, Refused, SummaryLeft, summary_left, summary_given, summary_call}
 use Rattle.summary.proofs.Accepts.{granted}
-use Rattle.summary.specs.declared.Summing.{Summing}
-use Rattle.summary.specs.declared.Summing.TheVariants.{Summed, Refused}
 use Rattle.summaries.specs.declared.Totals.{Totals}
 use Rattle.summaries.specs.Run.{room, no_totals, summing_text, with_file, totals_from, total_line, file_lines, run_text}
 use Rattle.summaries.specs.declared.FilePut.{FilePut}

@@ -27,9 +27,7 @@ use Rattle.transcript.specs.Transcript.{network_in}
 use Rattle.stream.specs.Pieces.{Standing, stands_after}
 use Rattle.stream.proofs.Runs.{pasted_read}
 use Rattle.stream.proofs.Theorems.{IsMapOf, pieces_network}
-use Rattle.summary.specs.SummaryCall.{summary_refusal, summary_given, summary_call}
-use Rattle.summary.specs.declared.Summing.{Summing}
-use Rattle.summary.specs.declared.Summing.TheVariants.{Summed, Refused}
+use Rattle.summary.specs.SummaryCall.{summary_refusal, Summing, Summed, Refused, summary_given, summary_call}
 use Rattle.summaries.specs.declared.Totals.{Totals}
 use Rattle.summaries.specs.Run.{files_limit, no_totals, summing_of, summing_text, file_line, with_file, totals_from, total_line, file_lines, run_text}
 use Rattle.summaries.specs.Calls.{file_call, total_call}

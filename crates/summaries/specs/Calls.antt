@@ -1,11 +1,18 @@
 -- THE LINES OF A RUN in lent memory: each call whole, its answer and the bytes that it leaves. Assumes nothing.
-use Rattle.std.specs.Prelude.{List, ℕ, ◌+◌, ◌*◌, ◌≤◌, length}
+use Rattle.std.specs.Prelude.{List, ℕ, ◌+◌, ◌*◌, ◌≤◌, length, Result, Ok, Err}
 use Rattle.line_buffer.specs.Lines.{pasted}
-use Rattle.summary.specs.declared.Summing.{Summing}
-use Rattle.summary.specs.declared.Summing.TheVariants.{Summed, Refused}
+use Rattle.summary.specs.SummaryCall.{Summing, Summed, Refused}
+use Rattle.summary.specs.declared.Summary.{Summary}
 use Rattle.summaries.specs.Run.{summing_text, with_file, total_line}
 use Rattle.summaries.specs.declared.Totals.{Totals}
 use Rattle.summaries.specs.declared.FilePut.{FilePut}
+
+-- ---- the answer of a file
+
+-- as a call is passed it: the values of a report, or any number of eight bits
+abbrev pub answered : Result Summary ℕ → Summing
+answered (Ok s) = Summed s.sum s.pairs s.quotient s.remainder
+answered (Err n) = Refused n
 
 -- ---- how great the numbers are
 

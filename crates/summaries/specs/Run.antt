@@ -7,8 +7,7 @@ use Rattle.graph.specs.Chart.{chart, destinations}
 use Rattle.graph.specs.Summary.{distance_sum, pair_number}
 use Rattle.decimal.specs.Decimal.{decimal, field}
 use Rattle.transcript.specs.Transcript.{network_in}
-use Rattle.summary.specs.declared.Summing.{Summing}
-use Rattle.summary.specs.declared.Summing.TheVariants.{Summed, Refused}
+use Rattle.summary.specs.SummaryCall.{Summing, Summed, Refused}
 use Rattle.summaries.specs.declared.Totals.{Totals}
 
 -- the most files that are read

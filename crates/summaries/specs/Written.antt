@@ -5,8 +5,7 @@ use Rattle.std.specs.Prelude.{◌≡◌, ℕ, ◌≤◌, length, take}
 use mathlib.Core.List.{List, [], ◌∷◌, ◌++◌, map, Memᴰ}
 use Rattle.map.specs.Memory.{base, places}
 use Rattle.stream.specs.Pieces.{Standing, Turn, stands_after, used_by, HasBegun}
-use Rattle.summary.specs.SummaryCall.{summary_call}
-use Rattle.summary.specs.declared.Summing.{Summing}
+use Rattle.summary.specs.SummaryCall.{Summing, summary_call}
 use Rattle.summaries.specs.Run.{files_limit, no_totals, run_text}
 use Rattle.summaries.specs.Calls.{file_call, total_call}
 use Rattle.summaries.specs.declared.Totals.{Totals}

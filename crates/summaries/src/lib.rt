@@ -2,13 +2,13 @@
 
 #![tactic(auto)]
 
-ghost use Rattle.std.specs.Prelude.{◌≡◌, ◌+◌, ◌-◌, ◌≤◌, ◌<◌, min, length};
+ghost use Rattle.std.specs.Prelude.{◌≡◌, ◌+◌, ◌-◌, ◌≤◌, ◌<◌, min, length, Ok};
 ghost use Rattle.decimal.specs.Placed.{Placed};
-ghost use Rattle.summary.specs.declared.Summing.TheVariants.{Summed, Refused};
+ghost use Rattle.summary.specs.SummaryCall.{Refused};
 ghost use Rattle.summaries.specs.Run.{room, files_limit, summing_text, with_file, total_of};
-ghost use Rattle.summaries.specs.Calls.{IsOfFile, AreOfFiles, file_left, file_call, total_left, total_call};
+ghost use Rattle.summaries.specs.Calls.{answered, IsOfFile, AreOfFiles, file_left, file_call, total_left, total_call};
 
-use summary::Summing;
+use summary::Summary;
 
 // the bytes that a line is lent; in specifications `room`
 pub const ROOM: usize = 84;
@@ -46,22 +46,15 @@ pub fn files_read(arguments: usize) -> u32
 
 // ---- a line
 
-// Puts four numbers and the line's end at a place.
-fn put_numbers(
-    out: &mut [u8],
-    at: usize,
-    sum: u64,
-    pairs: u64,
-    quotient: u64,
-    remainder: u64,
-) -> usize
+// Puts the four numbers of a report and the line's end at a place.
+fn put_numbers(out: &mut [u8], at: usize, numbers: Summary) -> usize
     requires { at + room ≤ length out.old }
-    ensures { Placed (summing_text (Summed sum pairs quotient remainder)) at out.old result out.new }
+    ensures { Placed (summing_text (answered (Ok numbers))) at out.old result out.new }
 {
-    let a = decimal::put_number(out, at, sum);
-    let b = decimal::put_field(out, a, pairs);
-    let c = decimal::put_field(out, b, quotient);
-    let d = decimal::put_field(out, c, remainder);
+    let a = decimal::put_number(out, at, numbers.sum);
+    let b = decimal::put_field(out, a, numbers.pairs);
+    let c = decimal::put_field(out, b, numbers.quotient);
+    let d = decimal::put_field(out, c, numbers.remainder);
     out[d] = 10;
     d + 1
 }
@@ -78,30 +71,30 @@ fn put_refusal(out: &mut [u8], at: usize, n: u8) -> usize
 }
 
 // Puts the line of an answer at a place.
-fn put_answer(out: &mut [u8], at: usize, answer: Summing) -> usize
+fn put_answer(out: &mut [u8], at: usize, answer: Result<Summary, u8>) -> usize
     requires { at + room ≤ length out.old }
-    ensures { Placed (summing_text answer) at out.old result out.new }
+    ensures { Placed (summing_text (answered answer)) at out.old result out.new }
 {
     match answer {
-        Summing::Summed(s, p, q, r) => put_numbers(out, at, s, p, q, r),
-        Summing::Refused(n) => put_refusal(out, at, n),
+        Ok(numbers) => put_numbers(out, at, numbers),
+        Err(n) => put_refusal(out, at, n),
     }
 }
 
 // ---- the totals
 
 // The totals with one file more. A refused map adds nothing.
-fn with_file(totals: Totals, answer: Summing) -> Totals
-    requires { AreOfFiles totals × IsOfFile answer × (totals.files < files_limit) }
-    ensures { result ≡ with_file answer totals }
+fn with_file(totals: Totals, answer: Result<Summary, u8>) -> Totals
+    requires { AreOfFiles totals × IsOfFile (answered answer) × (totals.files < files_limit) }
+    ensures { result ≡ with_file (answered answer) totals }
 {
     match answer {
-        Summing::Summed(s, p, _, _) => Totals {
-            sum: totals.sum + s,
-            pairs: totals.pairs + p,
+        Ok(numbers) => Totals {
+            sum: totals.sum + numbers.sum,
+            pairs: totals.pairs + numbers.pairs,
             files: totals.files + 1,
         },
-        Summing::Refused(_) => Totals {
+        Err(_) => Totals {
             sum: totals.sum,
             pairs: totals.pairs,
             files: totals.files + 1,
@@ -109,27 +102,33 @@ fn with_file(totals: Totals, answer: Summing) -> Totals
     }
 }
 
-// The totals as an answer: the mean of all pairs, 0 and 0 where there are none.
-fn total_of(totals: Totals) -> Summing
-    ensures { result ≡ total_of totals }
+// The totals as the numbers of a report: the mean of all pairs, 0 and 0 where there are none.
+fn total_of(totals: Totals) -> Summary
+    ensures { answered (Ok result) ≡ total_of totals }
 {
     if totals.pairs == 0 {
-        return Summing::Summed(totals.sum, 0, 0, 0);
+        return Summary {
+            sum: totals.sum,
+            pairs: 0,
+            quotient: 0,
+            remainder: 0,
+        };
     }
-    Summing::Summed(
-        totals.sum,
-        totals.pairs,
-        totals.sum / totals.pairs,
-        totals.sum % totals.pairs,
-    )
+    Summary {
+        sum: totals.sum,
+        pairs: totals.pairs,
+        quotient: totals.sum / totals.pairs,
+        remainder: totals.sum % totals.pairs,
+    }
 }
 
 // ---- the lines of a run
 
-// Writes the line of a file's answer behind what is written, and adds the file to the totals.
-pub fn put_file(out: &mut [u8], at: usize, totals: Totals, answer: Summing) -> FilePut
-    requires { (at + room ≤ length out.old) × AreOfFiles totals × IsOfFile answer × (totals.files < files_limit) }
-    ensures { file_left result out.new ≡ file_call totals answer at out.old }
+// Writes the line of a file's answer behind what is written, and adds the file to the totals. The answer is a report, or any number of eight bits, not one
+// of a `Refusal` alone: a line shows any.
+pub fn put_file(out: &mut [u8], at: usize, totals: Totals, answer: Result<Summary, u8>) -> FilePut
+    requires { (at + room ≤ length out.old) × AreOfFiles totals × IsOfFile (answered answer) × (totals.files < files_limit) }
+    ensures { file_left result out.new ≡ file_call totals (answered answer) at out.old }
 {
     let next = with_file(totals, answer);
     let end = put_answer(out, at, answer);
@@ -144,6 +143,5 @@ pub fn put_total(out: &mut [u8], at: usize, totals: Totals) -> usize
     requires { at + room ≤ length out.old }
     ensures { total_left result out.new ≡ total_call totals at out.old }
 {
-    let answer = total_of(totals);
-    put_answer(out, at, answer)
+    put_numbers(out, at, total_of(totals))
 }

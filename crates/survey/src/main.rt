@@ -18,19 +18,15 @@ fn follow_file(
     rt: &HostRuntime,
     progress: Progress,
     links: &mut [u64],
-    pairs: &mut [u64],
-    hops: &mut [u16],
-    bounds: &mut [u16],
-    skips: &mut [u16],
-    even: &mut [u64],
-    odd: &mut [u64],
+    room: &mut Room<'_>,
     line: &mut [u8],
     out: &mut [u8],
     input: &mut [u8],
     i: usize,
 ) -> Progress
-    requires { IsReady progress links.old (lent_at pairs hops bounds skips even odd) line.old }
-    ensures { IsReady result links.new (lent_after pairs hops bounds skips even odd) line.new }
+    requires { IsReady progress links.old (lent_in room.old) line.old }
+    ensures same { IsSameRoom room.old room.new }
+    ensures left { IsReady result links.new (lent_in room.new) line.new }
 {
     let mut name = [0u8; files::NAME_LIMIT];
     let opened = files::open_argument(rt, &mut name, i);
@@ -42,12 +38,7 @@ fn follow_file(
         rt,
         progress,
         links,
-        pairs,
-        hops,
-        bounds,
-        skips,
-        even,
-        odd,
+        room,
         line,
         out,
         input,

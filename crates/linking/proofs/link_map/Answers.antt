@@ -27,11 +27,11 @@ relink_codes-got-requires c =
     let lent = are_long_lem base _ (granted_long base base_shape _ _ _ _ _ c.requires) in (
       search rules,
       relinkable base base_shape _ _ _ _ _ _ _ _ _ _ c.requires _ c.link_codes.ensures _ (omega arith)
-          (omega arith) c.keep_targets.ensures.0,
+          (omega arith) c.keep_targets.ensures.kept,
     )
 
-pub returns : goal.returns
-returns c =
+pub returns-clause-left : goal.returns-clause-left
+returns-clause-left c =
     joined_is base base_shape _ _ _ _ _ _ _ _ _ _ c.requires _ c.link_codes.ensures _ (omega arith)
-    (omega arith) c.keep_targets.ensures.0
-    c.relink_codes-got.ensures.1 c.keep_targets.ensures.1 _ _ c.relink_codes-got.ensures.0
+    (omega arith) c.keep_targets.ensures.kept
+    c.keep_targets.ensures.members c.keep_targets.ensures.yards _ _ c.relink_codes-got.ensures.left

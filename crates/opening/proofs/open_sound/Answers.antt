@@ -18,8 +18,8 @@ notice_refusal-requires c = (omega arith, omega arith, omega (arith, slice_bound
 pub returns-in-Err-clause-left : goal.returns-in-Err-clause-left
 returns-in-Err-clause-left c =
     refused_call base _ _ _ _ _ _ _ _ _ _ _ c.refused.ensures
-    (c.in-Err.ensures ∙ ap first_of (faults_any _ _ _ _ _ _ _)
-    ∙ refused_by_notice base _ _ _ _ _ (sym c.requires)) (refuses _)
+    (c.number.ensures ∙ c.in-Err.ensures ∙ ap first_of (faults_any _ _ _ _ _ _ _)
+    ∙ refused_by_notice base _ _ _ _ _ (sym c.requires)) (λ z. refuses _ (sym c.number.ensures ∙ z))
 
 pub open_map-requires : goal.open_map-requires
 open_map-requires c =

@@ -1,8 +1,7 @@
 -- `summaries::put_numbers` meets its contract: the four numbers and the line's end, each behind the one before it. 84 bytes hold them.
-use mathlib.Core.Path.{◌∙◌}
 use Prim.Native.Nat.{◌≤◌}
 use native.Mathlib.Omega.{arith}
-use lib.ListN.{length, length-set}
+use lib.ListN.{length}
 use borrow.Author.Rules.{rules}
 use Rattle.decimal.specs.Decimal.{decimal, field}
 use Rattle.decimal.proofs.Decimals.{decimal_long}
@@ -11,17 +10,17 @@ use Rattle.summaries.proofs.put_numbers.Goals as goal
 use Rattle.summaries.proofs.put_numbers.Goals.{Start}
 
 -- the numbers have their widths
-sum_fits : (c : Start) → length (decimal c.args.sum) ≤ 20
-sum_fits c = decimal_long c.args.sum (search rules)
+sum_fits : (c : Start) → length (decimal c.args.numbers.sum) ≤ 20
+sum_fits c = decimal_long c.args.numbers.sum (search rules)
 
-pairs-fit : (c : Start) → length (field (decimal c.args.pairs)) ≤ 21
-pairs-fit c = field_most c.args.pairs (search rules)
+pairs-fit : (c : Start) → length (field (decimal c.args.numbers.pairs)) ≤ 21
+pairs-fit c = field_most c.args.numbers.pairs (search rules)
 
-quotient_fits : (c : Start) → length (field (decimal c.args.quotient)) ≤ 21
-quotient_fits c = field_most c.args.quotient (search rules)
+quotient_fits : (c : Start) → length (field (decimal c.args.numbers.quotient)) ≤ 21
+quotient_fits c = field_most c.args.numbers.quotient (search rules)
 
-remainder-fits : (c : Start) → length (field (decimal c.args.remainder)) ≤ 21
-remainder-fits c = field_most c.args.remainder (search rules)
+remainder-fits : (c : Start) → length (field (decimal c.args.numbers.remainder)) ≤ 21
+remainder-fits c = field_most c.args.numbers.remainder (search rules)
 
 pub put_number-a-requires : goal.put_number-a-requires
 put_number-a-requires c =
@@ -59,24 +58,6 @@ bounds-out-d c =
       quotient_fits (goal.at.bounds-out-d c).Start,
       remainder-fits (goal.at.bounds-out-d c).Start,
     )
-
-pub overflow_add-result : goal.overflow_add-result
-overflow_add-result c =
-    omega (
-      arith,
-      sum_fits (goal.at.overflow_add-result c).Start,
-      pairs-fit (goal.at.overflow_add-result c).Start,
-      quotient_fits (goal.at.overflow_add-result c).Start,
-      remainder-fits (goal.at.overflow_add-result c).Start,
-    )
-
-pub shape_of-out : goal.shape_of-out
-shape_of-out c =
-    simp length-set
-    (c.put_field-d.auto.line
-    ∙ c.put_field-c.auto.line
-    ∙ c.put_field-b.auto.line
-    ∙ c.put_number-a.auto.line)
 
 pub returns : goal.returns
 returns c =

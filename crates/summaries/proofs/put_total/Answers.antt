@@ -4,4 +4,4 @@ use Rattle.summaries.proofs.put_total.Goals as goal
 
 pub returns : goal.returns
 returns c =
-    total_put _ c.total_of-answer.ensures c.put_answer.ensures
+    total_put _ c.total_of.ensures c.put_numbers.ensures
