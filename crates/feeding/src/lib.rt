@@ -3,146 +3,97 @@
 // large pieces.
 #![tactic(auto)]
 
-ghost use Rattle.map.specs.Slices.{lent_at, lent_after};
+ghost use Rattle.map.specs.Slices.{lent_in, IsSameRoom};
 ghost use Rattle.stream.specs.Feeding.{IsReady};
 
 pub mod system;
 
+use map::Room;
 use std::io;
 use std::io::Read;
 use stream::Progress;
 
-// Where an input stands: the stream's progress, and whether to go on.
-#[derive(Clone, Copy)]
-struct Answered {
-    progress: Progress,
-    going: bool,
-}
-
-// Answers a piece; the reports, if they are wanted, are written to standard output as the buffer fills. It goes on unless a write failed, or the stream has had
-// its lines: then nothing more is read. The name is what a failing write is said of.
-fn answer(
-    rt: &HostRuntime,
-    progress: Progress,
+// Answers a piece, and hands the reports on as the buffer fills. Whether to go on: not if they could not be handed on, or the stream has had its lines; then
+// nothing more is read.
+fn answer<W: Fn(&[u8]) -> bool>(
+    progress: &mut Progress,
     links: &mut [u64],
     room: &mut Room<'_>,
     line: &mut [u8],
     out: &mut [u8],
     piece: &[u8],
-    name: &[u8],
-    reporting: bool,
-) -> Answered
-    requires { IsReady progress links.old (lent_in room.old) line.old }
+    report: &W,
+) -> bool
+    requires { IsReady progress.old links.old (lent_in room.old) line.old × W.IsAlwaysCallable report.now }
     ensures same { IsSameRoom room.old room.new }
-    ensures left { IsReady result.progress links.new (lent_in room.new) line.new }
+    ensures left { IsReady progress.new links.new (lent_in room.new) line.new }
 {
-    let mut now = progress;
-    let mut at: usize = 0;
-    while at < piece.len() {
-        let fed = stream::feed(
-            now,
-            links,
-            room,
-            line,
-            out,
-            &piece[at..],
-        );
-        now = fed.progress;
-        let written = fed.written;
-        let used = fed.used;
-        if reporting {
-            if !system::write_out(rt, &out[..written], name) {
-                return Answered {
-                    progress: now,
-                    going: false,
-                };
-            }
+    let mut rest = piece;
+    while !rest.is_empty() {
+        let fed = stream::feed(*progress, links, room, line, out, rest);
+        *progress = fed.progress;
+        if !report(&out[..fed.written]) || fed.used == 0 {
+            return false;
         }
-        if used == 0 {
-            return Answered {
-                progress: now,
-                going: false,
-            };
-        }
-        at += used;
+        rest = &rest[fed.used..];
     }
-    let stopped = line_buffer::is_stopped(now.lines, 0, out.len());
-    Answered {
-        progress: now,
-        going: !stopped,
-    }
+    !line_buffer::is_stopped(progress.lines, 0, out.len())
 }
 
-// How the input ended: the stream's progress, whether what it holds of a last line is to be reported, and why a read failed, if it did.
+// How the reading of an input came to its end: nothing more was to be read, the input is whole, or a read failed.
+#[derive(Clone, Copy)]
+pub enum Ending {
+    Stopped,
+    Whole,
+    Failed(io::Error),
+}
+
+// How the input ended, and the stream's progress: what it holds of a last line is to be reported unless the reading was stopped.
 #[derive(Clone, Copy)]
 pub struct Ended {
     pub progress: Progress,
-    pub finishing: bool,
-    pub failure: Option<io::Error>,
+    pub ending: Ending,
 }
 
-// Answers an input to its end. A proved loop has to end, and nothing says that the input does: so the loop counts its turns down, from a
-// number that no run uses up.
-pub fn answer_all<R: Read>(
-    rt: &HostRuntime,
-    progress: Progress,
+// Answers an input to its end. A proved loop has to end, and nothing says that the input does: so the loop counts its turns, up to a
+// number that no run comes to.
+pub fn answer_all<R: Read, W: Fn(&[u8]) -> bool>(
+    begun: Progress,
     links: &mut [u64],
     room: &mut Room<'_>,
     line: &mut [u8],
     out: &mut [u8],
     input: &mut [u8],
     from: &mut R,
-    name: &[u8],
-    reporting: bool,
+    report: &W,
 ) -> Ended
-    requires { IsReady progress links.old (lent_in room.old) line.old }
+    requires { IsReady begun links.old (lent_in room.old) line.old × W.IsAlwaysCallable report.now }
     ensures same { IsSameRoom room.old room.new }
     ensures left { IsReady result.progress links.new (lent_in room.new) line.new }
 {
-    let mut now = progress;
-    let mut turns = u64::MAX;
-    while turns > 0 {
+    let mut progress = begun;
+    for _ in 0..u64::MAX {
         let n = match system::read_some(input, from) {
             Ok(n) => n,
             Err(why) => {
                 return Ended {
-                    progress: now,
-                    finishing: true,
-                    failure: Some(why),
+                    progress,
+                    ending: Ending::Failed(why),
                 };
             }
         };
         if n == 0 {
+            break;
+        }
+        if !answer(&mut progress, links, room, line, out, &input[..n], report) {
             return Ended {
-                progress: now,
-                finishing: true,
-                failure: None,
+                progress,
+                ending: Ending::Stopped,
             };
         }
-        let answered = answer(
-            rt,
-            now,
-            links,
-            room,
-            line,
-            out,
-            &input[..n],
-            name,
-            reporting,
-        );
-        now = answered.progress;
-        if !answered.going {
-            return Ended {
-                progress: now,
-                finishing: false,
-                failure: None,
-            };
-        }
-        turns -= 1;
     }
     Ended {
-        progress: now,
-        finishing: true,
-        failure: None,
+        progress,
+        ending: Ending::Whole,
     }
 }

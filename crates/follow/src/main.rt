@@ -1,46 +1,17 @@
 // The program: notice lines from standard input, a report line for each to standard output. A read or write that fails is said on standard error.
 #![tactic(auto)]
 
-ghost use Rattle.map.specs.Slices.{lent_at};
+ghost use Rattle.map.specs.Slices.{lent_in};
 ghost use Rattle.stream.specs.Feeding.{IsReady};
 
 mod usage;
 
+use feeding::{Ending, system};
+use map::Room;
 use std::env::{Env, FillError};
-use std::io;
 use stream::Progress;
 
-// Says that a read failed, if it did, and why. Where the reports before it could not be written, that has been said instead.
-fn say_read(rt: &HostRuntime, told: bool, failure: Option<io::Error>) {
-    if told {
-        if let Some(why) = failure {
-            feeding::system::say(rt, b"follow: standard input", why);
-        }
-    }
-}
-
-// Reports a last stretch without an ending, and says then that a read failed, if it did.
-fn end(
-    rt: &HostRuntime,
-    progress: Progress,
-    links: &mut [u64],
-    room: &mut Room<'_>,
-    line: &[u8],
-    out: &mut [u8],
-    failure: Option<io::Error>,
-)
-    requires { IsReady progress links.old (lent_in room.old) line.now }
-    ensures same { IsSameRoom room.old room.new }
-{
-    let fed = stream::finish(
-        progress, links, room, line, out,
-    );
-    let written = fed.written;
-    let told = feeding::system::write_out(rt, &out[..written], b"follow: standard output");
-    say_read(rt, told, failure);
-}
-
-// Follows standard input.
+// Follows standard input. A last stretch without an ending is reported too; that a read failed is said then, where the reports before it could be written.
 fn follow(
     rt: &HostRuntime,
     progress: Progress,
@@ -51,41 +22,24 @@ fn follow(
     input: &mut [u8],
 )
     requires { IsReady progress links.old (lent_in room.old) line.old }
-    ensures same { IsSameRoom room.old room.new }
 {
+    let report = |reports: &[u8]| system::write_out(rt, reports, b"follow: standard output");
     let mut from = rt.stdin();
-    let ended = feeding::answer_all(
-        rt,
-        progress,
-        links,
-        room,
-        line,
-        out,
-        input,
-        &mut from,
-        b"follow: standard output",
-        true,
-    );
-    if ended.finishing {
-        let now = ended.progress;
-        end(
-            rt,
-            now,
-            links,
-            room,
-            &*line,
-            out,
-            ended.failure,
-        );
+    let ended = feeding::answer_all(progress, links, room, line, out, input, &mut from, &report);
+    if let Ending::Stopped = ended.ending {
+        return;
+    }
+    let fed = stream::finish(ended.progress, links, room, &*line, out);
+    if report(&out[..fed.written])
+        && let Ending::Failed(why) = ended.ending
+    {
+        system::say(rt, b"follow: standard input", why);
     }
 }
 
 // Whether there is an argument behind the program's name, whatever it is.
 fn has_argument(rt: &impl Env) -> bool {
-    match rt.arg(1, &mut []) {
-        Err(FillError::NotPresent) => false,
-        _ => true,
-    }
+    !matches!(rt.arg(1, &mut []), Err(FillError::NotPresent))
 }
 
 fn main(rt: HostRuntime) {
@@ -104,18 +58,15 @@ fn main(rt: HostRuntime) {
     let mut out = [0u8; 65536];
     let mut input = [0u8; 65536];
     let progress = stream::begin(&mut links, &mut pairs);
+    let mut room = Room {
+        pairs: &mut pairs,
+        hops: &mut hops,
+        bounds: &mut bounds,
+        skips: &mut skips,
+        even: &mut even,
+        odd: &mut odd,
+    };
     follow(
-        &rt,
-        progress,
-        &mut links,
-        &mut pairs,
-        &mut hops,
-        &mut bounds,
-        &mut skips,
-        &mut even,
-        &mut odd,
-        &mut line,
-        &mut out,
-        &mut input,
+        &rt, progress, &mut links, &mut room, &mut line, &mut out, &mut input,
     );
 }

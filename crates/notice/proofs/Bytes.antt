@@ -3,14 +3,21 @@ use mathlib.Core.Path.{◌≡◌, sym, ap, ◌∙◌}
 use mathlib.Core.Logic.{◌⊎◌, inl, inr}
 use mathlib.Core.Bool.{Bool, true, false}
 use Prim.Native.Nat.{ℕ, ◌+◌}
+use lib.Dec.{eqb}
 use borrow.Author.Tests.{ne_eqb}
+use Rattle.std.specs.Option.{option_eq}
+use Rattle.notice.specs.contracts.KindPartialEq.TheImpl.{eq-value}
 use Rattle.std.specs.Prelude.{Option, Some, None, MatchOption}
 use Rattle.notice.specs.Lines.{opening_kind, link_kind, yard_kind, opens_depot, frame_length}
 use Rattle.notice.specs.Kinds.{byte_of, KindIs}
 use Rattle.notice.specs.declared.Kind.{Kind}
 use Rattle.notice.specs.declared.Kind.TheVariants.{Depot, Link, Yard}
 
--- ---- whether they open a depot
+-- how the code compares two kinds
+abbrev pub same_kind : Kind → Kind → Bool
+same_kind = eq-value.it
+
+-- ---- whether they open a depot, and a yard
 
 pub kind_opens : (k : Kind) → (k ≡ Depot) ⊎ (k ≡ Yard) → true ≡ opens_depot (byte_of k)
 unfolding opens_depot
@@ -21,6 +28,12 @@ pub opens_by : (b : ℕ) (o : Option Kind) {r : Bool} → KindIs b o → MatchOp
 unfolding opens_depot
 opens_by b (Some k) e q = q ∙ ap opens_depot e
 opens_by b None n q = q ∙ rw (ne_eqb b opening_kind (λ e. n Depot (sym e)), ne_eqb b yard_kind (λ e. n Yard (sym e)))
+
+pub opens_yard_by : (b : ℕ) (o : Option Kind) → KindIs b o → option_eq same_kind o (Some Yard) ≡ eqb b yard_kind
+opens_yard_by b (Some Depot) e = rw (← e)
+opens_yard_by b (Some Link) e = rw (← e)
+opens_yard_by b (Some Yard) e = rw (← e)
+opens_yard_by b None n = sym (ne_eqb b yard_kind (λ e. n Yard (sym e)))
 
 -- ---- how long they are
 

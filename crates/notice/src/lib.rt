@@ -4,10 +4,10 @@
 
 #![tactic(auto)]
 
-ghost use Rattle.std.specs.Prelude.{◌≡◌, true, ◌<◌, take};
+ghost use Rattle.std.specs.Prelude.{◌≡◌, true, eqb, take};
 ghost use Rattle.lists.specs.Lists.{allb};
 ghost use Rattle.hexadecimal.specs.Hex.{is_digit};
-ghost use Rattle.notice.specs.Lines.{line_limit, opens_depot, frame_length, is_frame, spells_frame};
+ghost use Rattle.notice.specs.Lines.{line_limit, yard_kind, opens_depot, frame_length, is_frame, spells_frame};
 ghost use Rattle.notice.specs.Kinds.{byte_of, KindIs};
 ghost use Rattle.notice.specs.Calls.{reading_of, writing_of, line_left, read_call, write_call};
 
@@ -134,6 +134,13 @@ pub fn opens_depot(kind: u8) -> bool
     ensures { result ≡ opens_depot kind }
 {
     Kind::of(kind).is_some_and(Kind::opens_depot)
+}
+
+// Whether frames of a kind open a yard.
+pub fn opens_yard(kind: u8) -> bool
+    ensures { result ≡ eqb kind yard_kind }
+{
+    Kind::of(kind) == Some(Kind::Yard)
 }
 
 // How many bytes a frame of a kind has, by its third byte; 0 for a byte that is no kind.

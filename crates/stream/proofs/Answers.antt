@@ -1,13 +1,12 @@
 -- A LINE'S ANSWER, by what the reader found. Assumes nothing.
-use mathlib.Core.Path.{◌≡◌, refl, sym, subst}
+use mathlib.Core.Path.{◌≡◌}
 use mathlib.Core.Bool.{Bool, true, false, cond}
 use mathlib.Core.List.{List}
 use Prim.Native.Nat.{ℕ, ◌-◌, ◌<◌}
 use native.Mathlib.Omega.{arith}
 use lib.Dec.{eqb}
 use lib.ListN.{length, get_or, take, drop}
-use borrow.Author.Tests.{ltb-true, ne_eqb}
-use Rattle.std.specs.Prelude.{Option, Some, None}
+use borrow.Author.Tests.{ltb-true}
 use Rattle.lists.proofs.Scans.{all-at}
 use Rattle.outcome.specs.Numbers.{garbled_line}
 use Rattle.graph.specs.Opening.{notice_of}
@@ -16,10 +15,7 @@ use Rattle.map.specs.Memory.{base}
 use Rattle.map.specs.declared.Record.{Record}
 use Rattle.map.specs.Room.{Lent}
 use Rattle.hexadecimal.specs.Hex.{is_byte}
-use Rattle.notice.specs.Kinds.{byte_of, KindIs}
-use Rattle.notice.specs.declared.Kind.{Kind}
-use Rattle.notice.specs.declared.Kind.TheVariants.{Depot, Link, Yard}
-use Rattle.notice.specs.Lines.{opening_kind, yard_kind, opens_depot, garbled, frame, read_line}
+use Rattle.notice.specs.Lines.{yard_kind, opens_depot, garbled, frame, read_line}
 use Rattle.notice.proofs.Tests.{frame_parts}
 use Rattle.notice.proofs.Theorems.{read_frame}
 use Rattle.notice.proofs.Readings.{behind, FrameStands}
@@ -47,31 +43,6 @@ pub answered-opening : (rec : Record) (links : List ℕ) (B : Lent) (f : List �
     → x ≡ update_call base rec links B (opens (notice_of (eqb (get_or f 0 0) yard_kind) (get_or f 1 0) (take (length f - 3) (drop 3 f)))) → x ≡ update_call base rec links B (update_in f)
 unfolding update_in
 answered-opening rec links B f k e = rw (k, ← behind f 3) e
-
--- the opening of a depot, and of a yard, by the kind that the code reads off the first byte
-pub answered-depot : (rec : Record) (links : List ℕ) (B : Lent) (f : List ℕ) {x : UpdateLeft} → byte_of Depot ≡ get_or f 0 0
-    → x ≡ update_call base rec links B (opens (notice_of false (get_or f 1 0) (take (length f - 3) (drop 3 f)))) → x ≡ update_call base rec links B (update_in f)
-unfolding opens_depot
-answered-depot rec links B f k e =
-    let o : opens_depot (get_or f 0 0) ≡ true = subst (λ (b : ℕ). opens_depot b ≡ true) k refl in
-    let y : eqb (get_or f 0 0) yard_kind ≡ false = subst (λ (b : ℕ). eqb b yard_kind ≡ false) k refl in
-    answered-opening rec links B f o (rw y e)
-
-pub answered-yard : (rec : Record) (links : List ℕ) (B : Lent) (f : List ℕ) {x : UpdateLeft} → byte_of Yard ≡ get_or f 0 0
-    → x ≡ update_call base rec links B (opens (notice_of true (get_or f 1 0) (take (length f - 3) (drop 3 f)))) → x ≡ update_call base rec links B (update_in f)
-unfolding opens_depot
-answered-yard rec links B f k e =
-    let o : opens_depot (get_or f 0 0) ≡ true = subst (λ (b : ℕ). opens_depot b ≡ true) k refl in
-    let y : eqb (get_or f 0 0) yard_kind ≡ true = subst (λ (b : ℕ). eqb b yard_kind ≡ true) k refl in
-    answered-opening rec links B f o (rw y e)
-
--- any other first byte opens nothing
-pub opens_nothing : (byte : ℕ) (r : Option Kind) → KindIs byte r → (r ≡ Some Depot → ⊥) → (r ≡ Some Yard → ⊥) → opens_depot byte ≡ false
-unfolding opens_depot
-opens_nothing byte None h n m = rw (ne_eqb byte opening_kind (λ e. h Depot (sym e)), ne_eqb byte yard_kind (λ e. h Yard (sym e)))
-opens_nothing byte (Some Depot) h n m = absurd (n refl)
-opens_nothing byte (Some Yard) h n m = absurd (m refl)
-opens_nothing byte (Some Link) h n m = subst (λ (b : ℕ). opens_depot b ≡ false) h refl
 
 pub answered-link : (rec : Record) (links : List ℕ) (B : Lent) (f : List ℕ) {x : UpdateLeft} → opens_depot (get_or f 0 0) ≡ false
     → x ≡ update_call base rec links B (joins (get_or f 1 0) (get_or f 2 0)) → x ≡ update_call base rec links B (update_in f)

@@ -13,7 +13,6 @@ ghost use Rattle.transcript.specs.Transcript.{lines_limit, update_in};
 ghost use Rattle.stream.specs.Feeding.{stream_begun, begin_call, answer_to, IsReady, feeding, took_line, feed_call, finish_call};
 
 use map::{Record, Room};
-use notice::Kind;
 use update::Returned;
 
 // How far a stream has come: the map's record, the lines answered, and the bytes that the line buffer holds of the next one.
@@ -34,8 +33,8 @@ pub struct Fed {
 
 // Begins a stream: the map is emptied, and no line is read.
 pub fn begin(links: &mut [u64], pairs: &mut [u64]) -> Progress
-    requires { (table_words base ≤ length links.old) × (table_words base ≤ length room.old.pairs.now) }
-    ensures { stream_begun result links.new pairs.new ≡ begin_call links.old room.old.pairs.now }
+    requires { (table_words base ≤ length links.old) × (table_words base ≤ length pairs.old) }
+    ensures { stream_begun result links.new pairs.new ≡ begin_call links.old pairs.old }
 {
     let none = map::empty_record();
     let rec = map::empty_map(none, links, pairs).unwrap_or(none);
@@ -57,11 +56,11 @@ fn answer_frame(rec: Record, links: &mut [u64], room: &mut Room<'_>, frame: &[u8
         ≡ update_call base rec links.old (lent_in room.old) (update_in frame.now) }
 {
     let code = frame[1];
-    match Kind::of(frame[0]) {
-        Some(Kind::Depot) => opening::open_sound(rec, links, room, false, code, &frame[3..]),
-        Some(Kind::Yard) => opening::open_sound(rec, links, room, true, code, &frame[3..]),
-        _ => linking::link_sound(rec, links, room, code, frame[2]),
+    if notice::opens_depot(frame[0]) {
+        let yard = notice::opens_yard(frame[0]);
+        return opening::open_sound(rec, links, room, yard, code, &frame[3..]);
     }
+    linking::link_sound(rec, links, room, code, frame[2])
 }
 
 // Answers a line: the reader's refusal, or what its frame asks for.

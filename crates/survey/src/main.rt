@@ -2,14 +2,17 @@
 // be read is said on standard error, and counts as far as it was read; a write that fails is said too, and ends the run.
 #![tactic(auto)]
 
-ghost use Rattle.std.specs.Prelude.{◌≡◌, ◌+◌, ◌≤◌, ◌<◌, length};
-ghost use Rattle.map.specs.Slices.{lent_at, lent_after};
+ghost use Rattle.std.specs.Prelude.{◌≡◌, ◌+◌, ◌≤◌, ◌<◌, length, IfSome};
+ghost use Rattle.map.specs.Slices.{lent_in, IsSameRoom};
 ghost use Rattle.stream.specs.Feeding.{IsReady};
 ghost use Rattle.summaries.specs.Run.{room, files_limit};
 ghost use Rattle.summaries.specs.Calls.{AreOfFiles};
 
 mod files;
 
+use feeding::Ending;
+use map::{Room, Scratch};
+use outcome::Refusal;
 use stream::Progress;
 use summaries::Totals;
 
@@ -29,13 +32,12 @@ fn follow_file(
     ensures left { IsReady result links.new (lent_in room.new) line.new }
 {
     let mut name = [0u8; files::NAME_LIMIT];
-    let opened = files::open_argument(rt, &mut name, i);
-    let named = opened.named;
-    let Some(mut file) = opened.file else {
+    let Some(opened) = files::open_argument(rt, &mut name, i) else {
         return progress;
     };
+    let files::Opened { mut file, named } = opened;
+    let unwanted = |_: &[u8]| true;
     let ended = feeding::answer_all(
-        rt,
         progress,
         links,
         room,
@@ -43,32 +45,24 @@ fn follow_file(
         out,
         input,
         &mut file,
-        b"survey: standard output",
-        false,
+        &unwanted,
     );
-    if let Some(why) = ended.failure {
+    if let Ending::Failed(why) = ended.ending {
         files::say(rt, &name[..named], why);
     }
     ended.progress
 }
 
-// Where the run stands: the totals so far, and whether to go on.
-#[derive(Clone, Copy)]
-struct Surveyed {
-    totals: Totals,
-    going: bool,
-}
-
-// Reports on the file that argument i names, followed from an empty map, and adds it to the totals.
+// Reports on the file that argument i names, followed from an empty map, and adds it to the totals; none if its line cannot be written.
 fn survey_file(
     rt: &HostRuntime,
     out: &mut [u8],
     input: &mut [u8],
     totals: Totals,
     i: usize,
-) -> Surveyed
+) -> Option<Totals>
     requires { (room ≤ length out.old) × AreOfFiles totals × (totals.files < files_limit) }
-    ensures { AreOfFiles result.totals × (result.totals.files ≡ totals.files + 1) }
+    ensures { IfSome result (λ with. AreOfFiles with × (with.files ≡ totals.files + 1)) }
 {
     let mut links = [0u64; map::TABLE];
     let mut pairs = [0u64; map::TABLE];
@@ -80,63 +74,47 @@ fn survey_file(
     let mut line = [0u8; notice::LINE_LIMIT];
     let mut counts = [0u16; map::PLACES];
     let begun = stream::begin(&mut links, &mut pairs);
-    let followed = follow_file(
-        rt,
-        begun,
-        &mut links,
-        &mut pairs,
-        &mut hops,
-        &mut bounds,
-        &mut skips,
-        &mut even,
-        &mut odd,
-        &mut line,
-        out,
-        input,
-        i,
-    );
-    let rec = followed.rec;
-    let answer = summary::summarise(rec, &links, &mut hops, &mut even, &mut odd, &mut counts);
-    let put = summaries::put_file(out, 0, totals, answer);
+    let mut room = Room {
+        pairs: &mut pairs,
+        hops: &mut hops,
+        bounds: &mut bounds,
+        skips: &mut skips,
+        even: &mut even,
+        odd: &mut odd,
+    };
+    let followed = follow_file(rt, begun, &mut links, &mut room, &mut line, out, input, i);
+    let mut scratch = Scratch {
+        hops: &mut hops,
+        even: &mut even,
+        odd: &mut odd,
+    };
+    let answer = summary::summarise(followed.rec, &links, &mut scratch, &mut counts);
+    let put = summaries::put_file(out, 0, totals, answer.map_err(Refusal::number));
     let end = put.at;
     let told = feeding::system::write_out(rt, &out[..end], b"survey: standard output");
-    let with = put.totals;
-    Surveyed {
-        totals: with,
-        going: told,
-    }
+    if told { Some(put.totals) } else { None }
 }
 
-// Reports on so many files, as long as their lines can be written.
-fn survey_files(rt: &HostRuntime, out: &mut [u8], input: &mut [u8], count: u32) -> Surveyed
+// Reports on so many files, and totals them; none as soon as a line cannot be written.
+fn survey_files(rt: &HostRuntime, out: &mut [u8], input: &mut [u8], count: u32) -> Option<Totals>
     requires { (room ≤ length out.old) × (count ≤ files_limit) }
 {
-    let none = Totals {
+    let mut totals = Totals {
         sum: 0,
         pairs: 0,
         files: 0,
     };
-    let mut now = Surveyed {
-        totals: none,
-        going: true,
-    };
-    while now.totals.files < count {
-        let totals = now.totals;
-        now = survey_file(rt, out, input, totals, totals.files as usize + 1);
-        if !now.going {
-            return now;
-        }
+    for i in 0..count {
+        totals = survey_file(rt, out, input, totals, i as usize + 1)?;
     }
-    now
+    Some(totals)
 }
 
 fn main(rt: HostRuntime) {
     let mut out = [0u8; 65536];
     let mut input = [0u8; 65536];
     let count = summaries::files_read(files::count_arguments(&rt));
-    let surveyed = survey_files(&rt, &mut out, &mut input, count);
-    if surveyed.going {
-        let totals = surveyed.totals;
+    if let Some(totals) = survey_files(&rt, &mut out, &mut input, count) {
         let end = summaries::put_total(&mut out, 0, totals);
         feeding::system::write_out(&rt, &out[..end], b"survey: standard output");
     }

@@ -40,4 +40,4 @@ pub returns-in-Err-clause-left : goal.returns-in-Err-clause-left
 returns-in-Err-clause-left c =
     answered-garbled _ _ _ _
     (garbled_read _ _ (omega arith) c.in-Err.is
-    c.read_notice.ensures) c.refused.ensures
+    c.read_notice.ensures) (rw (← c.number.ensures) c.refused.ensures)
