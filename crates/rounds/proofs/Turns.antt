@@ -62,17 +62,15 @@ round_is_absorbed W targets links mark r M d T R row h t m c n s q l a k =
     ap₂ (λ (A : Absorbed) (x : ℕ). workspace A.paired T A.marked A.candidate x) b k
     ∙ ap (λ (X : Searched). absorb_of W mark r (reach_in W targets r X.depth X.left []) X.left M) s
 
--- the tables that the marks or a search were lent stand in the room again
+-- the tables that a search or the marks were lent stand in the room again
 pub same_tables : (h e o h' e' o' : List ℕ) → h' ≡ h → e' ≡ e → o' ≡ o → tables h' e' o' ≡ tables h e o
 same_tables h e o h' e' o' qh qe qo = rw (qh, qe, qo)
 
 pub same_marks : (W : ℕ) (b s k b' s' k' : List ℕ) → b' ≡ b → s' ≡ s → k' ≡ k → marks b' s' (waiting_of W k') ≡ marks b s (waiting_of W k)
 same_marks W b s k b' s' k' qb qs qk = rw (qb, qs, qk)
 
--- and those of both
-pub handed_back : (W : ℕ) (M : Workspace) (t : Tally) (h e o b s k h' e' o' b' s' k' : List ℕ) (c n : ℕ) → workspace t (tables h e o) (marks b s (waiting_of W k)) c n ≡ M
-    → h' ≡ h → e' ≡ e → o' ≡ o → b' ≡ b → s' ≡ s → k' ≡ k → workspace t (tables h' e' o') (marks b' s' (waiting_of W k')) c n ≡ M
-handed_back W M t h e o b s k h' e' o' b' s' k' c n m qh qe qo qb qs qk = rw (qh, qe, qo, qb, qs, qk) m
+pub handed_back : (t : Tally) (T T' : Tables) (m m' : Marks) (c n : ℕ) (M : Workspace) → workspace t T m c n ≡ M → T' ≡ T → m' ≡ m → workspace t T' m' c n ≡ M
+handed_back t T T' m m' c n M e q r = rw (q, r) e
 
 -- ---- the start
 

@@ -226,19 +226,22 @@ fn drop_row_by(
     drop_row(pairs, near, words, u, chain)
 }
 
-// Where the rows from u on that have no pair end, as far as whole groups of 8 tell.
+// Where the rows from u on that have no pair end, as far as whole groups of 8 tell: two groups a turn, while there are two.
 fn bare_groups(pairs: &[u64], words: usize, rows: usize, u: usize) -> usize
     requires { (words < 513) × (words * (64 * words) ≤ length pairs.now) × (rows ≤ 64 * words) × (u ≤ rows) }
     ensures { Bare words rows pairs.now u result }
 {
-    let groups = (rows - u) / 8;
-    for g in 0..groups {
-        let p = u + 8 * g;
+    let turns = (rows - u) / 16;
+    for k in 0..turns {
+        let p = u + 16 * k;
         if !rows::all_zero(pairs, words * p, 8 * words) {
             return p;
         }
+        if !rows::all_zero(pairs, words * (p + 8), 8 * words) {
+            return p + 8;
+        }
     }
-    u + 8 * groups
+    u + 16 * turns
 }
 
 // The next row from u on that has a pair, all rows where none has: most have none, and so most are passed 8 at a time.
@@ -276,6 +279,7 @@ pub fn drop_rows(
     let mut gone: u32 = 0;
     let mut count: u32 = 0;
     let mut way: u16 = 0;
+    // A row is jumped to, so that no range counts the rows.
     let mut u = next_row(&*pairs, words, rows, 0);
     while u < rows {
         let row = drop_row_by(pairs, near, far, words, u, chain, either);

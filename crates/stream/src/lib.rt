@@ -13,7 +13,6 @@ ghost use Rattle.transcript.specs.Transcript.{lines_limit, update_in};
 ghost use Rattle.stream.specs.Feeding.{stream_begun, begin_call, answer_to, IsReady, feeding, took_line, feed_call, finish_call};
 
 use map::{Record, Room};
-use notice::Kind;
 use update::Returned;
 
 // How far a stream has come: the map's record, the lines answered, and the bytes that the line buffer holds of the next one.
@@ -34,8 +33,8 @@ pub struct Fed {
 
 // Begins a stream: the map is emptied, and no line is read.
 pub fn begin(links: &mut [u64], pairs: &mut [u64]) -> Progress
-    requires { (table_words base ≤ length links.old) × (table_words base ≤ length room.old.pairs.now) }
-    ensures { stream_begun result links.new pairs.new ≡ begin_call links.old room.old.pairs.now }
+    requires { (table_words base ≤ length links.old) × (table_words base ≤ length pairs.old) }
+    ensures { stream_begun result links.new pairs.new ≡ begin_call links.old pairs.old }
 {
     let none = map::empty_record();
     let rec = map::empty_map(none, links, pairs).unwrap_or(none);
@@ -49,107 +48,61 @@ pub fn begin(links: &mut [u64], pairs: &mut [u64]) -> Progress
 // ---- a line's answer
 
 // Answers a frame by its kind: the opening of a depot or a yard, or the link of two depots.
-fn answer_frame(
-    rec: Record,
-    links: &mut [u64],
-    room: &mut Room<'_>,
-    frame: &[u8],
-) -> Returned
+fn answer_frame(rec: Record, links: &mut [u64], room: &mut Room<'_>, frame: &[u8]) -> Returned
     requires { let long = room_sizes (length links.old) room.old in
         (map_refusal base rec links.old room.old.pairs.now long ≡ 0) × (3 ≤ length frame.now) }
     ensures same { IsSameRoom room.old room.new }
-    ensures left { let before = lent_in room.old in
-        let after = lent_in room.new in
-        update_left result links.new after ≡ update_call base rec links.old before (update_in frame.now) }
+    ensures left { update_left result links.new (lent_in room.new)
+        ≡ update_call base rec links.old (lent_in room.old) (update_in frame.now) }
 {
-    let kind = frame[0];
     let code = frame[1];
-    if notice::opens_depot(kind) {
-        let yard = kind == notice::YARD;
-        return opening::open_sound(
-            rec,
-            links,
-            room,
-            yard,
-            code,
-            &frame[3..],
-        );
+    if notice::opens_depot(frame[0]) {
+        let yard = notice::opens_yard(frame[0]);
+        return opening::open_sound(rec, links, room, yard, code, &frame[3..]);
     }
-    let other = frame[2];
-    linking::link_sound(
-        rec, links, room, code, other,
-    )
+    linking::link_sound(rec, links, room, code, frame[2])
 }
 
 // Answers a line: the reader's refusal, or what its frame asks for.
-fn answer_line(
-    rec: Record,
-    links: &mut [u64],
-    room: &mut Room<'_>,
-    text: &[u8],
-) -> Returned
+fn answer_line(rec: Record, links: &mut [u64], room: &mut Room<'_>, text: &[u8]) -> Returned
     requires { let long = room_sizes (length links.old) room.old in
         map_refusal base rec links.old room.old.pairs.now long ≡ 0 }
     ensures same { IsSameRoom room.old room.new }
-    ensures left { let before = lent_in room.old in
-        let after = lent_in room.new in
-        update_left result links.new after ≡ answer_to (read_line text.now) rec links.old before }
+    ensures left { update_left result links.new (lent_in room.new)
+        ≡ answer_to (read_line text.now) rec links.old (lent_in room.old) }
 {
     let mut frame = [0u8; notice::FRAME_LIMIT];
-    let got = notice::read_notice(&mut frame, text);
-    match got {
-        Reading::Frame(n, _) => answer_frame(
-            rec,
-            links,
-            room,
-            &frame[..n],
-        ),
-        Reading::Refused(k) => update::refused(rec, k),
+    match notice::read_notice(&mut frame, text) {
+        Ok(read) => answer_frame(rec, links, room, &frame[..read.length]),
+        Err(refusal) => update::refused(rec, refusal.number()),
     }
 }
 
 // Answers the line that is held, and reports it.
-fn take_line(
-    fed: Fed,
-    links: &mut [u64],
-    room: &mut Room<'_>,
-    line: &[u8],
-    out: &mut [u8],
-) -> Fed
+fn take_line(fed: Fed, links: &mut [u64], room: &mut Room<'_>, line: &[u8], out: &mut [u8]) -> Fed
     requires { let long = room_sizes (length links.old) room.old in
         (map_refusal base fed.progress.rec links.old room.old.pairs.now long ≡ 0)
         × (fed.progress.held ≤ length line.now)
         × (fed.progress.lines < lines_limit)
         × (fed.written + buffer_limit ≤ length out.old) }
     ensures same { IsSameRoom room.old room.new }
-    ensures left { let before = lent_in room.old in
-        let after = lent_in room.new in
-        let entry = feeding fed links.old before line.now out.old in
-        let exit = feeding result links.new after line.now out.new in
-        (exit ≡ took_line entry)
-        × (result.written ≤ length out.new) }
+    ensures left { feeding result links.new (lent_in room.new) line.now out.new
+        ≡ took_line (feeding fed links.old (lent_in room.old) line.now out.old) }
+    ensures written { result.written ≤ length out.new }
 {
     let before = fed.progress;
-    let held = before.held;
-    let rec = before.rec;
-    let got = answer_line(
-        rec,
-        links,
-        room,
-        &line[..held],
-    );
+    let got = answer_line(before.rec, links, room, &line[..before.held]);
     let number = before.lines + 1;
-    let end = line_buffer::put_report(out, fed.written, number, got);
-    let now = got.after;
+    let written = line_buffer::put_report(out, fed.written, number, got);
     let progress = Progress {
-        rec: now,
+        rec: got.after,
         lines: number,
         held: 0,
     };
     Fed {
-        progress: progress,
+        progress,
         used: fed.used,
-        written: end,
+        written,
     }
 }
 
@@ -167,16 +120,14 @@ pub fn feed(
 ) -> Fed
     requires { IsReady progress links.old (lent_in room.old) line.old }
     ensures same { IsSameRoom room.old room.new }
-    ensures left { let before = lent_in room.old in
-        let after = lent_in room.new in
-        let exit = feeding result links.new after line.new out.new in
-        (exit ≡ feed_call progress links.old before line.old out.old piece.now)
-        × IsReady result.progress links.new after line.new
-        × (result.used ≤ length piece.now)
-        × (result.written ≤ length out.new) }
+    ensures left { feeding result links.new (lent_in room.new) line.new out.new
+        ≡ feed_call progress links.old (lent_in room.old) line.old out.old piece.now }
+    ensures ready { IsReady result.progress links.new (lent_in room.new) line.new }
+    ensures used { result.used ≤ length piece.now }
+    ensures written { result.written ≤ length out.new }
 {
     let mut now = Fed {
-        progress: progress,
+        progress,
         used: 0,
         written: 0,
     };
@@ -186,23 +137,19 @@ pub fn feed(
             return now;
         }
         let part = line_buffer::hold_part(line, piece, now.used, before.held);
-        let rec = before.rec;
-        let after = Progress {
-            rec: rec,
-            lines: before.lines,
-            held: part.held,
-        };
         let kept = Fed {
-            progress: after,
+            progress: Progress {
+                rec: before.rec,
+                lines: before.lines,
+                held: part.held,
+            },
             used: part.at,
             written: now.written,
         };
         if !part.ended {
             return kept;
         }
-        now = take_line(
-            kept, links, room, &*line, out,
-        );
+        now = take_line(kept, links, room, &*line, out);
     }
     now
 }
@@ -217,14 +164,12 @@ pub fn finish(
 ) -> Fed
     requires { IsReady progress links.old (lent_in room.old) line.now }
     ensures same { IsSameRoom room.old room.new }
-    ensures left { let before = lent_in room.old in
-        let after = lent_in room.new in
-        let exit = feeding result links.new after line.now out.new in
-        (exit ≡ finish_call progress links.old before line.now out.old)
-        × (result.written ≤ length out.new) }
+    ensures left { feeding result links.new (lent_in room.new) line.now out.new
+        ≡ finish_call progress links.old (lent_in room.old) line.now out.old }
+    ensures written { result.written ≤ length out.new }
 {
     let fed = Fed {
-        progress: progress,
+        progress,
         used: 0,
         written: 0,
     };

@@ -7,6 +7,10 @@ use native.Mathlib.Nat.{mul-le-mul, le_refl}
 use native.Mathlib.Omega.{arith}
 use lib.ListN.{length, take, length-append}
 use lib.Seq.{take-take}
+use Rattle.std.specs.Prelude.{Result, Ok, Err}
+use Rattle.std.specs.Result.{MatchResult, IsErrAnd}
+use Rattle.outcome.specs.Refusals.{number_of}
+use Rattle.outcome.specs.declared.Refusal.{Refusal}
 use Rattle.lists.specs.Lists.{overwrite}
 use Rattle.lists.proofs.Counts.{length_count, count_le_length}
 use Rattle.lists.proofs.Distinct.{distinct_filter}
@@ -22,12 +26,13 @@ use Rattle.map.specs.declared.Record.{Record}
 use Rattle.map.proofs.Theorems.{base_shape, network_most}
 use Rattle.line_buffer.specs.Lines.{pasted}
 use Rattle.decimal.proofs.Decimals.{decimal_long, decimal_byte}
-use Rattle.summary.specs.SummaryCall.{summary_refusal, Summing, Summed, Refused, SummaryLeft, summary_left, summary_given, summary_call}
+use Rattle.summary.specs.SummaryCall.{summary_refusal, Summing, Summed, Refused, summing_of, SummaryLeft, summary_left, summary_given, summary_call}
 use Rattle.summary.proofs.Accepts.{granted}
+use Rattle.summary.specs.declared.Summary.{Summary}
 use Rattle.summaries.specs.declared.Totals.{Totals}
 use Rattle.summaries.specs.Run.{room, no_totals, summing_text, with_file, totals_from, total_line, file_lines, run_text}
 use Rattle.summaries.specs.declared.FilePut.{FilePut}
-use Rattle.summaries.specs.Calls.{most_pairs, most_sum, IsOfFile, AreOfFiles, FileLeft, file_left, file_call, TotalLeft, total_left, total_call}
+use Rattle.summaries.specs.Calls.{answered, most_pairs, most_sum, IsOfFile, AreOfFiles, FileLeft, file_left, file_call, TotalLeft, total_left, total_call}
 use Rattle.summaries.proofs.Lines.{field_most}
 
 -- ---- ROOM
@@ -77,6 +82,13 @@ call_of_file rec links B counts = go (summary_refusal base rec links (length B.h
 pub answered_of_file : (rec : Record) (links : List ℕ) (B : Tables) (counts : List ℕ) {a : Summing} {B' : Tables} {counts' : List ℕ}
     → summary_left a B' counts' ≡ summary_call base rec links B counts → IsOfFile a
 answered_of_file rec links B counts e = subst (λ (l : SummaryLeft). IsOfFile l.answer) (sym e) (call_of_file rec links B counts)
+
+-- a report's answer with its refusal as a number, as `map_err(Refusal::number)` makes it, is the same answer
+pub answered_number : (r : Result Summary Refusal) (x : Result Summary ℕ) {P : Refusal → ℕ → Type 0} → MatchResult r (λ s. x ≡ Ok s) (λ k. IsErrAnd x (P k))
+    → ((k : Refusal) (n : ℕ) → P k n → n ≡ number_of k) → answered x ≡ summing_of r
+answered_number (Ok s) x h is = ap answered h
+answered_number (Err k) (Err n) h is = ap (λ (n : ℕ). Refused n) (is k n h)
+answered_number (Err k) (Ok s) h is = absurd h
 
 -- ---- A FILE'S LINE AND ITS TOTALS
 

@@ -1,11 +1,28 @@
--- `stale_pairs::bare_groups` meets its contract. The loop's invariant: the rows of the first g groups from `u` on have no pair (BareRows.antt).
+-- `stale_pairs::bare_groups` meets its contract. The loop's invariant: the rows of the first k turns from `u` on have no pair (BareRows.antt).
+use mathlib.Core.Path.{refl}
+use Prim.Native.Nat.{◌+◌, ◌*◌}
 use native.Mathlib.Omega.{arith}
+use Rattle.stale_pairs.specs.Stale.{Bare}
 use Rattle.stale_pairs.proofs.BareRows.{group_bare, group_inside}
 use Rattle.stale_pairs.proofs.bare_groups.Goals as goal
+use Rattle.stale_pairs.proofs.bare_groups.Goals.{Else-not-all_zero}
 
 pub all_zero-requires : goal.all_zero-requires
 all_zero-requires c = group_inside _ _ _ _ c.requires.2 (omega arith) c.requires.1
 
-pub loop-g-preserved : goal.loop-g-preserved
-loop-g-preserved c =
-    group_bare _ _ _ _ c.loop-g.invariant c.requires.2 (omega arith) c.all_zero.ensures c.if-not-all_zero.false (omega arith)
+pub all_zero-requires-in-loop-k : goal.all_zero-requires-in-loop-k
+all_zero-requires-in-loop-k c = group_inside _ _ _ _ c.requires.2 (omega arith) c.requires.1
+
+-- the first group of a turn has no pair
+one-group : (c : Else-not-all_zero) → let a = c.args in Bare a.words a.rows a.pairs.now a.u (a.u + 16 * c.loop-k.k + 8)
+one-group c =
+    group_bare _ _ _ _ c.loop-k.invariant c.requires.2 (omega arith) c.all_zero.ensures c.if-not-all_zero.false refl
+
+pub returns-then-not-all_zero-2 : goal.returns-then-not-all_zero-2
+returns-then-not-all_zero-2 c =
+    one-group (goal.at.returns-then-not-all_zero-2 c).Else-not-all_zero
+
+pub loop-k-preserved : goal.loop-k-preserved
+loop-k-preserved c =
+    group_bare _ _ _ _ (one-group (goal.at.loop-k-preserved c).Else-not-all_zero) c.requires.2 (omega arith)
+    c.all_zero-in-loop-k.ensures c.if-not-all_zero-2.false (omega arith)

@@ -10,25 +10,33 @@ use Rattle.stream.proofs.Feeds.{part_held, part_beyond, part_inside, turn_next}
 use borrow.Author.Rules.{rules}
 use Rattle.stream.proofs.feed.Goals as goal
 
-pub returns-then-is_stopped : goal.returns-then-is_stopped
-returns-then-is_stopped c =
-    let v = c.loop-now.invariant in
-    (search call_stopped, ready_turn _ _ _ v.0 (omega (arith, c.requires.room, v.1)), v.2, v.3)
+pub returns-then-is_stopped-clause-left : goal.returns-then-is_stopped-clause-left
+returns-then-is_stopped-clause-left c = search call_stopped
 
-pub returns-then-not-part : goal.returns-then-not-part
-returns-then-not-part c =
+pub returns-then-is_stopped-clause-ready : goal.returns-then-is_stopped-clause-ready
+returns-then-is_stopped-clause-ready c =
+    let v = c.loop-now.invariant in ready_turn _ _ _ v.0 (omega (arith, c.requires.room, v.1))
+
+pub returns-then-not-part-clause-left : goal.returns-then-not-part-clause-left
+returns-then-not-part-clause-left c =
+    let on = sym c.is_stopped.ensures ∙ c.if-is_stopped.false in
+    turn_held _ _ _ c.loop-now.invariant.0 _ c.hold_part-part.ensures on (not-true _ c.if-not-part.true) ∙ call_is _ _ _ _ _ _
+
+pub returns-then-not-part-clause-ready : goal.returns-then-not-part-clause-ready
+returns-then-not-part-clause-ready c =
     let v = c.loop-now.invariant in
     let q = c.hold_part-part.ensures in
-    let on = sym c.is_stopped.ensures ∙ c.if-is_stopped.false in (
-      turn_held _ _ _ v.0 _ q on (not-true _ c.if-not-part.true) ∙ call_is _ _ _ _ _ _,
-      record {
-        free = part_free _ _ _ v.0 _ q on;
-        room = omega (arith, c.hold_part-part.auto.line, v.1, c.requires.room);
-        held = part_held _ _ _ v.0 _ q on;
-      },
-      part_inside _ _ _ v.0 _ q on v.2,
-      v.3,
-    )
+    let on = sym c.is_stopped.ensures ∙ c.if-is_stopped.false in
+    record {
+      free = part_free _ _ _ v.0 _ q on;
+      room = omega (arith, c.hold_part-part.auto.line, v.1, c.requires.room);
+      held = part_held _ _ _ v.0 _ q on;
+    }
+
+pub returns-then-not-part-clause-used : goal.returns-then-not-part-clause-used
+returns-then-not-part-clause-used c =
+    let v = c.loop-now.invariant in
+    part_inside _ _ _ v.0 _ c.hold_part-part.ensures (sym c.is_stopped.ensures ∙ c.if-is_stopped.false) v.2
 
 pub take_line-now-requires : goal.take_line-now-requires
 take_line-now-requires c =
@@ -47,7 +55,7 @@ loop-now-smaller c =
     let v = c.loop-now.invariant in
     let on = sym c.is_stopped.ensures ∙ c.if-is_stopped.false in
     let more = part_beyond _ _ _ v.0 _ c.hold_part-part.ensures on c.loop-now-test.true in
-    let used = ap (λ (F : Feeding). F.fed.used) c.take_line-now.ensures.0 ∙ took_used _ in
+    let used = ap (λ (F : Feeding). F.fed.used) c.take_line-now.ensures.left ∙ took_used _ in
     omega (arith, more, used, c.loop-now-test.true)
 
 pub loop-now-preserved : goal.loop-now-preserved
@@ -55,18 +63,20 @@ loop-now-preserved c =
     let v = c.loop-now.invariant in
     let on = sym c.is_stopped.ensures ∙ c.if-is_stopped.false in
     let next = turn_next _ _ _ v.0 _ c.hold_part-part.ensures on (not-false _ c.if-not-part.false) in
-    let used = ap (λ (F : Feeding). F.fed.used) c.take_line-now.ensures.0 ∙ took_used _ in
+    let used = ap (λ (F : Feeding). F.fed.used) c.take_line-now.ensures.left ∙ took_used _ in
     let inside = part_inside _ _ _ v.0 _ c.hold_part-part.ensures on v.2 in (
-      subst (AtTurn _ _) (sym c.take_line-now.ensures.0) next,
-      omega (arith, c.take_line-now.auto, c.hold_part-part.auto, v.1),
+      subst (AtTurn _ _) (sym c.take_line-now.ensures.left) next,
+      search rules,
       omega (arith, used, inside),
-      c.take_line-now.ensures.1,
+      c.take_line-now.ensures.written,
     )
 
-pub returns : goal.returns
-returns c =
-    let v = c.loop-now.invariant in
-    (search call_ended, ready_turn _ _ _ v.0 (omega (arith, c.requires.room, v.1)), v.2, v.3)
+pub returns-clause-left : goal.returns-clause-left
+returns-clause-left c = search call_ended
+
+pub returns-clause-ready : goal.returns-clause-ready
+returns-clause-ready c =
+    let v = c.loop-now.invariant in ready_turn _ _ _ v.0 (omega (arith, c.requires.room, v.1))
 
 pub loop-now-init : goal.loop-now-init
 loop-now-init c = search (at_start_lem, rules)

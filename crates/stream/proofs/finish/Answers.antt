@@ -12,11 +12,11 @@ take_line-requires c =
     let g = going _ _ _ (sym c.is_stopped.ensures ∙ c.if-is_stopped.false) in
     (free_sizes _ _ _ _ _ _ _ _ c.requires.free, omega (arith, c.requires.held, c.requires.room), g.0, g.1)
 
-pub returns-then-progress-eq0 : goal.returns-then-progress-eq0
-returns-then-progress-eq0 c = search (finish_none, rules)
+pub returns-then-progress-eq0-clause-left : goal.returns-then-progress-eq0-clause-left
+returns-then-progress-eq0-clause-left c = search (finish_none, rules)
 
-pub returns-then-is_stopped : goal.returns-then-is_stopped
-returns-then-is_stopped c = search (finish_stopped, rules)
+pub returns-then-is_stopped-clause-left : goal.returns-then-is_stopped-clause-left
+returns-then-is_stopped-clause-left c = search (finish_stopped, rules)
 
-pub returns : goal.returns
-returns c = search (finish_took, rules)
+pub returns-clause-left : goal.returns-clause-left
+returns-clause-left c = search (finish_took, rules)

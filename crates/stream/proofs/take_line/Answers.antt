@@ -6,10 +6,13 @@ use Rattle.stream.proofs.Turns.{took}
 use borrow.Author.Rules.{rules}
 use Rattle.stream.proofs.take_line.Goals as goal
 
-pub returns : goal.returns
-returns c =
-    let w = c.put_report-end.ensures in
-    (took (feeding c.args.fed _ _ c.args.line.now _) c.answer_line-got.ensures (w.0, w.1), w.2)
+pub returns-clause-left : goal.returns-clause-left
+returns-clause-left c =
+    let w = c.put_report-written.ensures in
+    took (feeding c.args.fed _ _ c.args.line.now _) c.answer_line-got.ensures.left (w.0, w.1)
+
+pub returns-clause-written : goal.returns-clause-written
+returns-clause-written c = c.put_report-written.ensures.2
 
 pub slice_bounds-answer_line-end : goal.slice_bounds-answer_line-end
 slice_bounds-answer_line-end c = search (length-take-le, rules)
@@ -17,5 +20,5 @@ slice_bounds-answer_line-end c = search (length-take-le, rules)
 pub overflow_add-number : goal.overflow_add-number
 overflow_add-number c = omega arith
 
-pub put_report-end-requires : goal.put_report-end-requires
-put_report-end-requires c = c.requires.3
+pub put_report-written-requires : goal.put_report-written-requires
+put_report-written-requires c = c.requires.3
