@@ -1,24 +1,18 @@
 -- WHAT EMPTYING, THE SEARCH AND THE WHOLE RECKONING LEAVE, way out by way out. Assumes nothing.
-use mathlib.Core.Path.{◌≡◌, refl, sym, ap, ◌∙◌}
+use mathlib.Core.Path.{◌≡◌, refl, ap, ◌∙◌}
 use mathlib.Core.Bool.{Bool, not}
 use mathlib.Core.List.{List, [], ◌∷◌}
 use Prim.Native.Nat.{ℕ, zero, suc, ◌≤◌, ◌<◌}
 use lib.ListN.{length, get_or}
 use borrow.Author.Tests.{lt-ltb, le-ltb}
-use Rattle.lists.specs.Lists.{overwrite, first_of}
+use Rattle.lists.specs.Lists.{first_of}
 use Rattle.graph.specs.Distance.{connected}
 use Rattle.map.specs.Room.{Tables, Lent, sizes_of, long_enough}
 use Rattle.map.specs.Memory.{base}
-use Rattle.map.specs.Empty.{EmptyLeft, empty_left, empty_refusal, empty_given, empty_call}
+use Rattle.map.specs.Empty.{EmptyLeft, empty_refusal, empty_given, empty_call}
 use Rattle.map.specs.declared.Record.{Record}
-use Rattle.map.specs.declared.Emptied.{Emptied}
-use Rattle.map.specs.declared.Emptying.TheVariants.{Done, Refused as NoEmptying}
-use Rattle.search.specs.SearchCall.{SearchLeft, search_left, search_sizes, search_refusal, search_given, search_call}
-use Rattle.search.specs.SearchCall.{Found}
-use Rattle.search.specs.SearchCall.{Reached, Refused as NoSearch}
-use Rattle.reckon.specs.ReckonCall.{ReckonLeft, reckon_left, reckon_refusal, figured_by, reckon_given, reckon_call}
-use Rattle.reckon.specs.declared.Reckoned.{Reckoned}
-use Rattle.reckon.specs.declared.Reckoning.TheVariants.{Searches, Refused as NoReckoning}
+use Rattle.search.specs.SearchCall.{Found, SearchLeft, search_left, search_sizes, search_refusal, search_given, search_call}
+use Rattle.reckon.specs.ReckonCall.{Reckoned, ReckonLeft, reckon_left, reckon_refusal, figured_by, reckon_given, reckon_call}
 use Rattle.reckon.proofs.Reckons.{granted_tests}
 use Rattle.c_values.specs.Words.{record_words, record_of, words_of, clamped_of}
 use Rattle.c_maps.specs.Outs.{EmptyOut, emptied_out, empty_from, empty_out, SearchOut, searched_out, search_from, search_out, ReckonOut, reckoned_out, reckon_from, reckon_out}
@@ -31,34 +25,27 @@ module _ (l links pairs : List ℕ) where
   abbrev emptied : EmptyLeft → EmptyOut
   emptied x = empty_from x.answer x l
 
-  pub empty-short : length l < record_words → emptied_out 1 l links pairs ≡ empty_out l links pairs
+  pub empty_short : length l < record_words → emptied_out 1 l links pairs ≡ empty_out l links pairs
   unfolding empty_out
-  empty-short e = rw (lt-ltb (length l) record_words e)
+  empty_short e = rw (lt-ltb (length l) record_words e)
 
   -- the old record does not matter
-  empty-clamp : emptied (empty_call base (clamped_of l) links pairs) ≡ emptied (empty_call base (record_of l) links pairs)
+  empty_clamp : emptied (empty_call base (clamped_of l) links pairs) ≡ emptied (empty_call base (record_of l) links pairs)
   unfolding empty_call empty_given empty_from
-  empty-clamp = go (empty_refusal base links pairs)
+  empty_clamp = go (empty_refusal base links pairs)
     where
       go : (k : ℕ) → emptied (empty_given k base (clamped_of l) links pairs) ≡ emptied (empty_given k base (record_of l) links pairs)
       go zero = refl
       go (suc k) = refl
 
-  empty-whole : record_words ≤ length l → emptied (empty_call base (record_of l) links pairs) ≡ empty_out l links pairs
+  empty_whole : record_words ≤ length l → emptied (empty_call base (record_of l) links pairs) ≡ empty_out l links pairs
   unfolding empty_out
-  empty-whole h = rw (le-ltb (length l) record_words h)
+  empty_whole h = rw (le-ltb (length l) record_words h)
 
-  module _ (h : record_words ≤ length l) {rec : Record} (read : rec ≡ clamped_of l) (got : Emptied) {links' pairs' : List ℕ} (left : empty_left got links' pairs' ≡ empty_call base rec links pairs) where
-    called : emptied (empty_left got links' pairs') ≡ empty_out l links pairs
-    called = ap emptied (left ∙ ap (λ (x : Record). empty_call base x links pairs) read) ∙ empty-clamp ∙ empty-whole h
-
-    pub empty-done : {l' : List ℕ} → got.answer ≡ Done → l' ≡ overwrite (words_of got.after) l → emptied_out 0 l' links' pairs' ≡ empty_out l links pairs
-    unfolding empty_from
-    empty-done e w = ap (λ (x : List ℕ). emptied_out 0 x links' pairs') w ∙ sym (ap (λ (x : _). empty_from x (empty_left got links' pairs') l) e) ∙ called
-
-    pub empty-refused : {k : ℕ} → got.answer ≡ NoEmptying k → emptied_out k l links' pairs' ≡ empty_out l links pairs
-    unfolding empty_from
-    empty-refused e = sym (ap (λ (x : _). empty_from x (empty_left got links' pairs') l) e) ∙ called
+  -- whatever the call that it wraps answered
+  pub empty_called : record_words ≤ length l → {rec : Record} → rec ≡ clamped_of l → {left : EmptyLeft} → left ≡ empty_call base rec links pairs
+      → emptied left ≡ empty_out l links pairs
+  empty_called h read e = ap emptied (e ∙ ap (λ (x : Record). empty_call base x links pairs) read) ∙ empty_clamp ∙ empty_whole h
 
 -- ---- the search
 
@@ -66,14 +53,14 @@ module _ (l links : List ℕ) (B : Tables) (old old_depth code : ℕ) where
   abbrev found : SearchLeft → SearchOut
   found x = search_from x.answer x.lent old old_depth
 
-  pub search-short : length l < record_words → searched_out 1 old old_depth B ≡ search_out l links B old old_depth code
+  pub search_short : length l < record_words → searched_out 1 old old_depth B ≡ search_out l links B old old_depth code
   unfolding search_out
-  search-short e = rw (lt-ltb (length l) record_words e)
+  search_short e = rw (lt-ltb (length l) record_words e)
 
   -- a number that is too large is spoilt, as the largest one is; the figures do not matter
-  search-clamp : search_call base (clamped_of l) links B code ≡ search_call base (record_of l) links B code
+  search_clamp : search_call base (clamped_of l) links B code ≡ search_call base (record_of l) links B code
   unfolding search_call search_given search_refusal clamped_of record_of
-  search-clamp =
+  search_clamp =
       go _ _ (links_first_clamp l links (long_enough base (search_sizes base (length links) (length B.hops) (length B.even) (length B.odd)))
       ((not ((network_in l links).is_open code), 4) ∷ []))
     where
@@ -81,21 +68,16 @@ module _ (l links : List ℕ) (B : Tables) (old old_depth code : ℕ) where
       go j zero e = ap (λ (x : ℕ). search_given x base (clamped_of l) links B code) e
       go j (suc k) e = ap (λ (x : ℕ). search_given x base (clamped_of l) links B code) e
 
-  search-whole : record_words ≤ length l → found (search_call base (record_of l) links B code) ≡ search_out l links B old old_depth code
+  search_whole : record_words ≤ length l → found (search_call base (record_of l) links B code) ≡ search_out l links B old old_depth code
   unfolding search_out
-  search-whole h = rw (le-ltb (length l) record_words h)
+  search_whole h = rw (le-ltb (length l) record_words h)
 
-  module _ (h : record_words ≤ length l) {rec : Record} (read : rec ≡ clamped_of l) (got : Found) {B' : Tables} (left : search_left got B' ≡ search_call base rec links B code) where
-    called-search : found (search_left got B') ≡ search_out l links B old old_depth code
-    called-search = ap found (left ∙ ap (λ (x : Record). search_call base x links B code) read ∙ search-clamp) ∙ search-whole h
-
-    pub search-done : {e d : ℕ} → got ≡ Reached e d → searched_out 0 e d B' ≡ search_out l links B old old_depth code
-    unfolding search_from
-    search-done q = sym (ap (λ (x : Found). search_from x B' old old_depth) q) ∙ called-search
-
-    pub search-refused : {k : ℕ} → got ≡ NoSearch k → searched_out k old old_depth B' ≡ search_out l links B old old_depth code
-    unfolding search_from
-    search-refused q = sym (ap (λ (x : Found). search_from x B' old old_depth) q) ∙ called-search
+  pub search_called : record_words ≤ length l → {rec : Record} → rec ≡ clamped_of l → {got : Found} {B' B'' : Tables}
+      → search_left got B' ≡ search_call base rec links B code → B'' ≡ B' → search_from got B'' old old_depth ≡ search_out l links B old old_depth code
+  search_called h read {got} e q =
+      ap (λ (T : Tables). search_from got T old old_depth) q
+      ∙ ap found (e ∙ ap (λ (x : Record). search_call base x links B code) read ∙ search_clamp)
+      ∙ search_whole h
 
 -- ---- the whole reckoning
 
@@ -103,36 +85,32 @@ module _ (l links : List ℕ) (B : Lent) (old : ℕ) where
   abbrev reckoned : ReckonLeft → ReckonOut
   reckoned x = reckon_from x.reckoned.answer x l old
 
-  pub reckon-short : length l < record_words → reckoned_out 1 l old B ≡ reckon_out l links B old
+  pub reckon_short : length l < record_words → reckoned_out 1 l old B ≡ reckon_out l links B old
   unfolding reckon_out
-  reckon-short e = rw (lt-ltb (length l) record_words e)
+  reckon_short e = rw (lt-ltb (length l) record_words e)
 
-  refusal-clamp : reckon_refusal base (clamped_of l) links (sizes_of links B) ≡ reckon_refusal base (record_of l) links (sizes_of links B)
+  refusal_clamp : reckon_refusal base (clamped_of l) links (sizes_of links B) ≡ reckon_refusal base (record_of l) links (sizes_of links B)
   unfolding reckon_refusal lent_refusal lent_faults clamped_of record_of
-  refusal-clamp =
+  refusal_clamp =
       ap (λ (t : Bool). first_of ((not (long_enough base (sizes_of links B)), 1) ∷ (not t, 2) ∷ (not (connected (network_in l links)), 3) ∷ []))
       (links_clamp (network_in l links) (get_or l 4 0))
 
-  reckon-clamp : reckoned (reckon_call base (clamped_of l) links B) ≡ reckoned (reckon_call base (record_of l) links B)
+  reckon_clamp : reckoned (reckon_call base (clamped_of l) links B) ≡ reckoned (reckon_call base (record_of l) links B)
   unfolding reckon_call reckon_given reckon_from figured_by words_of clamped_of record_of
-  reckon-clamp = ap (λ (k : ℕ). reckoned (reckon_given k base (clamped_of l) links B)) refusal-clamp ∙ go (reckon_refusal base (record_of l) links (sizes_of links B)) refl
+  reckon_clamp = ap (λ (k : ℕ). reckoned (reckon_given k base (clamped_of l) links B)) refusal_clamp ∙ go (reckon_refusal base (record_of l) links (sizes_of links B)) refl
     where
       go : (k : ℕ) → reckon_refusal base (record_of l) links (sizes_of links B) ≡ k → reckoned (reckon_given k base (clamped_of l) links B) ≡ reckoned (reckon_given k base (record_of l) links B)
       go zero e = rw (number_fits (network_in l links) (get_or l 4 0) (granted_tests base (record_of l) links (sizes_of links B) e).0)
       go (suc k) e = refl
 
-  reckon-whole : record_words ≤ length l → reckoned (reckon_call base (record_of l) links B) ≡ reckon_out l links B old
+  reckon_whole : record_words ≤ length l → reckoned (reckon_call base (record_of l) links B) ≡ reckon_out l links B old
   unfolding reckon_out
-  reckon-whole h = rw (le-ltb (length l) record_words h)
+  reckon_whole h = rw (le-ltb (length l) record_words h)
 
-  module _ (h : record_words ≤ length l) {rec : Record} (read : rec ≡ clamped_of l) (got : Reckoned) {B' : Lent} (left : reckon_left got B' ≡ reckon_call base rec links B) where
-    called-reckon : reckoned (reckon_left got B') ≡ reckon_out l links B old
-    called-reckon = ap reckoned (left ∙ ap (λ (x : Record). reckon_call base x links B) read) ∙ reckon-clamp ∙ reckon-whole h
-
-    pub reckon-done : {n : ℕ} {l' : List ℕ} → got.answer ≡ Searches n → l' ≡ overwrite (words_of got.after) l → reckoned_out 0 l' n B' ≡ reckon_out l links B old
-    unfolding reckon_from
-    reckon-done {n} e w = ap (λ (x : List ℕ). reckoned_out 0 x n B') w ∙ sym (ap (λ (x : _). reckon_from x (reckon_left got B') l old) e) ∙ called-reckon
-
-    pub reckon-refused : {k : ℕ} → got.answer ≡ NoReckoning k → reckoned_out k l old B' ≡ reckon_out l links B old
-    unfolding reckon_from
-    reckon-refused e = sym (ap (λ (x : _). reckon_from x (reckon_left got B') l old) e) ∙ called-reckon
+  pub reckon_called : record_words ≤ length l → {rec : Record} → rec ≡ clamped_of l → {got : Reckoned} {B' B'' : Lent}
+      → reckon_left got B' ≡ reckon_call base rec links B → B'' ≡ B' → reckoned (reckon_left got B'') ≡ reckon_out l links B old
+  reckon_called h read {got} e q =
+      ap (λ (T : Lent). reckoned (reckon_left got T)) q
+      ∙ ap reckoned (e ∙ ap (λ (x : Record). reckon_call base x links B) read)
+      ∙ reckon_clamp
+      ∙ reckon_whole h

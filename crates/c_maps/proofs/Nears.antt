@@ -1,5 +1,5 @@
 -- WHAT THE CALLS ON DEPOTS NEAR ONE LEAVE, way out by way out. Assumes nothing.
-use mathlib.Core.Path.{◌≡◌, sym, ap, ◌∙◌}
+use mathlib.Core.Path.{◌≡◌, ap, ◌∙◌}
 use mathlib.Core.Bool.{not, ◌&&◌}
 use mathlib.Core.List.{List, [], ◌∷◌}
 use Prim.Native.Nat.{ℕ, zero, suc, ◌≤◌, ◌<◌}
@@ -11,12 +11,8 @@ use Rattle.map.specs.Room.{Tables, long_enough}
 use Rattle.map.specs.Memory.{base, places}
 use Rattle.map.specs.declared.Record.{Record}
 use Rattle.search.specs.SearchCall.{search_sizes}
-use Rattle.nearby.specs.WithinCall.{within_refusal, WithinLeft, within_left, within_given, within_call}
-use Rattle.nearby.specs.NearestCall.{nearest_refusal, NearestLeft, nearest_left, nearest_given, nearest_call}
-use Rattle.nearby.specs.WithinCall.{Listing}
-use Rattle.nearby.specs.WithinCall.{Listed, Refused as NoListing}
-use Rattle.nearby.specs.NearestCall.{Closest}
-use Rattle.nearby.specs.NearestCall.{At, Refused as NoChoice}
+use Rattle.nearby.specs.WithinCall.{within_refusal, Listing, WithinLeft, within_left, within_given, within_call}
+use Rattle.nearby.specs.NearestCall.{nearest_refusal, Closest, NearestLeft, nearest_left, nearest_given, nearest_call}
 use Rattle.c_values.specs.Words.{record_words, record_of, clamped_of}
 use Rattle.c_values.proofs.Clamps.{network_in, links_first_clamp}
 use Rattle.c_maps.specs.Nears.{ListedOut, listed_out, within_from, within_out, ChosenOut, chosen_out, closest_from, nearest_out}
@@ -47,18 +43,13 @@ module _ (l links : List ℕ) (B : Tables) (codes : List ℕ) (old code k : ℕ)
   unfolding within_out
   within_whole_out h = rw (le-ltb (length l) record_words h)
 
-  module _ (h : record_words ≤ length l) {rec : Record} (read : rec ≡ clamped_of l) (got : Listing) {B' : Tables} {codes' : List ℕ}
-      (left : within_left got B' codes' ≡ within_call base rec links B codes code k) where
-    called_within : listing_out (within_left got B' codes') ≡ within_out l links B codes old code k
-    called_within = ap listing_out (left ∙ ap (λ (x : Record). within_call base x links B codes code k) read ∙ within_clamp_out) ∙ within_whole_out h
-
-    pub within_done_out : {n : ℕ} → got ≡ Listed n → listed_out 0 n B' codes' ≡ within_out l links B codes old code k
-    unfolding within_from
-    within_done_out q = sym (ap (λ (x : Listing). within_from x B' codes' old) q) ∙ called_within
-
-    pub within_refused_out : {r : ℕ} → got ≡ NoListing r → listed_out r old B' codes' ≡ within_out l links B codes old code k
-    unfolding within_from
-    within_refused_out q = sym (ap (λ (x : Listing). within_from x B' codes' old) q) ∙ called_within
+  -- whatever the call that it wraps answered
+  pub within_called : record_words ≤ length l → {rec : Record} → rec ≡ clamped_of l → {got : Listing} {B' B'' : Tables} {codes' : List ℕ}
+      → within_left got B' codes' ≡ within_call base rec links B codes code k → B'' ≡ B' → within_from got B'' codes' old ≡ within_out l links B codes old code k
+  within_called h read {got} {codes' = codes'} e q =
+      ap (λ (T : Tables). within_from got T codes' old) q
+      ∙ ap listing_out (e ∙ ap (λ (x : Record). within_call base x links B codes code k) read ∙ within_clamp_out)
+      ∙ within_whole_out h
 
 -- ---- the nearest depot of a list
 
@@ -84,15 +75,10 @@ module _ (l links : List ℕ) (B : Tables) (old old_distance code : ℕ) (listed
   unfolding nearest_out
   nearest_whole_out h = rw (le-ltb (length l) record_words h)
 
-  module _ (h : record_words ≤ length l) {rec : Record} (read : rec ≡ clamped_of l) (got : Closest) {B' : Tables}
-      (left : nearest_left got B' ≡ nearest_call base rec links B code listed) where
-    called_nearest : choice_out (nearest_left got B') ≡ nearest_out l links B old old_distance code listed
-    called_nearest = ap choice_out (left ∙ ap (λ (x : Record). nearest_call base x links B code listed) read ∙ nearest_clamp_out) ∙ nearest_whole_out h
-
-    pub nearest_done_out : {v d : ℕ} → got ≡ At v d → chosen_out 0 v d B' ≡ nearest_out l links B old old_distance code listed
-    unfolding closest_from
-    nearest_done_out q = sym (ap (λ (x : Closest). closest_from x B' old old_distance) q) ∙ called_nearest
-
-    pub nearest_refused_out : {r : ℕ} → got ≡ NoChoice r → chosen_out r old old_distance B' ≡ nearest_out l links B old old_distance code listed
-    unfolding closest_from
-    nearest_refused_out q = sym (ap (λ (x : Closest). closest_from x B' old old_distance) q) ∙ called_nearest
+  pub nearest_called : record_words ≤ length l → {rec : Record} → rec ≡ clamped_of l → {got : Closest} {B' B'' : Tables}
+      → nearest_left got B' ≡ nearest_call base rec links B code listed → B'' ≡ B'
+      → closest_from got B'' old old_distance ≡ nearest_out l links B old old_distance code listed
+  nearest_called h read {got} e q =
+      ap (λ (T : Tables). closest_from got T old old_distance) q
+      ∙ ap choice_out (e ∙ ap (λ (x : Record). nearest_call base x links B code listed) read ∙ nearest_clamp_out)
+      ∙ nearest_whole_out h

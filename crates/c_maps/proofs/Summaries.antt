@@ -1,5 +1,5 @@
 -- WHAT THE CALL OF THE NETWORK REPORT LEAVES, way out by way out. Assumes nothing.
-use mathlib.Core.Path.{◌≡◌, sym, ap, ◌∙◌}
+use mathlib.Core.Path.{◌≡◌, ap, ◌∙◌}
 use mathlib.Core.Bool.{◌&&◌}
 use mathlib.Core.List.{List, [], ◌∷◌}
 use Prim.Native.Nat.{ℕ, zero, suc, ◌≤◌, ◌<◌}
@@ -13,12 +13,10 @@ use Rattle.map.specs.Room.{Tables, long_enough}
 use Rattle.map.specs.Memory.{base, places}
 use Rattle.map.specs.declared.Record.{Record}
 use Rattle.search.specs.SearchCall.{search_sizes}
-use Rattle.summary.specs.SummaryCall.{summary_refusal, SummaryLeft, summary_left, summary_given, summary_call}
-use Rattle.summary.specs.SummaryCall.{Summing}
-use Rattle.summary.specs.SummaryCall.{Summed, Refused}
+use Rattle.summary.specs.SummaryCall.{summary_refusal, Summing, SummaryLeft, summary_left, summary_given, summary_call}
 use Rattle.c_values.specs.Words.{record_words, record_of, clamped_of}
 use Rattle.c_values.proofs.Clamps.{network_in, links_first_clamp}
-use Rattle.c_maps.specs.Summaries.{FourNumbers, four_numbers, SummaryOut, summed_out, summary_from, summary_out}
+use Rattle.c_maps.specs.Summaries.{FourNumbers, SummaryOut, summed_out, summary_from, summary_out}
 
 module _ (l links : List ℕ) (B : Tables) (counts : List ℕ) (old : FourNumbers) where
   abbrev report_out : SummaryLeft → SummaryOut
@@ -44,15 +42,10 @@ module _ (l links : List ℕ) (B : Tables) (counts : List ℕ) (old : FourNumber
   unfolding summary_out
   summary_whole_out h = rw (le-ltb (length l) record_words h)
 
-  module _ (h : record_words ≤ length l) {rec : Record} (read : rec ≡ clamped_of l) (got : Summing) {B' : Tables} {counts' : List ℕ}
-      (left : summary_left got B' counts' ≡ summary_call base rec links B counts) where
-    called_summary : report_out (summary_left got B' counts') ≡ summary_out l links B counts old
-    called_summary = ap report_out (left ∙ ap (λ (x : Record). summary_call base x links B counts) read ∙ summary_clamp_out) ∙ summary_whole_out h
-
-    pub summary_done_out : {s p q r : ℕ} → got ≡ Summed s p q r → summed_out 0 (four_numbers s p q r) B' counts' ≡ summary_out l links B counts old
-    unfolding summary_from
-    summary_done_out e = sym (ap (λ (x : Summing). summary_from x B' counts' old) e) ∙ called_summary
-
-    pub summary_refused_out : {k : ℕ} → got ≡ Refused k → summed_out k old B' counts' ≡ summary_out l links B counts old
-    unfolding summary_from
-    summary_refused_out e = sym (ap (λ (x : Summing). summary_from x B' counts' old) e) ∙ called_summary
+  -- whatever the call that it wraps answered
+  pub summary_called : record_words ≤ length l → {rec : Record} → rec ≡ clamped_of l → {got : Summing} {B' B'' : Tables} {counts' : List ℕ}
+      → summary_left got B' counts' ≡ summary_call base rec links B counts → B'' ≡ B' → summary_from got B'' counts' old ≡ summary_out l links B counts old
+  summary_called h read {got} {counts' = counts'} e q =
+      ap (λ (T : Tables). summary_from got T counts' old) q
+      ∙ ap report_out (e ∙ ap (λ (x : Record). summary_call base x links B counts) read ∙ summary_clamp_out)
+      ∙ summary_whole_out h

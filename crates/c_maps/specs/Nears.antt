@@ -3,12 +3,8 @@
 use Rattle.std.specs.Prelude.{cond, List, ℕ, ltb, length}
 use Rattle.map.specs.Room.{Tables}
 use Rattle.map.specs.Memory.{base}
-use Rattle.nearby.specs.WithinCall.{within_call}
-use Rattle.nearby.specs.NearestCall.{nearest_call}
-use Rattle.nearby.specs.WithinCall.{Listing}
-use Rattle.nearby.specs.WithinCall.{Listed, Refused as NoListing}
-use Rattle.nearby.specs.NearestCall.{Closest}
-use Rattle.nearby.specs.NearestCall.{At, Refused as NoChoice}
+use Rattle.nearby.specs.WithinCall.{Listing, Listed, Refused as NoListing, within_call}
+use Rattle.nearby.specs.NearestCall.{Closest, At, Refused as NoChoice, nearest_call}
 use Rattle.outcome.specs.Numbers.{short_buffer}
 use Rattle.c_values.specs.Words.{record_words, record_of}
 

@@ -4,15 +4,9 @@ use Rattle.std.specs.Prelude.{cond, List, ℕ, ltb, length}
 use Rattle.lists.specs.Lists.{overwrite}
 use Rattle.map.specs.Room.{Tables, Lent}
 use Rattle.map.specs.Memory.{base}
-use Rattle.map.specs.Empty.{EmptyLeft, empty_call}
-use Rattle.map.specs.declared.Emptying.{Emptying}
-use Rattle.map.specs.declared.Emptying.TheVariants.{Done, Refused as NoEmptying}
-use Rattle.search.specs.SearchCall.{search_call}
-use Rattle.search.specs.SearchCall.{Found}
-use Rattle.search.specs.SearchCall.{Reached, Refused as NoSearch}
-use Rattle.reckon.specs.ReckonCall.{ReckonLeft, reckon_call}
-use Rattle.reckon.specs.declared.Reckoning.{Reckoning}
-use Rattle.reckon.specs.declared.Reckoning.TheVariants.{Searches, Refused as NoReckoning}
+use Rattle.map.specs.Empty.{Emptying, Done, Refused as NoEmptying, EmptyLeft, empty_call}
+use Rattle.search.specs.SearchCall.{Found, Reached, Refused as NoSearch, search_call}
+use Rattle.reckon.specs.ReckonCall.{Reckoning, Searches, Refused as NoReckoning, ReckonLeft, reckon_call}
 use Rattle.outcome.specs.Numbers.{short_buffer}
 use Rattle.c_values.specs.Words.{record_words, record_of, words_of}
 

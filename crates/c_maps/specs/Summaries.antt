@@ -3,9 +3,7 @@
 use Rattle.std.specs.Prelude.{cond, List, ℕ, ltb, length}
 use Rattle.map.specs.Room.{Tables}
 use Rattle.map.specs.Memory.{base}
-use Rattle.summary.specs.SummaryCall.{summary_call}
-use Rattle.summary.specs.SummaryCall.{Summing}
-use Rattle.summary.specs.SummaryCall.{Summed, Refused}
+use Rattle.summary.specs.SummaryCall.{Summing, Summed, Refused, summary_call}
 use Rattle.outcome.specs.Numbers.{short_buffer}
 use Rattle.c_values.specs.Words.{record_words, record_of}
 

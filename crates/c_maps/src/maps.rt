@@ -90,8 +90,7 @@ pub extern "C" fn zorpedi_reckon(
     };
     match reckon::reckon_all(rec, links, &mut room) {
         Ok(reckoned) => {
-            let after = reckoned.after;
-            c_values::put_record(words, after);
+            c_values::put_record(words, reckoned.after);
             *searches = reckoned.searches;
             0
         }

@@ -8,3 +8,5 @@ pub mod Outcomes
 pub mod Refusals
 -- The theorems: words written are words read, and an answer's number names its outcome.
 pub mod Theorems
+-- Lent tables one by one.
+pub mod Lent

@@ -28,29 +28,18 @@ const COUNT_WORD: usize = map::WORDS + 2;
 
 const YARDS_WORD: usize = map::WORDS + 3;
 
-// the largest numbers of 16 and of 32 bits; in specifications `most16`, `most32`
-const MOST_16: u16 = 65535;
-
-const MOST_32: u32 = 4294967295;
-
 // A word at 16 bits: a larger one becomes the largest, which no map has as its number open or its chain.
 fn at_16_bits(x: u64) -> u16
     ensures { result ≡ min x most16 }
 {
-    if (MOST_16 as u64) < x {
-        return MOST_16;
-    }
-    x as u16
+    u16::try_from(x).unwrap_or(u16::MAX)
 }
 
 // A word at 32 bits: a larger one becomes the largest, which no map has as its pair count.
 fn at_32_bits(x: u64) -> u32
     ensures { result ≡ min x most32 }
 {
-    if (MOST_32 as u64) < x {
-        return MOST_32;
-    }
-    x as u32
+    u32::try_from(x).unwrap_or(u32::MAX)
 }
 
 // The row of four words from a place on.

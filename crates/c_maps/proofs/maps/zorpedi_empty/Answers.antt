@@ -1,12 +1,16 @@
 -- `c_maps::maps::zorpedi_empty` meets its contract: short, done or refused, as the call that it wraps.
-use Rattle.c_maps.proofs.Answers.{empty-short, empty-done, empty-refused}
+use Rattle.c_maps.specs.Outs.{empty_from}
+use Rattle.c_maps.proofs.Answers.{empty_short, empty_called}
 use Rattle.c_maps.proofs.maps.zorpedi_empty.Goals as goal
 
 pub returns-then-words-lt-RECORD_WORDS : goal.returns-then-words-lt-RECORD_WORDS
-returns-then-words-lt-RECORD_WORDS c = search empty-short
+returns-then-words-lt-RECORD_WORDS c = rw c.number.ensures (empty_short _ _ _ c.if-words-lt-RECORD_WORDS.true)
 
-pub returns-in-Done : goal.returns-in-Done
-returns-in-Done c = search empty-done
+pub returns-in-Ok : goal.returns-in-Ok
+unfolding empty_from
+returns-in-Ok c = rw c.put_record.ensures (empty_called _ _ _ c.if-words-lt-RECORD_WORDS.false c.record_of-rec.ensures c.in-Ok.ensures)
 
-pub returns-in-Refused : goal.returns-in-Refused
-returns-in-Refused c = search empty-refused
+pub returns-in-Err : goal.returns-in-Err
+unfolding empty_from
+returns-in-Err c =
+    rw c.number-in-Err.ensures (empty_called _ _ _ c.if-words-lt-RECORD_WORDS.false c.record_of-rec.ensures c.in-Err.ensures)

@@ -1,12 +1,21 @@
 -- `c_maps::maps::zorpedi_reckon` meets its contract: short, done or refused, as the call that it wraps.
-use Rattle.c_maps.proofs.Answers.{reckon-short, reckon-done, reckon-refused}
+use borrow.Author.Rules.{rules}
+use Rattle.c_values.proofs.Lent.{same_lent}
+use Rattle.c_maps.specs.Outs.{reckon_from}
+use Rattle.c_maps.proofs.Answers.{reckon_short, reckon_called}
 use Rattle.c_maps.proofs.maps.zorpedi_reckon.Goals as goal
 
 pub returns-then-words-lt-RECORD_WORDS : goal.returns-then-words-lt-RECORD_WORDS
-returns-then-words-lt-RECORD_WORDS c = search reckon-short
+returns-then-words-lt-RECORD_WORDS c = rw c.number.ensures (reckon_short _ _ _ _ c.if-words-lt-RECORD_WORDS.true)
 
-pub returns-in-Searches : goal.returns-in-Searches
-returns-in-Searches c = search reckon-done
+pub returns-in-Ok : goal.returns-in-Ok
+unfolding reckon_from
+returns-in-Ok c =
+    rw c.put_record.ensures (reckon_called _ _ _ _ c.if-words-lt-RECORD_WORDS.false
+    c.record_of-rec.ensures c.in-Ok.ensures.left (search (rules, same_lent)))
 
-pub returns-in-Refused : goal.returns-in-Refused
-returns-in-Refused c = search reckon-refused
+pub returns-in-Err : goal.returns-in-Err
+unfolding reckon_from
+returns-in-Err c =
+    rw c.number-in-Err.ensures (reckon_called _ _ _ _ c.if-words-lt-RECORD_WORDS.false
+    c.record_of-rec.ensures c.in-Err.ensures.left (search (rules, same_lent)))

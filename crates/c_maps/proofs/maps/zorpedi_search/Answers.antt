@@ -1,12 +1,20 @@
 -- `c_maps::maps::zorpedi_search` meets its contract: short, done or refused, as the call that it wraps.
-use Rattle.c_maps.proofs.Answers.{search-short, search-done, search-refused}
+use borrow.Author.Rules.{rules}
+use Rattle.rounds.proofs.Turns.{same_tables}
+use Rattle.c_maps.specs.Outs.{search_from}
+use Rattle.c_maps.proofs.Answers.{search_short, search_called}
 use Rattle.c_maps.proofs.maps.zorpedi_search.Goals as goal
 
 pub returns-then-words-lt-RECORD_WORDS : goal.returns-then-words-lt-RECORD_WORDS
-returns-then-words-lt-RECORD_WORDS c = search search-short
+returns-then-words-lt-RECORD_WORDS c = rw c.number.ensures (search_short _ _ _ _ _ _ c.if-words-lt-RECORD_WORDS.true)
 
-pub returns-in-Reached : goal.returns-in-Reached
-returns-in-Reached c = search search-done
+pub returns-in-Ok : goal.returns-in-Ok
+unfolding search_from
+returns-in-Ok c =
+    search_called _ _ _ _ _ _ c.if-words-lt-RECORD_WORDS.false c.record_of-rec.ensures c.in-Ok.ensures.left (search (rules, same_tables))
 
-pub returns-in-Refused : goal.returns-in-Refused
-returns-in-Refused c = search search-refused
+pub returns-in-Err : goal.returns-in-Err
+unfolding search_from
+returns-in-Err c =
+    rw c.number-in-Err.ensures (search_called _ _ _ _ _ _ c.if-words-lt-RECORD_WORDS.false
+    c.record_of-rec.ensures c.in-Err.ensures.left (search (rules, same_tables)))

@@ -1,12 +1,20 @@
 -- `c_maps::near::zorpedi_nearest` meets its contract: short, done or refused, as the call that it wraps.
-use Rattle.c_maps.proofs.Nears.{nearest_short_out, nearest_done_out, nearest_refused_out}
+use borrow.Author.Rules.{rules}
+use Rattle.rounds.proofs.Turns.{same_tables}
+use Rattle.c_maps.specs.Nears.{closest_from}
+use Rattle.c_maps.proofs.Nears.{nearest_short_out, nearest_called}
 use Rattle.c_maps.proofs.near.zorpedi_nearest.Goals as goal
 
 pub returns-then-words-lt-RECORD_WORDS : goal.returns-then-words-lt-RECORD_WORDS
-returns-then-words-lt-RECORD_WORDS c = search nearest_short_out
+returns-then-words-lt-RECORD_WORDS c = rw c.number.ensures (nearest_short_out _ _ _ _ _ _ _ c.if-words-lt-RECORD_WORDS.true)
 
-pub returns-in-At : goal.returns-in-At
-returns-in-At c = search nearest_done_out
+pub returns-in-Ok : goal.returns-in-Ok
+unfolding closest_from
+returns-in-Ok c =
+    nearest_called _ _ _ _ _ _ _ c.if-words-lt-RECORD_WORDS.false c.record_of-rec.ensures c.in-Ok.ensures.left (search (rules, same_tables))
 
-pub returns-in-Refused : goal.returns-in-Refused
-returns-in-Refused c = search nearest_refused_out
+pub returns-in-Err : goal.returns-in-Err
+unfolding closest_from
+returns-in-Err c =
+    rw c.number-in-Err.ensures (nearest_called _ _ _ _ _ _ _ c.if-words-lt-RECORD_WORDS.false
+    c.record_of-rec.ensures c.in-Err.ensures.left (search (rules, same_tables)))

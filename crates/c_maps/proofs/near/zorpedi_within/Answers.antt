@@ -1,12 +1,20 @@
 -- `c_maps::near::zorpedi_within` meets its contract: short, done or refused, as the call that it wraps.
-use Rattle.c_maps.proofs.Nears.{within_short_out, within_done_out, within_refused_out}
+use borrow.Author.Rules.{rules}
+use Rattle.rounds.proofs.Turns.{same_tables}
+use Rattle.c_maps.specs.Nears.{within_from}
+use Rattle.c_maps.proofs.Nears.{within_short_out, within_called}
 use Rattle.c_maps.proofs.near.zorpedi_within.Goals as goal
 
 pub returns-then-words-lt-RECORD_WORDS : goal.returns-then-words-lt-RECORD_WORDS
-returns-then-words-lt-RECORD_WORDS c = search within_short_out
+returns-then-words-lt-RECORD_WORDS c = rw c.number.ensures (within_short_out _ _ _ _ _ _ _ c.if-words-lt-RECORD_WORDS.true)
 
-pub returns-in-Listed : goal.returns-in-Listed
-returns-in-Listed c = search within_done_out
+pub returns-in-Ok : goal.returns-in-Ok
+unfolding within_from
+returns-in-Ok c =
+    within_called _ _ _ _ _ _ _ c.if-words-lt-RECORD_WORDS.false c.record_of-rec.ensures c.in-Ok.ensures.left (search (rules, same_tables))
 
-pub returns-in-Refused : goal.returns-in-Refused
-returns-in-Refused c = search within_refused_out
+pub returns-in-Err : goal.returns-in-Err
+unfolding within_from
+returns-in-Err c =
+    rw c.number-in-Err.ensures (within_called _ _ _ _ _ _ _ c.if-words-lt-RECORD_WORDS.false
+    c.record_of-rec.ensures c.in-Err.ensures.left (search (rules, same_tables)))

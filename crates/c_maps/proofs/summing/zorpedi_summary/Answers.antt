@@ -1,12 +1,19 @@
 -- `c_maps::summing::zorpedi_summary` meets its contract: short, done or refused, as the call that it wraps.
-use Rattle.c_maps.proofs.Summaries.{summary_short_out, summary_done_out, summary_refused_out}
+use borrow.Author.Rules.{rules}
+use Rattle.rounds.proofs.Turns.{same_tables}
+use Rattle.c_maps.specs.Summaries.{summary_from}
+use Rattle.c_maps.proofs.Summaries.{summary_short_out, summary_called}
 use Rattle.c_maps.proofs.summing.zorpedi_summary.Goals as goal
 
 pub returns-then-words-lt-RECORD_WORDS : goal.returns-then-words-lt-RECORD_WORDS
-returns-then-words-lt-RECORD_WORDS c = search summary_short_out
+returns-then-words-lt-RECORD_WORDS c = rw c.number.ensures (summary_short_out _ _ _ _ _ c.if-words-lt-RECORD_WORDS.true)
 
-pub returns-in-Summed : goal.returns-in-Summed
-returns-in-Summed c = search summary_done_out
+pub returns-in-Ok : goal.returns-in-Ok
+unfolding summary_from
+returns-in-Ok c = summary_called _ _ _ _ _ c.if-words-lt-RECORD_WORDS.false c.record_of-rec.ensures c.in-Ok.ensures.left (search (rules, same_tables))
 
-pub returns-in-Refused : goal.returns-in-Refused
-returns-in-Refused c = search summary_refused_out
+pub returns-in-Err : goal.returns-in-Err
+unfolding summary_from
+returns-in-Err c =
+    rw c.number-in-Err.ensures (summary_called _ _ _ _ _ c.if-words-lt-RECORD_WORDS.false
+    c.record_of-rec.ensures c.in-Err.ensures.left (search (rules, same_tables)))
