@@ -90,8 +90,8 @@ pub struct Ended {
     pub failure: Option<io::Error>,
 }
 
-// Answers an input to its end. A proved loop has to end, and nothing says that the input does: so the loop counts its turns down, from a
-// number that no run uses up.
+// Answers an input to its end. A proved loop has to end, and nothing says that the input does: so the loop counts its turns, up to a
+// number that no run comes to.
 pub fn answer_all<R: Read>(
     rt: &HostRuntime,
     progress: Progress,
@@ -113,8 +113,7 @@ pub fn answer_all<R: Read>(
     ensures { IsReady result.progress links.new (lent_after pairs hops bounds skips even odd) line.new }
 {
     let mut now = progress;
-    let mut turns = u64::MAX;
-    while turns > 0 {
+    for _ in 0..u64::MAX {
         let n = match system::read_some(input, from) {
             Ok(n) => n,
             Err(why) => {
@@ -156,7 +155,6 @@ pub fn answer_all<R: Read>(
                 failure: None,
             };
         }
-        turns -= 1;
     }
     Ended {
         progress: now,

@@ -1,5 +1,5 @@
 // Reads and writes that fail aloud: a call that was interrupted is tried again, any other failure is said on standard error in one line, with the
-// system's words. Both loops count down the times they try again, since a proved loop has to end; no run uses them up.
+// system's words. What tries again counts how often, since a proved loop has to end; no run uses the tries up.
 ghost use Rattle.std.specs.Prelude.{◌≤◌, ◌<◌, length, IfOk};
 ghost use Rattle.std.specs.Io.{ReadsAtMost};
 
@@ -10,47 +10,37 @@ use std::io::{ErrorKind, Read};
 pub fn read_some<R: Read>(input: &mut [u8], from: &mut R) -> io::Result<usize>
     ensures { ReadsAtMost result input.new }
 {
-    let mut tries = u64::MAX;
-    while tries > 0 {
+    for _ in 0..u64::MAX {
         match from.read(input) {
-            Ok(n) => return Ok(n),
-            Err(why) => {
-                if why.kind() != ErrorKind::Interrupted {
-                    return Err(why);
-                }
-            }
+            Err(why) if why.kind() == ErrorKind::Interrupted => {}
+            done => return done,
         }
-        tries -= 1;
     }
     Err(io::Error::from(ErrorKind::Interrupted))
 }
 
-// Writes what standard output takes of the bytes, which are some, at once: how many it took, at least one.
+// Writes what standard output takes of the bytes, which are some, at once: how many it took, at least one. (One loop for this and `read_some`, over a
+// closure, would be no plainer: both contracts would have to go through the closure's states.)
 fn write_some(rt: &impl Print, out: &[u8]) -> io::Result<usize>
     ensures { IfOk result (λ n. (0 < n) × (n ≤ length out.now)) }
 {
-    let mut tries = u64::MAX;
-    while tries > 0 {
+    for _ in 0..u64::MAX {
         match rt.write_some(out) {
             Ok(0) => return Err(io::Error::from(ErrorKind::WriteZero)),
-            Ok(n) => return Ok(n),
-            Err(why) => {
-                if why.kind() != ErrorKind::Interrupted {
-                    return Err(why);
-                }
-            }
+            Err(why) if why.kind() == ErrorKind::Interrupted => {}
+            done => return done,
         }
-        tries -= 1;
     }
     Err(io::Error::from(ErrorKind::Interrupted))
 }
 
-// Writes all of the bytes to standard output. Where that fails it is said of the name, and the answer is false.
+// Writes all of the bytes to standard output. Where that fails it is said of the name, and the answer is false. (The library's `write_all` gives up after
+// 64 interruptions.)
 pub fn write_out(rt: &HostRuntime, out: &[u8], name: &[u8]) -> bool {
-    let mut at: usize = 0;
-    while at < out.len() {
-        match write_some(rt, &out[at..]) {
-            Ok(n) => at += n,
+    let mut rest = out;
+    while !rest.is_empty() {
+        match write_some(rt, rest) {
+            Ok(n) => rest = &rest[n..],
             Err(why) => {
                 say(rt, name, why);
                 return false;
@@ -75,8 +65,6 @@ pub fn say(rt: &HostRuntime, name: &[u8], why: io::Error) {
 
 // The system's words for an error, without the number that stands behind them.
 fn words(text: &str) -> &str {
-    match text.split_once(" (os error ") {
-        Some((said, _)) => said,
-        None => text,
-    }
+    text.split_once(" (os error ")
+        .map_or(text, |(said, _)| said)
 }
