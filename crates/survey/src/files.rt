@@ -1,5 +1,5 @@
 // The files of a run, by the arguments that name them. What fails is said on standard error: the program, the file's name and the system's words.
-ghost use Rattle.std.specs.Prelude.{◌≡◌, ◌≤◌, length, take};
+ghost use Rattle.std.specs.Prelude.{◌≡◌, ◌≤◌, length, take, IfSome};
 
 use std::env::{Env, FillError};
 use std::fs::File;
@@ -13,10 +13,10 @@ const TOO_LONG: i32 = 36;
 
 const NO_TEXT: i32 = 84;
 
-// A file, if it can be opened, and how many bytes its name has.
+// A file that was opened, and how many bytes its name has.
 #[derive(Drop)]
 pub struct Opened {
-    pub file: Option<File>,
+    pub file: File,
     pub named: usize,
 }
 
@@ -38,35 +38,24 @@ pub fn count_arguments(rt: &impl Env) -> usize {
 
 // Opens the file of this name, which has to be text.
 fn open_named(rt: &HostRuntime, name: &[u8]) -> io::Result<File> {
-    match str::from_utf8(name) {
-        Ok(path) => File::open(rt, path),
-        Err(_) => Err(io::Error::from_raw_os_error(NO_TEXT)),
-    }
+    let path = str::from_utf8(name).map_err(|_| io::Error::from_raw_os_error(NO_TEXT))?;
+    File::open(rt, path)
 }
 
 // Opens the file that argument i names, and puts its name into the buffer. A name that does not fit there opens no file, and is said as far as it does.
-pub fn open_argument(rt: &HostRuntime, name: &mut [u8], i: usize) -> Opened
-    ensures within { result.named ≤ length name.new }
-    ensures whole { result.named ≡ length (take result.named name.new) }
+pub fn open_argument(rt: &HostRuntime, name: &mut [u8], i: usize) -> Option<Opened>
+    ensures within { IfSome result (λ opened. opened.named ≤ length name.new) }
+    ensures whole { IfSome result (λ opened. opened.named ≡ length (take opened.named name.new)) }
 {
-    let Ok(n) = rt.arg(i, name) else {
+    let Ok(named) = rt.arg(i, name) else {
         say(rt, &*name, io::Error::from_raw_os_error(TOO_LONG));
-        return Opened {
-            file: None,
-            named: 0,
-        };
+        return None;
     };
-    match open_named(rt, &name[..n]) {
-        Ok(file) => Opened {
-            file: Some(file),
-            named: n,
-        },
+    match open_named(rt, &name[..named]) {
+        Ok(file) => Some(Opened { file, named }),
         Err(why) => {
-            say(rt, &name[..n], why);
-            Opened {
-                file: None,
-                named: n,
-            }
+            say(rt, &name[..named], why);
+            None
         }
     }
 }

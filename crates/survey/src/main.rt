@@ -2,7 +2,7 @@
 // be read is said on standard error, and counts as far as it was read; a write that fails is said too, and ends the run.
 #![tactic(auto)]
 
-ghost use Rattle.std.specs.Prelude.{◌≡◌, ◌+◌, ◌≤◌, ◌<◌, length};
+ghost use Rattle.std.specs.Prelude.{◌≡◌, ◌+◌, ◌≤◌, ◌<◌, length, IfSome};
 ghost use Rattle.map.specs.Slices.{lent_at, lent_after};
 ghost use Rattle.stream.specs.Feeding.{IsReady};
 ghost use Rattle.summaries.specs.Run.{room, files_limit};
@@ -33,11 +33,10 @@ fn follow_file(
     ensures { IsReady result links.new (lent_after pairs hops bounds skips even odd) line.new }
 {
     let mut name = [0u8; files::NAME_LIMIT];
-    let opened = files::open_argument(rt, &mut name, i);
-    let named = opened.named;
-    let Some(mut file) = opened.file else {
+    let Some(opened) = files::open_argument(rt, &mut name, i) else {
         return progress;
     };
+    let files::Opened { mut file, named } = opened;
     let ended = feeding::answer_all(
         rt,
         progress,
@@ -61,23 +60,16 @@ fn follow_file(
     ended.progress
 }
 
-// Where the run stands: the totals so far, and whether to go on.
-#[derive(Clone, Copy)]
-struct Surveyed {
-    totals: Totals,
-    going: bool,
-}
-
-// Reports on the file that argument i names, followed from an empty map, and adds it to the totals.
+// Reports on the file that argument i names, followed from an empty map, and adds it to the totals; none if its line cannot be written.
 fn survey_file(
     rt: &HostRuntime,
     out: &mut [u8],
     input: &mut [u8],
     totals: Totals,
     i: usize,
-) -> Surveyed
+) -> Option<Totals>
     requires { (room ≤ length out.old) × AreOfFiles totals × (totals.files < files_limit) }
-    ensures { AreOfFiles result.totals × (result.totals.files ≡ totals.files + 1) }
+    ensures { IfSome result (λ with. AreOfFiles with × (with.files ≡ totals.files + 1)) }
 {
     let mut links = [0u64; map::TABLE];
     let mut pairs = [0u64; map::TABLE];
@@ -109,43 +101,29 @@ fn survey_file(
     let put = summaries::put_file(out, 0, totals, answer);
     let end = put.at;
     let told = feeding::system::write_out(rt, &out[..end], b"survey: standard output");
-    let with = put.totals;
-    Surveyed {
-        totals: with,
-        going: told,
-    }
+    if told { Some(put.totals) } else { None }
 }
 
-// Reports on so many files, as long as their lines can be written.
-fn survey_files(rt: &HostRuntime, out: &mut [u8], input: &mut [u8], count: u32) -> Surveyed
+// Reports on so many files, and totals them; none as soon as a line cannot be written.
+fn survey_files(rt: &HostRuntime, out: &mut [u8], input: &mut [u8], count: u32) -> Option<Totals>
     requires { (room ≤ length out.old) × (count ≤ files_limit) }
 {
-    let none = Totals {
+    let mut totals = Totals {
         sum: 0,
         pairs: 0,
         files: 0,
     };
-    let mut now = Surveyed {
-        totals: none,
-        going: true,
-    };
-    while now.totals.files < count {
-        let totals = now.totals;
-        now = survey_file(rt, out, input, totals, totals.files as usize + 1);
-        if !now.going {
-            return now;
-        }
+    for i in 0..count {
+        totals = survey_file(rt, out, input, totals, i as usize + 1)?;
     }
-    now
+    Some(totals)
 }
 
 fn main(rt: HostRuntime) {
     let mut out = [0u8; 65536];
     let mut input = [0u8; 65536];
     let count = summaries::files_read(files::count_arguments(&rt));
-    let surveyed = survey_files(&rt, &mut out, &mut input, count);
-    if surveyed.going {
-        let totals = surveyed.totals;
+    if let Some(totals) = survey_files(&rt, &mut out, &mut input, count) {
         let end = summaries::put_total(&mut out, 0, totals);
         feeding::system::write_out(&rt, &out[..end], b"survey: standard output");
     }

@@ -22,5 +22,5 @@ slice_bounds-write_out-end-2 c =
     let fits : c.put_file-put.result.at ≤ length c.put_file-put.new.out = file_fits _ _ _ c.put_file-put.ensures in
     search (length-take-le, rules)
 
-pub returns : goal.returns
-returns c = put_of_files _ _ _ _ c.put_file-put.ensures c.requires.1 (answered_of_file _ _ _ _ c.summarise-answer.ensures)
+pub returns-then-told : goal.returns-then-told
+returns-then-told c = put_of_files _ _ _ _ c.put_file-put.ensures c.requires.1 (answered_of_file _ _ _ _ c.summarise-answer.ensures)
