@@ -10,16 +10,8 @@ use std::env::{Env, FillError};
 use std::io;
 use stream::Progress;
 
-// Says that a read failed, if it did, and why. Where the reports before it could not be written, that has been said instead.
-fn say_read(rt: &HostRuntime, told: bool, failure: Option<io::Error>) {
-    if told {
-        if let Some(why) = failure {
-            feeding::system::say(rt, b"follow: standard input", why);
-        }
-    }
-}
-
-// Reports a last stretch without an ending, and says then that a read failed, if it did.
+// Reports a last stretch without an ending, and says then that a read failed, if it did, and why. Where the report could not be written, that has been said
+// instead.
 fn end(
     rt: &HostRuntime,
     progress: Progress,
@@ -41,7 +33,9 @@ fn end(
     );
     let written = fed.written;
     let told = feeding::system::write_out(rt, &out[..written], b"follow: standard output");
-    say_read(rt, told, failure);
+    if told && let Some(why) = failure {
+        feeding::system::say(rt, b"follow: standard input", why);
+    }
 }
 
 // Follows standard input.
@@ -100,10 +94,7 @@ fn follow(
 
 // Whether there is an argument behind the program's name, whatever it is.
 fn has_argument(rt: &impl Env) -> bool {
-    match rt.arg(1, &mut []) {
-        Err(FillError::NotPresent) => false,
-        _ => true,
-    }
+    !matches!(rt.arg(1, &mut []), Err(FillError::NotPresent))
 }
 
 fn main(rt: HostRuntime) {
