@@ -2,14 +2,9 @@
 use mathlib.Core.Path.{◌≡◌, refl, sym, ap, ◌∙◌, subst}
 use mathlib.Core.Bool.{cond, not, ◌||◌}
 use mathlib.Core.List.{List, [], ◌∷◌, Memᴰ}
-<<<<<<< HEAD
 use mathlib.Core.Option.{Option as Perhaps, some}
 use Rattle.std.specs.Prelude.{Option, Some, None}
-use Prim.Native.Nat.{ℕ, suc, ◌-◌, ◌≤◌, ◌<◌}
-=======
-use mathlib.Core.Option.{Option, some}
 use Prim.Native.Nat.{ℕ, suc, ◌≤◌, ◌<◌}
->>>>>>> 17b9351d32fc344c6aa36614a89ea70f0b0e93ef
 use native.Mathlib.Omega.{arith}
 use lib.Dec.{eqb}
 use lib.ListN.{length, get_or}
@@ -69,13 +64,8 @@ module _ (K : Shape) (shape : IsShape K) (input : List ℕ) {first : BatchStandi
     under_none z = sym (turns_none turns K (batch_standing p links B input) (sym found ∙ ap (λ (x : Option Fit). fit_of x frame) z)) ∙ is.goes_on
 
     -- one fits, and is opened
-<<<<<<< HEAD
-    module _ {x : Fit} (e : r ≡ Some x) (more : 0 < turns) (few : length (lines_of input) ≤ batch_limit)
+    module _ {x : Fit} (e : r ≡ Some x) {k : ℕ} (s : suc k ≡ turns) (few : length (lines_of input) ≤ batch_limit)
         (codes : (y : Entry) → Memᴰ y (entries_of input) → y.notice.code < places K)
-=======
-    module _ {number n : ℕ} (e : r ≡ Found number n) {k : ℕ} (s : suc k ≡ turns) (few : length (lines_of input) ≤ batch_limit)
-        (codes : (x : Entry) → Memᴰ x (entries_of input) → x.notice.code < places K)
->>>>>>> 17b9351d32fc344c6aa36614a89ea70f0b0e93ef
         (p' : BatchProgress) {links' : List ℕ} {B' : Lent}
         (left : lent_memory p'.after links' B' ≡ memory_left (opening_on K (lent_memory p.after links B) (notice_at frame x.length)))
         (marked : p'.taken ≡ word_of 64 (λ k. eqb k x.number || bit p.taken k)) where

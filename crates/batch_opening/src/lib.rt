@@ -120,27 +120,11 @@ fn open_lines(
         after: rec,
         taken: 0,
     };
-<<<<<<< HEAD
-    let mut turns = count;
-    while 0 < turns {
+    for _turn in 0..count {
         let Some(fit) = next_fit(progress.after, &mut frame, progress.taken, lines) else {
             return progress;
         };
         progress = take_line(progress, links, room, &frame, fit);
-        turns -= 1;
-=======
-    for _turn in 0..count {
-        let at = progress.after;
-        let fit = next_fit(at, &mut frame, progress.taken, lines);
-        match fit {
-            Fit::Line(number, n) => {
-                progress = take_line(
-                    progress, links, pairs, hops, bounds, skips, even, odd, &frame, number, n,
-                );
-            }
-            Fit::Nothing => return progress,
-        }
->>>>>>> 17b9351d32fc344c6aa36614a89ea70f0b0e93ef
     }
     progress
 }

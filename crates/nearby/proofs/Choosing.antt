@@ -70,14 +70,9 @@ nearer_self h c = sym (nearer_high h c c (omega arith) (omega arith) (omega arit
 module _ (h : ℕ → ℕ) (p : ℕ → Bool) (s : List ℕ) (first : ℕ) where
   -- the loop's invariant, at place i with `found` so far
   pub record IsChoosing (found i : ℕ) : Type 0 where
+    pub within : i ≤ length s
     pub same : nearest_from h first (filterb p s) ≡ nearest_from h found (filterb p (drop i s))
 
-<<<<<<< HEAD
-=======
-  pub choosing_none : IsChoosing first 0
-  choosing_none = record { same = refl }
-
->>>>>>> 17b9351d32fc344c6aa36614a89ea70f0b0e93ef
   module _ {found i : ℕ} (w : IsChoosing found i) where
     -- one code more: it counts where it passes
     pub choosing_more : i < length s → IsChoosing (cond (p (get_or s i 0)) (nearer_of h found (get_or s i 0)) found) (i + 1)
@@ -85,8 +80,8 @@ module _ (h : ℕ → ℕ) (p : ℕ → Bool) (s : List ℕ) (first : ℕ) where
     choosing_more l = go (look (p (get_or s i 0)))
       where
         go : (p (get_or s i 0) ≡ true) ⊎ (p (get_or s i 0) ≡ false) → IsChoosing (cond (p (get_or s i 0)) (nearer_of h found (get_or s i 0)) found) (i + 1)
-        go (inl t) = rw t (record { same = w.same ∙ ap (nearest_from h found) (filter-took p s i 0 l t) })
-        go (inr f) = rw f (record { same = w.same ∙ ap (nearest_from h found) (filter-passed p s i 0 l f) })
+        go (inl t) = rw t (record { within = omega arith; same = w.same ∙ ap (nearest_from h found) (filter-took p s i 0 l t) })
+        go (inr f) = rw f (record { within = omega arith; same = w.same ∙ ap (nearest_from h found) (filter-passed p s i 0 l f) })
 
     pub choosing_all : length s ≤ i → found ≡ nearest_from h first (filterb p s)
     unfolding nearest_from

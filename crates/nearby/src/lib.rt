@@ -82,20 +82,10 @@ fn first_listed(members: &[u64], listed: &[u8]) -> Option<usize>
     requires { base.words ≤ length members.now }
     ensures { FirstListed (filterb (row_bit base.words members.now) listed.now) result }
 {
-<<<<<<< HEAD
     listed
         .iter()
         .map(|v| *v as usize)
         .find(|v| map::is_open(members, map::WORDS, *v))
-=======
-    for code in listed {
-        let v = *code as usize;
-        if map::is_open(members, map::WORDS, v) {
-            return Next::At(v);
-        }
-    }
-    Next::Nothing
->>>>>>> 17b9351d32fc344c6aa36614a89ea70f0b0e93ef
 }
 
 // Of two codes the one with the smaller hop, the lower one on a tie.
@@ -130,13 +120,8 @@ fn nearest_listed(members: &[u64], scratch: &Scratch<'_>, listed: &[u8], first: 
         (result ≡ nearest_from (λ u. get_or scratch.now.hops.now u 0) first depots) × (result < places base) }
 {
     let mut found = first;
-<<<<<<< HEAD
     for v in listed {
         found = nearer_open(members, &*scratch.hops, found, *v as usize);
-=======
-    for code in listed {
-        found = nearer_open(members, hops, found, *code as usize);
->>>>>>> 17b9351d32fc344c6aa36614a89ea70f0b0e93ef
     }
     found
 }

@@ -12,28 +12,23 @@ use Rattle.batch_opening.proofs.open_lines.Goals as goal
 
 pub loop-turn-init : goal.loop-turn-init
 unfolding sizes_of
-<<<<<<< HEAD
-loop-turns-init c =
-    (under_begun base _ _ c.requires.0, search rules, refl)
+loop-turn-init c =
+    (under_begun base _ (omega arith) c.requires.0, search rules, refl)
 
 pub returns-in_default-clause-left : goal.returns-in_default-clause-left
 returns-in_default-clause-left c =
-    under_none base base_shape _ c.loop-turns.progress c.loop-turns.invariant.0 _ _ c.next_fit.ensures.0 c.in_default.is
-=======
-loop-turn-init c = (under_begun base _ (omega arith) c.requires.0, refl)
->>>>>>> 17b9351d32fc344c6aa36614a89ea70f0b0e93ef
+    under_none base base_shape _ c.loop-turn.progress c.loop-turn.invariant.0 _ _ c.next_fit.ensures.0 c.in_default.is
 
 pub take_line-progress-requires : goal.take_line-progress-requires
 unfolding sizes_of
 take_line-progress-requires c =
-<<<<<<< HEAD
     let at = fits_at c.next_fit.ensures.1 c.in-Some.is in
-    (c.loop-turns.invariant.0.free, at.0, at.1, at.2)
+    (c.loop-turn.invariant.0.free, at.0, at.1, at.2)
 
-pub loop-turns-preserved : goal.loop-turns-preserved
-loop-turns-preserved c =
-    let v = c.loop-turns.invariant in (
-      under_more base base_shape _ c.loop-turns.progress v.0 _ _ c.next_fit.ensures.0 c.in-Some.is c.loop-turns-test.true
+pub loop-turn-preserved : goal.loop-turn-preserved
+loop-turn-preserved c =
+    let v = c.loop-turn.invariant in (
+      under_more base base_shape _ c.loop-turn.progress v.0 _ _ c.next_fit.ensures.0 c.in-Some.is (omega arith)
           c.requires.1 (entries_codes _) c.take_line-progress.result c.take_line-progress.ensures.left
           c.take_line-progress.ensures.taken,
       search rules,
@@ -42,24 +37,4 @@ loop-turns-preserved c =
 
 pub returns-clause-left : goal.returns-clause-left
 returns-clause-left c =
-    under-done base base_shape _ c.loop-turns.progress c.loop-turns.invariant.0 (omega (arith, c.loop-turns-test.false))
-=======
-    let at = fits_at c.next_fit-fit.ensures.1 c.in-Line.is in
-    (c.loop-turn.invariant.0.free, at.0, at.1, at.2)
-
-pub returns-in-Nothing : goal.returns-in-Nothing
-returns-in-Nothing c =
-    under_none base base_shape _ c.loop-turn.progress c.loop-turn.invariant.0 _ _ c.next_fit-fit.ensures.0 c.in-Nothing.is
-
-pub loop-turn-preserved : goal.loop-turn-preserved
-loop-turn-preserved c =
-    let v = c.loop-turn.invariant in (
-      under_more base base_shape _ c.loop-turn.progress v.0 _ _ c.next_fit-fit.ensures.0 c.in-Line.is (omega arith)
-          c.requires.1 (entries_codes _) c.take_line-progress.result c.take_line-progress.ensures.0
-          c.take_line-progress.ensures.1,
-      omega arith,
-    )
-
-pub returns : goal.returns
-returns c = under-done base base_shape _ c.loop-turn.progress c.loop-turn.invariant.0 (omega arith)
->>>>>>> 17b9351d32fc344c6aa36614a89ea70f0b0e93ef
+    under-done base base_shape _ c.loop-turn.progress c.loop-turn.invariant.0 (omega arith)

@@ -10,17 +10,9 @@ use Rattle.batch_opening.specs.Steps.{batch_standing}
 use Rattle.batch_opening.proofs.Progress.{IsUnderWay}
 use Rattle.batch_opening.proofs.open_lines.Given as goal
 
-<<<<<<< HEAD
-abbrev pub invariant-loop-turns : goal.invariant-loop-turns
-invariant-loop-turns l =
-    IsUnderWay base (batch_standing l.initial.progress l.initial.links (lent_in l.initial.room) l.lines) l.initial.turns
-    (batch_standing l.progress l.links (lent_in l.room) l.lines) l.turns
-    × IsSameRoom l.initial.room l.room
-=======
 abbrev pub invariant-loop-turn : goal.invariant-loop-turn
 invariant-loop-turn l =
-    IsUnderWay base (batch_standing l.initial.progress l.initial.links
-    (lent l.initial.pairs (tables l.initial.hops l.initial.even l.initial.odd) l.initial.bounds l.initial.skips) l.lines) l.count
-    (batch_standing l.progress l.links (lent l.pairs (tables l.hops l.even l.odd) l.bounds l.skips) l.lines) (l.count - l._turn)
->>>>>>> 17b9351d32fc344c6aa36614a89ea70f0b0e93ef
+    IsUnderWay base (batch_standing l.initial.progress l.initial.links (lent_in l.initial.room) l.lines) l.count
+    (batch_standing l.progress l.links (lent_in l.room) l.lines) (l.count - l._turn)
+    × IsSameRoom l.initial.room l.room
     × (length l.frame ≡ frame_limit)
