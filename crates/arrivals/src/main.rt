@@ -5,174 +5,139 @@
 
 mod maps;
 
-use maps::{Map, Notice, first_answer, hand_over, line, link_answer, linked_line};
-use plain_search::tables::same_words;
+use maps::{Map, Notice};
 
 // The lines below are written as far as standard output takes them: where it does not, nothing is left to say it to.
 
-fn print_order(rt: &impl Print, a_first: bool) {
-    if a_first {
-        let _ = rt.print("AB ");
-    } else {
-        let _ = rt.print("BA ");
+// Notice A, 3 opens beside 2.
+const A: Notice = Notice::Opening { code: 3, near: 2 };
+
+// Notice L, the depots of A and B are linked.
+const L: Notice = Notice::Link {
+    first: 3,
+    second: 4,
+};
+
+// Notice B, 4 opens beside `near`.
+fn b_beside(near: u8) -> Notice {
+    Notice::Opening { code: 4, near }
+}
+
+// The order in which a line takes A and B.
+#[derive(Clone, Copy)]
+enum Order {
+    Ab,
+    Ba,
+}
+
+const ORDERS: [Order; 2] = [Order::Ab, Order::Ba];
+
+impl Order {
+    // The order as it is printed.
+    fn name(self) -> &'static str {
+        match self {
+            Order::Ab => "AB",
+            Order::Ba => "BA",
+        }
+    }
+
+    // The map of a line that takes the notices in this order, B being beside the depot `near`.
+    fn map(self, near: u8) -> Map {
+        match self {
+            Order::Ab => Map::after([A, b_beside(near)]),
+            Order::Ba => Map::after([b_beside(near), A]),
+        }
+    }
+
+    // The map of a line that hands them over as one batch, B being beside A's depot; and how the batch was answered.
+    fn batch(self) -> (Map, Result<u8, u8>) {
+        let lines: &[u8] = match self {
+            Order::Ab => b"01030102\n01040103\n",
+            Order::Ba => b"01040103\n01030102\n",
+        };
+        let mut map = Map::begin();
+        let answer = map.take_batch(lines);
+        (map, answer)
     }
 }
 
-fn print_figures(rt: &impl Print, m: Map) {
-    let rec = m.rec;
-    let number = rec.number;
-    let chain = rec.chain;
-    let count = rec.count;
-    let _ = print!(rt; "({number} {chain} {count}) ");
+// What is printed of maps that are equal or not.
+fn agreement(agree: bool) -> &'static str {
+    if agree { "equal" } else { "DIFFERENT" }
 }
 
-// Whether both tests hold.
-fn both(a: bool, b: bool) -> bool {
-    if a { b } else { false }
-}
-
-// Whether two maps are equal: record, link table and pair table.
-fn same(a: Map, b: Map) -> bool {
-    let links = a.links;
-    let pairs = a.pairs;
-    let rec = a.rec;
-    let members = rec.members;
-    let other_links = b.links;
-    let other_pairs = b.pairs;
-    let other = b.rec;
-    let other_members = other.members;
-    let linked = same_words(&links, &other_links, map::TABLE);
-    let paired = same_words(&pairs, &other_pairs, map::TABLE);
-    let open = same_words(&members, &other_members, map::WORDS);
-    let figures = both(rec.chain == other.chain, rec.count == other.count);
-    both(
-        both(linked, paired),
-        both(both(open, rec.number == other.number), figures),
-    )
-}
-
-fn print_agreement(rt: &impl Print, agree: bool) {
-    if agree {
-        let _ = rt.println("equal");
-    } else {
-        let _ = rt.println("DIFFERENT");
+// The eight orders of the three lines, each with the figures of the lines' maps, and whether they agree. A line's map is made of its order.
+fn print_orders<F: Fn(Order) -> Map>(rt: &impl Print, map_of: F)
+    requires { F.IsAlwaysCallable map_of }
+{
+    for first in ORDERS {
+        for second in ORDERS {
+            for third in ORDERS {
+                let one = map_of(first);
+                let two = map_of(second);
+                let three = map_of(third);
+                let a = first.name();
+                let b = second.name();
+                let c = third.name();
+                let agree = agreement(one.is_same(&two) && two.is_same(&three));
+                let _ = println!(rt; "{a} {b} {c} {one} {two} {three} {agree}");
+            }
+        }
     }
 }
 
-// The figures of three lines' maps, and whether they agree.
-fn print_lines(rt: &impl Print, one: Map, two: Map, three: Map) {
-    print_figures(rt, one);
-    print_figures(rt, two);
-    print_figures(rt, three);
-    print_agreement(rt, both(same(one, two), same(two, three)));
-}
-
-// One order of the three lines, B being beside the depot `near`.
-fn try_order(rt: &impl Print, first: bool, second: bool, third: bool, near: u8) {
-    print_order(rt, first);
-    print_order(rt, second);
-    print_order(rt, third);
-    print_lines(rt, line(first, near), line(second, near), line(third, near));
-}
-
-// The same with batches.
-fn try_batches(rt: &impl Print, first: bool, second: bool, third: bool) {
-    let one = hand_over(first);
-    let two = hand_over(second);
-    let three = hand_over(third);
-    print_order(rt, first);
-    print_order(rt, second);
-    print_order(rt, third);
-    print_lines(rt, one.map, two.map, three.map);
-}
-
-// The eight orders.
-fn all_orders(rt: &impl Print, near: u8) {
-    try_order(rt, true, true, true, near);
-    try_order(rt, true, true, false, near);
-    try_order(rt, true, false, true, near);
-    try_order(rt, true, false, false, near);
-    try_order(rt, false, true, true, near);
-    try_order(rt, false, true, false, near);
-    try_order(rt, false, false, true, near);
-    try_order(rt, false, false, false, near);
-}
-
-fn all_batches(rt: &impl Print) {
-    try_batches(rt, true, true, true);
-    try_batches(rt, true, true, false);
-    try_batches(rt, true, false, true);
-    try_batches(rt, true, false, false);
-    try_batches(rt, false, true, true);
-    try_batches(rt, false, true, false);
-    try_batches(rt, false, false, true);
-    try_batches(rt, false, false, false);
+// What B is answered where it comes first, and then the eight orders, B being beside the depot `near`.
+fn print_openings(rt: &impl Print, near: u8) {
+    let _ = println!(rt; "A opens 3 beside 2, B opens 4 beside {near}");
+    let refusal = Map::begin().take(b_beside(near)).err().unwrap_or(0);
+    let _ = println!(rt; "B first is refused with: {refusal} (0: accepted)");
+    print_orders(rt, |order| order.map(near));
 }
 
 // What a batch is answered in either order: its refusal, 0 for none, and how many lines are left over.
-fn print_batch(rt: &impl Print, a_first: bool) {
-    let got = hand_over(a_first);
-    print_order(rt, a_first);
-    let refusal = got.refusal;
-    let left = got.left;
-    let _ = println!(rt; "as a batch is refused with: {refusal} (0: accepted), left over: {left}");
+fn print_batches(rt: &impl Print) {
+    let _ = println!(rt; "A opens 3 beside 2, B opens 4 beside 3, handed over together");
+    for order in ORDERS {
+        let name = order.name();
+        let (_, answer) = order.batch();
+        let (refusal, left) = match answer {
+            Ok(left) => (0, left),
+            Err(refusal) => (refusal, 0),
+        };
+        let _ = println!(rt;
+            "{name} as a batch is refused with: {refusal} (0: accepted), left over: {left}"
+        );
+    }
+    print_orders(rt, |order| order.batch().0);
 }
 
-// What B is answered where it comes first, 0 for an opening that is accepted.
-fn print_first(rt: &impl Print, near: u8) {
-    let refusal = first_answer(near);
-    let _ = println!(rt; "B first is refused with: {refusal} (0: accepted)");
-}
-
-// Whether a map equals those of all six orders.
-fn same_as_all(m: Map) -> bool {
-    let a = both(
-        same(m, linked_line(Notice::A, Notice::B, Notice::L)),
-        same(m, linked_line(Notice::A, Notice::L, Notice::B)),
+// What L is answered where it comes first, and then each order of the three on a line, beside each of the six on two other lines: where each of these
+// equals the first, they equal each other.
+fn print_links(rt: &impl Print) {
+    let _ = println!(rt;
+        "A opens 3 beside 2, B opens 4 beside 0, L links 3 and 4: each order beside all six on two other lines"
     );
-    let b = both(
-        same(m, linked_line(Notice::B, Notice::A, Notice::L)),
-        same(m, linked_line(Notice::B, Notice::L, Notice::A)),
-    );
-    let l = both(
-        same(m, linked_line(Notice::L, Notice::A, Notice::B)),
-        same(m, linked_line(Notice::L, Notice::B, Notice::A)),
-    );
-    both(both(a, b), l)
-}
-
-// One order of the three on a line, beside each of the six on two other lines: where each of these equals the first, they equal each other.
-fn try_links(rt: &impl Print, order: &str, first: Notice, second: Notice, third: Notice) {
-    let map = linked_line(first, second, third);
-    let _ = rt.print(order);
-    print_figures(rt, map);
-    print_agreement(rt, same_as_all(map));
-}
-
-fn all_links(rt: &impl Print) {
-    let refusal = link_answer();
+    let refusal = Map::begin().take(L).err().unwrap_or(0);
     let _ = println!(rt; "L first is refused with: {refusal}");
-    try_links(rt, "ABL ", Notice::A, Notice::B, Notice::L);
-    try_links(rt, "ALB ", Notice::A, Notice::L, Notice::B);
-    try_links(rt, "BAL ", Notice::B, Notice::A, Notice::L);
-    try_links(rt, "BLA ", Notice::B, Notice::L, Notice::A);
-    try_links(rt, "LAB ", Notice::L, Notice::A, Notice::B);
-    try_links(rt, "LBA ", Notice::L, Notice::B, Notice::A);
+    let b = b_beside(0);
+    let orders = [
+        ("ABL", [A, b, L]),
+        ("ALB", [A, L, b]),
+        ("BAL", [b, A, L]),
+        ("BLA", [b, L, A]),
+        ("LAB", [L, A, b]),
+        ("LBA", [L, b, A]),
+    ];
+    let maps = orders.map(|(_, notices)| Map::after(notices));
+    for ((name, _), map) in orders.iter().zip(&maps) {
+        let agree = agreement(maps.iter().all(|other| map.is_same(other)));
+        let _ = println!(rt; "{name} {map} {agree}");
+    }
 }
 
 fn main(rt: HostRuntime) {
-    let _ = rt.println("A opens 3 beside 2, B opens 4 beside 1");
-    print_first(&rt, 1);
-    all_orders(&rt, 1);
-    let _ = rt.println("A opens 3 beside 2, B opens 4 beside 3");
-    print_first(&rt, 3);
-    all_orders(&rt, 3);
-    let _ = rt.println("A opens 3 beside 2, B opens 4 beside 3, handed over together");
-    print_batch(&rt, true);
-    print_batch(&rt, false);
-    all_batches(&rt);
-    let _ = rt.println(
-        "A opens 3 beside 2, B opens 4 beside 0, L links 3 and 4: each order beside all six on two other lines",
-    );
-    all_links(&rt);
+    print_openings(&rt, 1);
+    print_openings(&rt, 3);
+    print_batches(&rt);
+    print_links(&rt);
 }

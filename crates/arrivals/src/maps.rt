@@ -2,224 +2,171 @@
 use batch_update::BatchAnswer;
 use map::Record;
 use outcome::Outcome;
+use std::fmt;
+use update::Returned;
 
-// The map, by value: both tables and the record.
+// The map: both tables and the record.
 #[derive(Clone, Copy)]
 pub struct Map {
-    pub links: [u64; map::TABLE],
-    pub pairs: [u64; map::TABLE],
-    pub rec: Record,
+    links: [u64; map::TABLE],
+    pairs: [u64; map::TABLE],
+    rec: Record,
 }
 
-// What an opening leaves: the map, and the number of the refusal, 0 for none.
+// The scratch of a call.
 #[derive(Clone, Copy)]
-pub struct Taken {
-    pub map: Map,
-    pub refusal: u8,
+struct Scratch {
+    hops: [u16; map::PLACES],
+    bounds: [u16; map::PLACES],
+    skips: [u16; map::PLACES],
+    even: [u64; map::WORDS],
+    odd: [u64; map::WORDS],
 }
 
-// The number of the refusal, 0 for an opening that was accepted.
-fn refusal_of(o: Outcome) -> u8 {
-    match o {
-        Outcome::Accepted(_) => 0,
-        Outcome::Refused(k) => k,
-    }
-}
-
-// An opening with scratch of its own.
-fn open(m: Map, code: u8, neighbours: &[u8]) -> Taken {
-    let mut links = m.links;
-    let mut pairs = m.pairs;
-    let mut hops = [0u16; map::PLACES];
-    let mut bounds = [0u16; map::PLACES];
-    let mut skips = [0u16; map::PLACES];
-    let mut even = [0u64; map::WORDS];
-    let mut odd = [0u64; map::WORDS];
-    let got = lent_opening::open_value(
-        m.rec,
-        &mut links,
-        &mut pairs,
-        &mut hops,
-        &mut bounds,
-        &mut skips,
-        &mut even,
-        &mut odd,
-        false,
-        code,
-        neighbours,
-    );
-    let report = got.report;
-    let outcome = report.outcome;
-    let rec = got.after;
-    let map = Map { links, pairs, rec };
-    let refusal = refusal_of(outcome);
-    Taken { map, refusal }
-}
-
-// An opening beside one depot.
-fn open_beside(m: Map, code: u8, near: u8) -> Taken {
-    let neighbours = [near; 1];
-    open(m, code, &neighbours)
-}
-
-// The map after the depots 0, 1 and 2 have opened in a path.
-fn begin() -> Map {
-    let rec = map::empty_record();
-    let links = [0u64; map::TABLE];
-    let pairs = [0u64; map::TABLE];
-    let one = open(Map { links, pairs, rec }, 0, b"");
-    let two = open_beside(one.map, 1, 0);
-    let three = open_beside(two.map, 2, 1);
-    three.map
-}
-
-// Notice A, 3 opens beside 2; or notice B, 4 opens beside `near`.
-fn take(m: Map, is_a: bool, near: u8) -> Taken {
-    if is_a {
-        return open_beside(m, 3, 2);
-    }
-    open_beside(m, 4, near)
-}
-
-// One line's map after A and B, in one order; a B that was refused is handed in again.
-pub fn line(a_first: bool, near: u8) -> Map {
-    let first = take(begin(), a_first, near);
-    let second = take(first.map, !a_first, near);
-    if first.refusal == 0 {
-        return second.map;
-    }
-    let again = take(second.map, false, near);
-    again.map
-}
-
-// What B is answered where it comes first.
-pub fn first_answer(near: u8) -> u8 {
-    let got = take(begin(), false, near);
-    got.refusal
-}
-
-// What a batch leaves: the map, the number of the refusal, 0 for none, and how many lines were left over.
-#[derive(Clone, Copy)]
-pub struct Handed {
-    pub map: Map,
-    pub refusal: u8,
-    pub left: u8,
-}
-
-// Lines handed over as one batch, with scratch of its own.
-fn open_batch(m: Map, lines: &[u8]) -> Handed {
-    let mut links = m.links;
-    let mut pairs = m.pairs;
-    let mut hops = [0u16; map::PLACES];
-    let mut bounds = [0u16; map::PLACES];
-    let mut skips = [0u16; map::PLACES];
-    let mut even = [0u64; map::WORDS];
-    let mut odd = [0u64; map::WORDS];
-    let mut left = [0u8; batch::LIMIT];
-    let got = batch_opening::open_batch(
-        m.rec,
-        &mut links,
-        &mut pairs,
-        &mut hops,
-        &mut bounds,
-        &mut skips,
-        &mut even,
-        &mut odd,
-        &mut left,
-        lines,
-    );
-    let rec = got.after;
-    let map = Map { links, pairs, rec };
-    let answer = got.answer;
-    match answer {
-        BatchAnswer::Opened(n) => Handed {
-            map: map,
-            refusal: 0,
-            left: n,
-        },
-        BatchAnswer::Refused(k) => Handed {
-            map: map,
-            refusal: k,
-            left: 0,
-        },
-    }
-}
-
-// A and B in one order, handed over as one batch; B opens beside A's depot.
-pub fn hand_over(a_first: bool) -> Handed {
-    if a_first {
-        return open_batch(begin(), b"01030102\n01040103\n");
-    }
-    open_batch(begin(), b"01040103\n01030102\n")
-}
-
-// ---- a link among the notices
-
-// The link of two depots, with scratch of its own.
-fn link(m: Map, first: u8, second: u8) -> Taken {
-    let mut links = m.links;
-    let mut pairs = m.pairs;
-    let mut hops = [0u16; map::PLACES];
-    let mut bounds = [0u16; map::PLACES];
-    let mut skips = [0u16; map::PLACES];
-    let mut even = [0u64; map::WORDS];
-    let mut odd = [0u64; map::WORDS];
-    let got = linking::link_step(
-        m.rec,
-        &mut links,
-        &mut pairs,
-        &mut hops,
-        &mut bounds,
-        &mut skips,
-        &mut even,
-        &mut odd,
-        first,
-        second,
-    );
-    let report = got.report;
-    let outcome = report.outcome;
-    let rec = got.after;
-    let map = Map { links, pairs, rec };
-    let refusal = refusal_of(outcome);
-    Taken { map, refusal }
-}
-
-// Three notices: 3 opens beside 2, 4 opens beside 0, and these two are linked.
+// A notice: a depot opens beside another one, or two depots are linked.
 #[derive(Clone, Copy)]
 pub enum Notice {
-    A,
-    B,
-    L,
+    Opening { code: u8, near: u8 },
+    Link { first: u8, second: u8 },
 }
 
-fn offer(m: Map, notice: Notice) -> Taken {
-    match notice {
-        Notice::A => open_beside(m, 3, 2),
-        Notice::B => open_beside(m, 4, 0),
-        Notice::L => link(m, 3, 4),
+impl Scratch {
+    // Scratch that no call has used.
+    fn new() -> Scratch {
+        Scratch {
+            hops: [0; map::PLACES],
+            bounds: [0; map::PLACES],
+            skips: [0; map::PLACES],
+            even: [0; map::WORDS],
+            odd: [0; map::WORDS],
+        }
     }
 }
 
-// A notice is handed in again if it was refused.
-fn again(m: Map, refusal: u8, notice: Notice) -> Map {
-    if refusal == 0 {
-        return m;
+impl Map {
+    // The map after the depots 0, 1 and 2 have opened in a path.
+    pub fn begin() -> Map {
+        let mut map = Map {
+            links: [0; map::TABLE],
+            pairs: [0; map::TABLE],
+            rec: map::empty_record(),
+        };
+        let _ = map.open(0, b"");
+        let _ = map.open(1, &[0]);
+        let _ = map.open(2, &[1]);
+        map
     }
-    let got = offer(m, notice);
-    got.map
+
+    // The map after these notices in their order; those that were refused are handed in again.
+    pub fn after<const N: usize>(notices: [Notice; N]) -> Map {
+        let mut map = Map::begin();
+        let mut refused = [false; N];
+        for (notice, refused) in notices.iter().zip(refused.iter_mut()) {
+            *refused = map.take(*notice).is_err();
+        }
+        for (notice, refused) in notices.iter().zip(&refused) {
+            if *refused {
+                let _ = map.take(*notice);
+            }
+        }
+        map
+    }
+
+    // Keeps what a call left; the number of its refusal, if it is refused.
+    fn keep(&mut self, got: Returned) -> Result<(), u8> {
+        self.rec = got.after;
+        match got.report.outcome {
+            Outcome::Accepted(_) => Ok(()),
+            Outcome::Refused(number) => Err(number),
+        }
+    }
+
+    // The opening of a depot.
+    fn open(&mut self, code: u8, neighbours: &[u8]) -> Result<(), u8> {
+        let mut scratch = Scratch::new();
+        let got = lent_opening::open_value(
+            self.rec,
+            &mut self.links,
+            &mut self.pairs,
+            &mut scratch.hops,
+            &mut scratch.bounds,
+            &mut scratch.skips,
+            &mut scratch.even,
+            &mut scratch.odd,
+            false,
+            code,
+            neighbours,
+        );
+        self.keep(got)
+    }
+
+    // The link of two depots.
+    fn link(&mut self, first: u8, second: u8) -> Result<(), u8> {
+        let mut scratch = Scratch::new();
+        let got = linking::link_step(
+            self.rec,
+            &mut self.links,
+            &mut self.pairs,
+            &mut scratch.hops,
+            &mut scratch.bounds,
+            &mut scratch.skips,
+            &mut scratch.even,
+            &mut scratch.odd,
+            first,
+            second,
+        );
+        self.keep(got)
+    }
+
+    // Takes a notice, unless it is refused.
+    pub fn take(&mut self, notice: Notice) -> Result<(), u8> {
+        match notice {
+            Notice::Opening { code, near } => self.open(code, &[near]),
+            Notice::Link { first, second } => self.link(first, second),
+        }
+    }
+
+    // Takes lines that are handed over as one batch. How many are left over, or the number of the refusal.
+    pub fn take_batch(&mut self, lines: &[u8]) -> Result<u8, u8> {
+        let mut scratch = Scratch::new();
+        let mut left = [0; batch::LIMIT];
+        let got = batch_opening::open_batch(
+            self.rec,
+            &mut self.links,
+            &mut self.pairs,
+            &mut scratch.hops,
+            &mut scratch.bounds,
+            &mut scratch.skips,
+            &mut scratch.even,
+            &mut scratch.odd,
+            &mut left,
+            lines,
+        );
+        self.rec = got.after;
+        match got.answer {
+            BatchAnswer::Opened(left) => Ok(left),
+            BatchAnswer::Refused(number) => Err(number),
+        }
+    }
+
+    // Whether two maps are equal: record, link table and pair table.
+    pub fn is_same(&self, other: &Map) -> bool {
+        self.links == other.links
+            && self.pairs == other.pairs
+            && self.rec.members == other.rec.members
+            && self.rec.yards == other.rec.yards
+            && self.rec.number == other.rec.number
+            && self.rec.chain == other.rec.chain
+            && self.rec.count == other.rec.count
+    }
 }
 
-// One line's map after the three in one order.
-pub fn linked_line(first: Notice, second: Notice, third: Notice) -> Map {
-    let one = offer(begin(), first);
-    let two = offer(one.map, second);
-    let three = offer(two.map, third);
-    let retried = again(three.map, one.refusal, first);
-    again(again(retried, two.refusal, second), three.refusal, third)
-}
-
-// What the link is answered where it comes first.
-pub fn link_answer() -> u8 {
-    let got = offer(begin(), Notice::L);
-    got.refusal
+// A map's figures: depots open, chain, pairs.
+impl fmt::Display for Map {
+    fn fmt<W: fmt::Write>(&self, f: &mut fmt::Formatter<W>) -> fmt::Result {
+        let number = self.rec.number;
+        let chain = self.rec.chain;
+        let count = self.rec.count;
+        write!(f, "({number} {chain} {count})")
+    }
 }

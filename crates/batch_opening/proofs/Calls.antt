@@ -4,6 +4,10 @@ use mathlib.Core.Bool.{true}
 use mathlib.Core.List.{List}
 use Prim.Native.Nat.{ℕ, zero, suc}
 use lib.ListN.{length}
+use Rattle.std.specs.Prelude.{Ok, Err}
+use Rattle.outcome.specs.Refusals.{number_of}
+use Rattle.outcome.specs.declared.Refusal.{Refusal}
+use Rattle.outcome.proofs.Numbering.{refuses}
 use Rattle.lists.specs.Lists.{allb}
 use Rattle.graph.specs.Batch.{Entry, batch_of, numbers_of}
 use Rattle.map.specs.Memory.{Shape, map_network}
@@ -13,20 +17,19 @@ use Rattle.notice.specs.Lines.{lines_of}
 use Rattle.batch.specs.Lines.{is_opening, entries_of}
 use Rattle.batch.specs.Steps.{leavings, left_numbers, left_over}
 use Rattle.batch.proofs.Entries.{entries_length, waiting_left, waiting_all}
-use Rattle.batch_update.specs.BatchCall.{batch_refusal, lent_memory, batch_on, batch_left, batch_given, batch_call, Opened}
+use Rattle.batch_update.specs.BatchCall.{batch_refusal, lent_memory, batch_on, batch_left, batch_given, batch_call, Opened, Refused}
 use Rattle.batch_update.specs.Steps.{BatchStanding, turns_from, turns_on}
 use Rattle.batch_update.proofs.Turns.{given_memory}
-use Rattle.batch_opening.specs.Steps.{batch_standing, refused_batch, batch_begun}
-use Rattle.batch_update.specs.declared.Batched.{Batched}
+use Rattle.batch_opening.specs.Steps.{batch_standing, batch_begun}
 use Rattle.batch_opening.specs.declared.BatchProgress.{BatchProgress}
 
 module _ (K : Shape) (rec : Record) (links : List ℕ) (B : Lent) (places input : List ℕ) where
-  pub refused_batch_lem : {k : ℕ} {r : Batched} → k ≡ batch_refusal K rec links B.pairs (sizes_of links B) (length places) input → (k ≡ 0 → ⊥) → r ≡ refused_batch k rec
-      → batch_left r links B places ≡ batch_call K rec links B places input
+  pub refused_batch_lem : (e : Refusal) → number_of e ≡ batch_refusal K rec links B.pairs (sizes_of links B) (length places) input
+      → batch_left rec (Err e) links B places ≡ batch_call K rec links B places input
   unfolding batch_call batch_given
-  refused_batch_lem {k} {r} e n q = ap (λ (x : Batched). batch_left x links B places) q ∙ go k n ∙ ap (λ (m : ℕ). batch_given m K rec links B places input) e
+  refused_batch_lem e q = go (number_of e) (refuses e) ∙ ap (λ (m : ℕ). batch_given m K rec links B places input) q
     where
-      go : (k : ℕ) → (k ≡ 0 → ⊥) → batch_left (refused_batch k rec) links B places ≡ batch_given k K rec links B places input
+      go : (k : ℕ) → (k ≡ 0 → ⊥) → record { answer = Refused k; memory = lent_memory rec links B; left = places } ≡ batch_given k K rec links B places input
       go zero n = absurd (n refl)
       go (suc k) n = refl
 
@@ -54,7 +57,7 @@ module _ (K : Shape) (rec : Record) (links : List ℕ) (B : Lent) (places input 
         ∙ sym given_left
 
     pub opened_batch : {over : ℕ} {left : List ℕ} → 0 ≡ batch_refusal K rec links B.pairs (sizes_of links B) (length places) input → leavings over left ≡ left_over (left_numbers p.taken count) places
-        → batch_left (record { answer = Opened over; after = p.after }) links' B' left ≡ batch_call K rec links B places input
+        → batch_left rec (Ok (record { left = over; after = p.after })) links' B' left ≡ batch_call K rec links B places input
     unfolding batch_call batch_given left_over
     opened_batch {over} {left} ok e =
         let l : leavings over left ≡ left_over (numbers_of (batch_on K rec links input).left) places = e ∙ ap (λ (ns : List ℕ). left_over ns places) numbers in

@@ -7,8 +7,9 @@ ghost use Rattle.lists.specs.Lists.{allb};
 ghost use Rattle.words.specs.Bits.{bit, word_of};
 ghost use Rattle.graph.specs.Batch.{first_fit};
 ghost use Rattle.map.specs.Memory.{base, network_of};
-ghost use Rattle.map.specs.Room.{sizes, long_enough};
-ghost use Rattle.map.specs.Slices.{lent_before, lent_after, sizes_at};
+ghost use Rattle.map.specs.Room.{long_enough};
+ghost use Rattle.map.specs.Slices.{lent_in, room_sizes, IsSameRoom};
+ghost use Rattle.outcome.specs.Refusals.{refused_by};
 ghost use Rattle.update.specs.Steps.{map_refusal};
 ghost use Rattle.notice.specs.Lines.{lines_of};
 ghost use Rattle.notice.specs.Calls.{frame_limit};
@@ -16,11 +17,12 @@ ghost use Rattle.batch.specs.Lines.{batch_limit, is_opening, entries_of};
 ghost use Rattle.batch.specs.Steps.{waiting_of, notice_at, fit_of, FitsFrame};
 ghost use Rattle.batch_update.specs.BatchCall.{batch_refusal, lent_memory, memory_left, opening_on, batch_left, batch_call};
 ghost use Rattle.batch_update.specs.Steps.{turns_on};
-ghost use Rattle.batch_opening.specs.Steps.{batch_standing, refused_batch, batch_begun};
+ghost use Rattle.batch_opening.specs.Steps.{batch_standing, batch_begun};
 
 use batch::Fit;
-use batch_update::{BatchAnswer, Batched};
-use map::Record;
+use batch_update::Batched;
+use map::{Record, Room};
+use outcome::Refusal;
 
 // How far a batch has come: the map's record, and the lines taken, a bit for each.
 #[derive(Clone, Copy)]
@@ -32,72 +34,33 @@ pub struct BatchProgress {
 // ---- what refuses a batch
 
 // Whether the seven buffers of an opening and the places for the lines left over have their named sizes.
-fn are_long(
-    links: usize,
-    pairs: usize,
-    hops: usize,
-    bounds: usize,
-    skips: usize,
-    even: usize,
-    odd: usize,
-    left: usize,
-) -> bool
-    ensures { result ≡ (leb batch_limit left && long_enough base (sizes links pairs hops bounds skips even odd)) }
+fn are_long(links: usize, room: &Room<'_>, left: usize) -> bool
+    ensures { result ≡ (leb batch_limit left && long_enough base (room_sizes links room.now)) }
 {
-    if left < batch::LIMIT {
-        return false;
-    }
-    map::are_long(links, pairs, hops, bounds, skips, even, odd)
+    batch::LIMIT <= left && room.is_long(links)
 }
 
-// The first refusal that holds, 0 for none. It only reads.
+// The first refusal that holds. It only reads.
 fn batch_refusal(
     rec: Record,
     links: &[u64],
-    pairs: &[u64],
-    hops: usize,
-    bounds: usize,
-    skips: usize,
-    even: usize,
-    odd: usize,
+    room: &Room<'_>,
     left: usize,
     lines: &[u8],
-) -> u8
-    ensures { let long = sizes (length links.now) (length pairs.now) hops bounds skips even odd in
-        result ≡ batch_refusal base rec links.now pairs.now long left lines.now }
+) -> Result<(), Refusal>
+    ensures { let long = room_sizes (length links.now) room.now in
+        refused_by result ≡ batch_refusal base rec links.now room.now.pairs.now long left lines.now }
 {
-    let long = are_long(
-        links.len(),
-        pairs.len(),
-        hops,
-        bounds,
-        skips,
-        even,
-        odd,
-        left,
-    );
-    let refusal = lent_map::map_refusal(rec, links, pairs, long, true);
-    if refusal != 0 {
-        return refusal;
-    }
+    let long = are_long(links.len(), room, left);
+    lent_map::map_refusal(rec, links, Some(&*room.pairs), long)?;
     let members = rec.members;
     batch::lines_refusal(&members, map::WORDS, lines)
-}
-
-// What a refused batch answers.
-fn refused(rec: Record, number: u8) -> Batched
-    ensures { result ≡ refused_batch number rec }
-{
-    Batched {
-        answer: BatchAnswer::Refused(number),
-        after: rec,
-    }
 }
 
 // ---- the openings
 
 // The first line that can be accepted on the map of this record.
-fn next_fit(rec: Record, frame: &mut [u8], taken: u64, lines: &[u8]) -> Fit
+fn next_fit(rec: Record, frame: &mut [u8], taken: u64, lines: &[u8]) -> Option<Fit>
     requires { (frame_limit ≤ length frame.old)
         × (length (lines_of lines.now) ≤ batch_limit)
         × (allb is_opening (lines_of lines.now) ≡ true) }
@@ -113,47 +76,26 @@ fn next_fit(rec: Record, frame: &mut [u8], taken: u64, lines: &[u8]) -> Fit
 fn take_line(
     progress: BatchProgress,
     links: &mut [u64],
-    pairs: &mut [u64],
-    hops: &mut [u16],
-    bounds: &mut [u16],
-    skips: &mut [u16],
-    even: &mut [u64],
-    odd: &mut [u64],
+    room: &mut Room<'_>,
     frame: &[u8],
-    number: u8,
-    n: usize,
+    fit: Fit,
 ) -> BatchProgress
-    requires { let long = sizes_at links.old pairs hops bounds skips even odd in
-        (map_refusal base progress.after links.old pairs.old long ≡ 0)
-        × (number < batch_limit)
-        × (3 ≤ n)
-        × (n ≤ length frame.now) }
-    ensures { let before = lent_memory progress.after links.old (lent_before pairs hops bounds skips even odd) in
-        let after = lent_memory result.after links.new (lent_after pairs hops bounds skips even odd) in
-        (after ≡ memory_left (opening_on base before (notice_at frame.now n)))
-        × (result.taken ≡ word_of 64 (λ k. eqb k number || bit progress.taken k)) }
+    requires { let long = room_sizes (length links.old) room.old in
+        (map_refusal base progress.after links.old room.old.pairs.now long ≡ 0)
+        × (fit.number < batch_limit)
+        × (3 ≤ fit.length)
+        × (fit.length ≤ length frame.now) }
+    ensures same { IsSameRoom room.old room.new }
+    ensures left { let before = lent_memory progress.after links.old (lent_in room.old) in
+        lent_memory result.after links.new (lent_in room.new) ≡ memory_left (opening_on base before (notice_at frame.now fit.length)) }
+    ensures taken { result.taken ≡ word_of 64 (λ k. eqb k fit.number || bit progress.taken k) }
 {
-    let rec = progress.after;
-    let yard = frame[0] == notice::YARD;
-    let code = frame[1];
-    let got = opening::open_sound(
-        rec,
-        links,
-        pairs,
-        hops,
-        bounds,
-        skips,
-        even,
-        odd,
-        yard,
-        code,
-        &frame[3..n],
-    );
-    let after = got.after;
-    let taken = words::with_bit(progress.taken, number as usize);
+    let yard = notice::opens_yard(frame[0]);
+    let neighbours = &frame[3..fit.length];
+    let got = opening::open_sound(progress.after, links, room, yard, frame[1], neighbours);
     BatchProgress {
-        after: after,
-        taken: taken,
+        after: got.after,
+        taken: words::with_bit(progress.taken, fit.number as usize),
     }
 }
 
@@ -161,41 +103,28 @@ fn take_line(
 fn open_lines(
     rec: Record,
     links: &mut [u64],
-    pairs: &mut [u64],
-    hops: &mut [u16],
-    bounds: &mut [u16],
-    skips: &mut [u16],
-    even: &mut [u64],
-    odd: &mut [u64],
+    room: &mut Room<'_>,
     count: usize,
     lines: &[u8],
 ) -> BatchProgress
-    requires { let long = sizes_at links.old pairs hops bounds skips even odd in
-        (map_refusal base rec links.old pairs.old long ≡ 0)
+    requires { let long = room_sizes (length links.old) room.old in
+        (map_refusal base rec links.old room.old.pairs.now long ≡ 0)
         × (length (lines_of lines.now) ≤ batch_limit)
         × (allb is_opening (lines_of lines.now) ≡ true) }
-    ensures { let before = batch_standing (batch_begun rec) links.old (lent_before pairs hops bounds skips even odd) lines.now in
-        let after = batch_standing result links.new (lent_after pairs hops bounds skips even odd) lines.now in
-        after ≡ turns_on count base before }
+    ensures same { IsSameRoom room.old room.new }
+    ensures left { let before = batch_standing (batch_begun rec) links.old (lent_in room.old) lines.now in
+        batch_standing result links.new (lent_in room.new) lines.now ≡ turns_on count base before }
 {
     let mut frame = [0u8; notice::FRAME_LIMIT];
     let mut progress = BatchProgress {
         after: rec,
         taken: 0,
     };
-    let mut turns = count;
-    while 0 < turns {
-        let at = progress.after;
-        let fit = next_fit(at, &mut frame, progress.taken, lines);
-        match fit {
-            Fit::Line(number, n) => {
-                progress = take_line(
-                    progress, links, pairs, hops, bounds, skips, even, odd, &frame, number, n,
-                );
-            }
-            Fit::Nothing => return progress,
-        }
-        turns -= 1;
+    for _turn in 0..count {
+        let Some(fit) = next_fit(progress.after, &mut frame, progress.taken, lines) else {
+            return progress;
+        };
+        progress = take_line(progress, links, room, &frame, fit);
     }
     progress
 }
@@ -207,43 +136,20 @@ fn open_lines(
 pub fn open_batch(
     rec: Record,
     links: &mut [u64],
-    pairs: &mut [u64],
-    hops: &mut [u16],
-    bounds: &mut [u16],
-    skips: &mut [u16],
-    even: &mut [u64],
-    odd: &mut [u64],
+    room: &mut Room<'_>,
     left: &mut [u8],
     lines: &[u8],
-) -> Batched
-    ensures { let before = lent_before pairs hops bounds skips even odd in
-        let after = lent_after pairs hops bounds skips even odd in
-        batch_left result links.new after left.new
-        ≡ batch_call base rec links.old before left.old lines.now }
+) -> Result<Batched, Refusal>
+    ensures same { IsSameRoom room.old room.new }
+    ensures left { batch_left rec result links.new (lent_in room.new) left.new
+        ≡ batch_call base rec links.old (lent_in room.old) left.old lines.now }
 {
-    let refusal = batch_refusal(
-        rec,
-        &*links,
-        &*pairs,
-        hops.len(),
-        bounds.len(),
-        skips.len(),
-        even.len(),
-        odd.len(),
-        left.len(),
-        lines,
-    );
-    if refusal != 0 {
-        return refused(rec, refusal);
-    }
+    batch_refusal(rec, &*links, &*room, left.len(), lines)?;
     let count = batch::count_lines(lines);
-    let got = open_lines(
-        rec, links, pairs, hops, bounds, skips, even, odd, count, lines,
-    );
+    let got = open_lines(rec, links, room, count, lines);
     let over = batch::put_left(left, got.taken, count);
-    let after = got.after;
-    Batched {
-        answer: BatchAnswer::Opened(over),
-        after: after,
-    }
+    Ok(Batched {
+        left: over,
+        after: got.after,
+    })
 }

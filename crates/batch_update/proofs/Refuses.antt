@@ -1,11 +1,11 @@
 -- THE REFUSALS OF A BATCH, by the code's tests: those of the lent memory first, then those of its lines; and what no refusal says. Assumes nothing.
 use mathlib.Core.Path.{◌≡◌, refl, sym, ap, ◌∙◌}
-use mathlib.Core.Bool.{Bool, true, false, not, ◌&&◌}
+use mathlib.Core.Bool.{Bool, true, not, ◌&&◌}
 use mathlib.Core.List.{List, []}
 use Prim.Native.Nat.{ℕ, ◌≤◌, ◌<◌}
 use lib.Dec.{leb, ltb}
 use lib.ListN.{length}
-use borrow.Author.Tests.{not-false, leb-true, le-leb, lt-leb, ltb-true, ltb-false}
+use borrow.Author.Tests.{not-false, leb-true, ltb-true, ltb-false}
 use Rattle.lists.specs.Lists.{allb, first_of}
 use Rattle.lists.proofs.Tests.{and-true}
 use Rattle.lists.proofs.Members.{first_zero, first_kept, first_passed}
@@ -23,13 +23,7 @@ use Rattle.update.proofs.Refuses.{refused_never}
 use Rattle.batch.specs.Lines.{batch_limit, is_opening, batch_faults}
 use Rattle.batch_update.specs.BatchCall.{batch_refusal}
 
--- ---- the sizes, by two tests
-
-pub short_places : (m : ℕ) (y : Bool) → m < batch_limit → false ≡ (leb batch_limit m && y)
-short_places m y h = rw (lt-leb batch_limit m h)
-
-pub long_places : (m : ℕ) {x y : Bool} → batch_limit ≤ m → x ≡ y → x ≡ (leb batch_limit m && y)
-long_places m h e = rw (le-leb batch_limit m h) e
+-- ---- the sizes
 
 pub long_both : (K : Shape) (z : Sizes) (m : ℕ) {b : Bool} → b ≡ (leb batch_limit m && long_enough K z) → b ≡ true → long_enough K z ≡ true
 long_both K z m e h = (and-true (leb batch_limit m) (long_enough K z) (sym e ∙ h)).1

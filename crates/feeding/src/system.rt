@@ -19,7 +19,8 @@ pub fn read_some<R: Read>(input: &mut [u8], from: &mut R) -> io::Result<usize>
     Err(io::Error::from(ErrorKind::Interrupted))
 }
 
-// Writes what standard output takes of the bytes, which are some, at once: how many it took, at least one.
+// Writes what standard output takes of the bytes, which are some, at once: how many it took, at least one. (One loop for this and `read_some`, over a
+// closure, would be no plainer: both contracts would have to go through the closure's states.)
 fn write_some(rt: &impl Print, out: &[u8]) -> io::Result<usize>
     ensures { IfOk result (λ n. (0 < n) × (n ≤ length out.now)) }
 {

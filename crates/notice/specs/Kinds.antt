@@ -1,4 +1,4 @@
--- THE KINDS OF FRAMES AS THE CODE HAS THEM: the byte of each (specs/Lines), and the kind of a byte. Assumes nothing.
+-- THE KINDS OF FRAMES AS THE CODE HAS THEM: the byte of each (specs/Lines), and the kind of a byte. Nobody has to believe this file. Assumes nothing.
 use Rattle.std.specs.Prelude.{◌≡◌, ℕ, Option, Some, None}
 use Rattle.notice.specs.Lines.{opening_kind, link_kind, yard_kind}
 use Rattle.notice.specs.declared.Kind.{Kind}

@@ -1,61 +1,30 @@
 // The marks of a call: which depots it searched, and whether it could do without searching the others.
-use crate::Sheet;
+ghost use Rattle.std.specs.Prelude.{◌<◌};
 
-// Whether v has the mark of a searched depot.
-fn is_searched(skips: &[u16; 256], v: usize) -> bool {
-    if v < 256 { skips[v] == 256 } else { false }
-}
+use crate::{CODES, Sheet};
+
+// The mark of a searched depot.
+const SEARCHED: u16 = 256;
 
 // Whether r was searched, and what its search found keeps every distance of v below the chain.
-fn covers(skips: &[u16; 256], sheet: &Sheet, r: usize, v: usize, chain: u16) -> bool {
-    let e = crate::read(sheet, crate::ECCENTRICITIES, r) as u32;
-    let d = crate::read(sheet, crate::row(crate::DISTANCES, r), v) as u32;
-    if is_searched(skips, r) {
-        e + d < chain as u32
-    } else {
-        false
-    }
+fn covers(skips: &[u16; CODES], sheet: &Sheet, r: usize, v: usize, chain: u16) -> bool
+    requires { (r < CODES) × (v < CODES) }
+{
+    skips[r] == SEARCHED
+        && sheet.distances[r][v].is_some_and(|d| u32::from(sheet.eccentricities[r]) + u32::from(d)
+            < u32::from(chain))
 }
 
-// Whether v is closed, or searched, or some searched depot covers it.
-fn is_covered(skips: &[u16; 256], sheet: &Sheet, v: usize, chain: u16) -> bool {
-    if crate::read(sheet, crate::OPEN, v) != 1 {
-        return true;
-    }
-    if is_searched(skips, v) {
-        return true;
-    }
-    let mut r = 0;
-    while r < 256 {
-        if covers(skips, sheet, r, v, chain) {
-            return true;
-        }
-        r += 1;
-    }
-    false
-}
-
-// Whether every depot that was not searched is covered.
-pub fn are_covered(skips: &[u16; 256], sheet: &Sheet, chain: u16) -> bool {
-    let mut v = 0;
-    while v < 256 {
-        if !is_covered(skips, sheet, v, chain) {
-            return false;
-        }
-        v += 1;
-    }
-    true
+// Whether every open depot was searched, or some searched depot covers it.
+pub fn are_covered(skips: &[u16; CODES], sheet: &Sheet, chain: u16) -> bool {
+    (0..CODES).all(|v| {
+        !sheet.depots[v]
+            || skips[v] == SEARCHED
+            || (0..CODES).any(|r| covers(skips, sheet, r, v, chain))
+    })
 }
 
 // How many depots are marked as searched.
-pub fn searched(skips: &[u16; 256]) -> u16 {
-    let mut n = 0;
-    let mut v = 0;
-    while v < 256 {
-        if is_searched(skips, v) {
-            n = crate::next(n);
-        }
-        v += 1;
-    }
-    n
+pub fn searched(skips: &[u16; CODES]) -> usize {
+    skips.iter().filter(|mark| **mark == SEARCHED).count()
 }

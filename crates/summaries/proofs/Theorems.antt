@@ -79,16 +79,21 @@ call_of_file rec links B counts = go (summary_refusal base rec links (length B.h
         (network_most base.words rec.members links)
     go (suc k) e = tt
 
-pub answered_of_file : (rec : Record) (links : List ℕ) (B : Tables) (counts : List ℕ) {a : Summing} {B' : Tables} {counts' : List ℕ}
+answered_of_file : (rec : Record) (links : List ℕ) (B : Tables) (counts : List ℕ) {a : Summing} {B' : Tables} {counts' : List ℕ}
     → summary_left a B' counts' ≡ summary_call base rec links B counts → IsOfFile a
 answered_of_file rec links B counts e = subst (λ (l : SummaryLeft). IsOfFile l.answer) (sym e) (call_of_file rec links B counts)
 
 -- a report's answer with its refusal as a number, as `map_err(Refusal::number)` makes it, is the same answer
-pub answered_number : (r : Result Summary Refusal) (x : Result Summary ℕ) {P : Refusal → ℕ → Type 0} → MatchResult r (λ s. x ≡ Ok s) (λ k. IsErrAnd x (P k))
+answered_number : (r : Result Summary Refusal) (x : Result Summary ℕ) {P : Refusal → ℕ → Type 0} → MatchResult r (λ s. x ≡ Ok s) (λ k. IsErrAnd x (P k))
     → ((k : Refusal) (n : ℕ) → P k n → n ≡ number_of k) → answered x ≡ summing_of r
 answered_number (Ok s) x h is = ap answered h
 answered_number (Err k) (Err n) h is = ap (λ (n : ℕ). Refused n) (is k n h)
 answered_number (Err k) (Ok s) h is = absurd h
+
+pub answered_as : (rec : Record) (links : List ℕ) (B : Tables) (counts : List ℕ) (r : Result Summary Refusal) (x : Result Summary ℕ) {B' : Tables} {counts' : List ℕ}
+    {P : Refusal → ℕ → Type 0} → summary_left (summing_of r) B' counts' ≡ summary_call base rec links B counts
+    → MatchResult r (λ s. x ≡ Ok s) (λ k. IsErrAnd x (P k)) → ((k : Refusal) (n : ℕ) → P k n → n ≡ number_of k) → IsOfFile (answered x)
+answered_as rec links B counts r x e h is = rw (answered_number r x h is) (answered_of_file rec links B counts e)
 
 -- ---- A FILE'S LINE AND ITS TOTALS
 

@@ -1,19 +1,16 @@
-// The calls, with all that is lent to them by value; and what they answer and leave, held to the sheet.
+// The calls, on all that is lent to them; and what they answer and leave, held to the sheet.
 use crate::notices::Notice;
-use crate::tally::both;
 use map::Record;
-use outcome::{Change, Outcome};
-use plain_search::tables::{bits_are, same_numbers, same_words};
-use plain_search::{Sheet, read};
+use outcome::Outcome;
+use plain_search::marks::{are_covered, searched};
+use plain_search::tables::bits_are;
+use plain_search::{CODES, Change, Refusal, Sheet};
 use reckon::Reckoning;
 use search::Found;
 
-// What is lent: the map, which is both tables and the record, and scratch.
-#[derive(Clone, Copy)]
-pub struct Lent {
-    pub links: [u64; map::TABLE],
-    pub pairs: [u64; map::TABLE],
-    pub rec: Record,
+// The scratch of a call.
+#[derive(Clone, Copy, PartialEq, Eq)]
+pub struct Scratch {
     pub hops: [u16; map::PLACES],
     pub bounds: [u16; map::PLACES],
     pub skips: [u16; map::PLACES],
@@ -21,296 +18,231 @@ pub struct Lent {
     pub odd: [u64; map::WORDS],
 }
 
-// What a call answers and leaves. The word is the number of a refusal, or the letter of an opening, or D (done); the number is that of the searches, or the
-// eccentricity that a search answers.
+// What is lent: the map, which is both tables and the record, and scratch.
 #[derive(Clone, Copy)]
-pub struct Answer {
-    pub word: u8,
-    pub number: u16,
-    pub left: Lent,
+pub struct Lent {
+    pub links: [u64; map::TABLE],
+    pub pairs: [u64; map::TABLE],
+    pub rec: Record,
+    pub scratch: Scratch,
 }
 
-// ---- the calls
-
-// An answer.
-fn answered(word: u8, number: u16, left: Lent) -> Answer {
-    Answer { word, number, left }
+// What an opening answers: how the chain changed or the number of the refusal, and the number of searches.
+#[derive(Clone, Copy, PartialEq, Eq)]
+pub struct Opening {
+    pub answer: Result<Change, u8>,
+    pub searches: u16,
 }
 
-// The word of an opening's outcome.
-fn word_of(o: Outcome) -> u8 {
-    match o {
-        Outcome::Accepted(c) => match c {
-            Change::Grew => b'G',
-            Change::Kept => b'K',
-            Change::Shrank => b'S',
-        },
-        Outcome::Refused(k) => k,
+impl Opening {
+    // The number of the refusal, which comes without searches.
+    pub fn refusal(self) -> Option<u8> {
+        if self.searches == 0 {
+            self.answer.err()
+        } else {
+            None
+        }
     }
 }
 
-// An opening, its second layer row and its neighbours being lent apart.
-fn open_with(m: Lent, odd: &mut [u64], code: u8, near: &[u8]) -> Answer {
-    let mut left = m;
-    let mut links = m.links;
-    let mut pairs = m.pairs;
-    let mut hops = m.hops;
-    let mut bounds = m.bounds;
-    let mut skips = m.skips;
-    let mut even = m.even;
-    let got = lent_opening::open_value(
-        m.rec,
-        &mut links,
-        &mut pairs,
-        &mut hops,
-        &mut bounds,
-        &mut skips,
-        &mut even,
-        odd,
-        false,
-        code,
-        near,
-    );
-    let rec = got.after;
-    left.links = links;
-    left.pairs = pairs;
-    left.rec = rec;
-    left.hops = hops;
-    left.bounds = bounds;
-    left.skips = skips;
-    left.even = even;
-    let report = got.report;
-    let outcome = report.outcome;
-    answered(word_of(outcome), report.searches, left)
-}
-
-// The first so many of a list, or the whole of a shorter one.
-fn first(list: &[u8], count: usize) -> &[u8] {
-    if list.len() < count {
-        return list;
-    }
-    &list[..count]
-}
-
-// An opening with a second layer row of three words, which has to keep them: else its word is 99.
-fn open_short(m: Lent, code: u8, near: &[u8]) -> Answer {
-    let mut odd = [7u64; 3];
-    let got = open_with(m, &mut odd, code, near);
-    let kept = both(odd[0] == 7, both(odd[1] == 7, odd[2] == 7));
-    let word = if kept { got.word } else { 99 };
-    answered(word, got.number, got.left)
-}
-
-// An opening.
-pub fn open(m: Lent, n: Notice) -> Answer {
-    let list = n.list;
-    let near = first(&list, n.count);
-    if n.short {
-        return open_short(m, n.code, near);
-    }
-    let mut odd = m.odd;
-    let got = open_with(m, &mut odd, n.code, near);
-    let mut left = got.left;
-    left.odd = odd;
-    answered(got.word, got.number, left)
-}
-
-// A whole reckoning.
-pub fn reckon(m: Lent) -> Answer {
-    let mut left = m;
-    let links = m.links;
-    let mut pairs = m.pairs;
-    let mut hops = m.hops;
-    let mut bounds = m.bounds;
-    let mut skips = m.skips;
-    let mut even = m.even;
-    let mut odd = m.odd;
-    let got = reckon::reckon_all(
-        m.rec,
-        &links,
-        &mut pairs,
-        &mut hops,
-        &mut bounds,
-        &mut skips,
-        &mut even,
-        &mut odd,
-    );
-    let rec = got.after;
-    left.pairs = pairs;
-    left.rec = rec;
-    left.hops = hops;
-    left.bounds = bounds;
-    left.skips = skips;
-    left.even = even;
-    left.odd = odd;
-    let answer = got.answer;
-    match answer {
-        Reckoning::Searches(number) => answered(b'D', number, left),
-        Reckoning::Refused(word) => answered(word, 0, left),
+// How an opening changed the chain, or the number of its refusal.
+fn answer_of(outcome: Outcome) -> Result<Change, u8> {
+    match outcome {
+        Outcome::Accepted(outcome::Change::Grew) => Ok(Change::Grew),
+        Outcome::Accepted(outcome::Change::Kept) => Ok(Change::Kept),
+        Outcome::Accepted(outcome::Change::Shrank) => Ok(Change::Shrank),
+        Outcome::Refused(number) => Err(number),
     }
 }
 
-// A search of the code s. Without yards its depth is the eccentricity: else its word is 98.
-pub fn search(m: Lent, s: u8) -> Answer {
-    let mut left = m;
-    let links = m.links;
-    let mut hops = m.hops;
-    let mut even = m.even;
-    let mut odd = m.odd;
-    let found = search::search_from(m.rec, &links, &mut hops, &mut even, &mut odd, s);
-    left.hops = hops;
-    left.even = even;
-    left.odd = odd;
-    match found {
-        Found::Reached(e, depth) => answered(if e == depth { b'D' } else { 98 }, e, left),
-        Found::Refused(word) => answered(word, 0, left),
+// Whether two records are the same.
+fn same_record(a: &Record, b: &Record) -> bool {
+    a.members == b.members
+        && a.yards == b.yards
+        && a.number == b.number
+        && a.chain == b.chain
+        && a.count == b.count
+}
+
+impl Lent {
+    // The empty map, and scratch of no use.
+    pub fn empty() -> Lent {
+        let mut links = [9; map::TABLE];
+        let mut pairs = [9; map::TABLE];
+        let spent = Record {
+            members: [9; map::WORDS],
+            number: 9,
+            chain: 9,
+            count: 9,
+            yards: [9; map::WORDS],
+        };
+        let rec = map::empty_map(spent, &mut links, &mut pairs).after;
+        let scratch = Scratch {
+            hops: [7; map::PLACES],
+            bounds: [7; map::PLACES],
+            skips: [7; map::PLACES],
+            even: [7; map::WORDS],
+            odd: [7; map::WORDS],
+        };
+        Lent {
+            links,
+            pairs,
+            rec,
+            scratch,
+        }
     }
-}
 
-// ---- what they left
+    // ---- the calls
 
-// Whether two rows are the same.
-fn same_row(a: &[u64; map::WORDS], b: &[u64; map::WORDS]) -> bool {
-    let low = both(a[0] == b[0], a[1] == b[1]);
-    both(low, both(a[2] == b[2], a[3] == b[3]))
-}
+    // An opening. Of its second layer row only three words are lent where a buffer is to be short.
+    pub fn open(&mut self, notice: &Notice) -> Opening {
+        let odd = &mut self.scratch.odd[..];
+        let words = if notice.short { 3 } else { map::WORDS };
+        let got = lent_opening::open_value(
+            self.rec,
+            &mut self.links,
+            &mut self.pairs,
+            &mut self.scratch.hops,
+            &mut self.scratch.bounds,
+            &mut self.scratch.skips,
+            &mut self.scratch.even,
+            &mut odd[..words],
+            false,
+            notice.code,
+            notice.neighbours.items(),
+        );
+        self.rec = got.after;
+        Opening {
+            answer: answer_of(got.report.outcome),
+            searches: got.report.searches,
+        }
+    }
 
-// Whether two maps are the same.
-fn same_map(a: Lent, b: Lent) -> bool {
-    let links = a.links;
-    let pairs = a.pairs;
-    let rec = a.rec;
-    let members = rec.members;
-    let old_links = b.links;
-    let old_pairs = b.pairs;
-    let old = b.rec;
-    let old_members = old.members;
-    let yards = rec.yards;
-    let old_yards = old.yards;
-    let linked = same_words(&links, &old_links, map::TABLE);
-    let paired = same_words(&pairs, &old_pairs, map::TABLE);
-    let open = both(
-        same_row(&members, &old_members),
-        same_row(&yards, &old_yards),
-    );
-    let figures = both(rec.chain == old.chain, rec.count == old.count);
-    both(
-        both(linked, paired),
-        both(both(open, rec.number == old.number), figures),
-    )
-}
+    // A whole reckoning: the number of searches, or of a refusal.
+    pub fn reckon(&mut self) -> Result<u16, u8> {
+        let got = reckon::reckon_all(
+            self.rec,
+            &self.links,
+            &mut self.pairs,
+            &mut self.scratch.hops,
+            &mut self.scratch.bounds,
+            &mut self.scratch.skips,
+            &mut self.scratch.even,
+            &mut self.scratch.odd,
+        );
+        self.rec = got.after;
+        match got.answer {
+            Reckoning::Searches(number) => Ok(number),
+            Reckoning::Refused(number) => Err(number),
+        }
+    }
 
-// Whether the scratch of two is the same.
-fn same_scratch(a: Lent, b: Lent) -> bool {
-    let hops = a.hops;
-    let bounds = a.bounds;
-    let skips = a.skips;
-    let even = a.even;
-    let odd = a.odd;
-    let old_hops = b.hops;
-    let old_bounds = b.bounds;
-    let old_skips = b.skips;
-    let old_even = b.even;
-    let old_odd = b.odd;
-    let rows = both(same_row(&even, &old_even), same_row(&odd, &old_odd));
-    let marks = both(
-        same_numbers(&bounds, &old_bounds),
-        same_numbers(&skips, &old_skips),
-    );
-    both(both(rows, marks), same_numbers(&hops, &old_hops))
-}
+    // A search of the code s: its eccentricity and its depth, or the number of a refusal.
+    pub fn search(&mut self, s: u8) -> Result<(u16, u16), u8> {
+        let found = search::search_from(
+            self.rec,
+            &self.links,
+            &mut self.scratch.hops,
+            &mut self.scratch.even,
+            &mut self.scratch.odd,
+            s,
+        );
+        match found {
+            Found::Reached(e, depth) => Ok((e, depth)),
+            Found::Refused(number) => Err(number),
+        }
+    }
 
-// Whether a call on m was refused with this number, with nothing changed.
-pub fn is_refused(got: Answer, m: Lent, number: u8) -> bool {
-    let refused = both(got.word == number, got.number == 0);
-    let left = got.left;
-    both(refused, both(same_map(left, m), same_scratch(left, m)))
-}
+    // ---- what they left
 
-// Whether an opening or a reckoning was accepted with this letter and has as many searches as marks; and, where rounds were run, every depot that was not
-// searched is covered.
-pub fn is_accepted(got: Answer, letter: u8, sheet: &Sheet) -> bool {
-    let left = got.left;
-    let skips = left.skips;
-    let rec = left.rec;
-    let counted = got.number == plain_search::marks::searched(&skips);
-    let covered = match letter {
-        b'S' | b'D' => plain_search::marks::are_covered(&skips, sheet, rec.chain),
-        _ => true,
-    };
-    both(got.word == letter, both(counted, covered))
-}
+    // Whether two are the same.
+    fn is_same(&self, other: &Lent) -> bool {
+        self.links == other.links
+            && self.pairs == other.pairs
+            && same_record(&self.rec, &other.rec)
+            && self.scratch == other.scratch
+    }
 
-// Whether a search of the code s hands back, as its last layer, the depots farthest from s by the plain search.
-fn hands_back(m: Lent, s: u8, sheet: &Sheet, row: usize, e: u16) -> bool {
-    let links = m.links;
-    let mut hops = m.hops;
-    let mut even = m.even;
-    let mut odd = m.odd;
-    let mut refusal = 99;
-    let mut ecc = 0;
-    let mut depth = 0;
-    let rows = search::search_rows(
-        m.rec,
-        &links,
-        &mut hops,
-        &mut even,
-        &mut odd,
-        &mut refusal,
-        &mut ecc,
-        &mut depth,
-        s,
-    );
-    let farthest = plain_search::tables::layer_is(rows[0], sheet, row, e);
-    both(farthest, both(refusal == 0, both(ecc == e, depth == e)))
-}
+    // Whether a call is refused for this, with nothing changed.
+    pub fn refuses<F: FnOnce(&mut Lent) -> Option<u8>>(&self, refusal: Refusal, call: F) -> bool
+        requires { F.IsAlwaysCallable call }
+    {
+        let mut left = *self;
+        call(&mut left) == Some(refusal as u8) && left.is_same(self)
+    }
 
-// Whether the last layer, read off the rows of a search, is that of the plain search.
-fn is_last(
-    even: [u64; map::WORDS],
-    odd: [u64; map::WORDS],
-    sheet: &Sheet,
-    row: usize,
-    e: u16,
-) -> bool {
-    plain_search::tables::layer_is(search::last_layer(&even, &odd, e), sheet, row, e)
-}
+    // Whether there are as many marks as searches; and, where rounds were run, every depot that was not searched is covered.
+    pub fn is_marked(&self, searches: u16, rounds: bool, sheet: &Sheet) -> bool {
+        usize::from(searches) == searched(&self.scratch.skips)
+            && (!rounds || are_covered(&self.scratch.skips, sheet, self.rec.chain))
+    }
 
-// Whether a search of the code s found the distances, the eccentricity and the farthest depots of the plain search.
-pub fn is_found(got: Answer, s: u8, sheet: &Sheet) -> bool {
-    let own = plain_search::wide(s);
-    let left = got.left;
-    let hops = left.hops;
-    let even = left.even;
-    let odd = left.odd;
-    let row = plain_search::row(plain_search::DISTANCES, own);
-    let e = read(sheet, plain_search::ECCENTRICITIES, own);
-    let reached = both(got.word == b'D', got.number == e);
-    let hopped = plain_search::tables::numbers_are(&hops, sheet, row);
-    let last = is_last(even, odd, sheet, row, e);
-    let handed = hands_back(left, s, sheet, row, e);
-    both(both(reached, hopped), both(last, handed))
-}
+    // Whether an opening answers that the chain changed so, with the right marks.
+    pub fn opens(&mut self, notice: &Notice, want: Change, sheet: &Sheet) -> bool {
+        let opening = self.open(notice);
+        opening.answer == Ok(want)
+            && self.is_marked(opening.searches, want == Change::Shrank, sheet)
+    }
 
-// Whether a map is that of the plain list, with the figures and farthest pairs of the plain search: every bit of the tables and the open set, and no yard.
-pub fn is_true(m: Lent, sheet: &Sheet) -> bool {
-    let links = m.links;
-    let pairs = m.pairs;
-    let rec = m.rec;
-    let members = rec.members;
-    let yards = rec.yards;
-    let none = [0u64; map::WORDS];
-    let linked = bits_are(&links, sheet, plain_search::LINKS, 65536);
-    let paired = bits_are(&pairs, sheet, plain_search::PAIRS, 65536);
-    let open = both(
-        bits_are(&members, sheet, plain_search::OPEN, 256),
-        same_row(&yards, &none),
-    );
-    let number = rec.number == read(sheet, plain_search::FIGURES, plain_search::NUMBER);
-    let chain = rec.chain == read(sheet, plain_search::FIGURES, plain_search::CHAIN);
-    let count = rec.count == read(sheet, plain_search::FIGURES, plain_search::COUNT) as u32;
-    both(
-        both(linked, paired),
-        both(open, both(number, both(chain, count))),
-    )
+    // Whether a whole reckoning finds the true figures, whatever they were.
+    pub fn is_reckoned(&self, sheet: &Sheet) -> bool {
+        let mut left = *self;
+        left.reckon()
+            .is_ok_and(|searches| left.is_marked(searches, true, sheet))
+            && left.is_true(sheet)
+    }
+
+    // Whether a search of the code s hands back, as its last layer, the depots farthest from s by the plain search.
+    fn hands_back(&mut self, s: u8, e: u16, farthest: &[bool; CODES]) -> bool {
+        let mut refusal = 99;
+        let mut ecc = 0;
+        let mut depth = 0;
+        let rows = search::search_rows(
+            self.rec,
+            &self.links,
+            &mut self.scratch.hops,
+            &mut self.scratch.even,
+            &mut self.scratch.odd,
+            &mut refusal,
+            &mut ecc,
+            &mut depth,
+            s,
+        );
+        bits_are(rows[0], farthest) && refusal == 0 && ecc == e && depth == e
+    }
+
+    // Whether a search of the code s finds the distances, the eccentricity, which without yards is the depth, and the farthest depots of the plain search.
+    fn finds(&self, s: u8, sheet: &Sheet) -> bool {
+        let mut left = *self;
+        let own = usize::from(s);
+        let e = sheet.eccentricities[own];
+        let farthest = sheet.distances[own].map(|d| d == Some(e));
+        left.search(s) == Ok((e, e))
+            && left.scratch.hops == sheet.distances[own].map(|d| d.unwrap_or(u16::MAX))
+            && bits_are(
+                search::last_layer(&left.scratch.even, &left.scratch.odd, e),
+                &farthest,
+            )
+            && left.hands_back(s, e, &farthest)
+    }
+
+    // Whether a search of the code s finds what the plain search found, or is refused if it is closed.
+    pub fn is_searched(&self, s: u8, sheet: &Sheet) -> bool {
+        if sheet.depots[usize::from(s)] {
+            self.finds(s, sheet)
+        } else {
+            self.refuses(Refusal::Absent, |m| m.search(s).err())
+        }
+    }
+
+    // Whether a map is that of the plain list, with the figures and farthest pairs of the plain search: every bit of the tables and the open set, and no yard.
+    pub fn is_true(&self, sheet: &Sheet) -> bool {
+        bits_are(&self.links, sheet.links.as_flattened())
+            && bits_are(&self.pairs, sheet.pairs.as_flattened())
+            && bits_are(&self.rec.members, &sheet.depots)
+            && self.rec.yards == [0; map::WORDS]
+            && usize::from(self.rec.number) == sheet.number()
+            && self.rec.chain == sheet.chain
+            && self.rec.count as usize == sheet.count()
+    }
 }

@@ -1,30 +1,20 @@
 // Report lines, each beside its text, and a buffer one byte too short, which has none.
-use crate::tally;
-use crate::tally::{Tally, both};
+use crate::tally::Tally;
 use outcome::{Change, Outcome};
 use report::ReportFields;
-
-// The byte at a place, 0 past the end.
-fn byte_at(text: &[u8], i: usize) -> u8 {
-    if i < text.len() { text[i] } else { 0 }
-}
 
 // Whether a report's line, in a buffer of 48 bytes, is the text, and the buffer keeps what stands behind it.
 fn is_line(fields: ReportFields, text: &[u8]) -> bool {
     let mut line = [b'x'; 48];
-    let parts = report::report_line(&mut line, fields);
-    let whole = parts[1];
-    let written = plain_search::tables::same_text(parts[0], text);
-    both(written, both(whole.len() == 48, byte_at(whole, 47) == b'x'))
+    let [written, whole] = report::report_line(&mut line, fields);
+    written == text && whole.len() == 48 && whole[47] == b'x'
 }
 
 // Whether a buffer of 47 bytes is handed back without a line, unchanged.
 fn is_refused(fields: ReportFields) -> bool {
     let mut line = [b'x'; 47];
-    let parts = report::report_line(&mut line, fields);
-    let whole = parts[1];
-    let none = plain_search::tables::same_text(parts[0], b"");
-    both(none, both(whole.len() == 47, byte_at(whole, 0) == b'x'))
+    let [written, whole] = report::report_line(&mut line, fields);
+    written.is_empty() && whole == [b'x'; 47].as_slice()
 }
 
 // The first line of a day, a refused one, the longest, and the buffer too short.
@@ -46,15 +36,17 @@ pub fn all() -> Tally {
         searches: 0,
     };
     let longest = ReportFields {
-        number: 4294967295,
+        number: u32::MAX,
         outcome: Outcome::Refused(255),
-        depots: 65535,
-        chain: 65535,
-        pairs: 4294967295,
-        searches: 65535,
+        depots: u16::MAX,
+        chain: u16::MAX,
+        pairs: u32::MAX,
+        searches: u16::MAX,
     };
-    let t = tally::start().seen(is_line(first, b"1 K 1 0 0 1\n"));
-    let u = t.seen(is_line(refused, b"20 R9 2 1 1 0\n"));
-    let v = u.seen(is_line(longest, b"4294967295 R255 65535 65535 4294967295 65535\n"));
-    v.seen(is_refused(longest))
+    let mut tally = Tally::new();
+    tally.see(is_line(first, b"1 K 1 0 0 1\n"));
+    tally.see(is_line(refused, b"20 R9 2 1 1 0\n"));
+    tally.see(is_line(longest, b"4294967295 R255 65535 65535 4294967295 65535\n"));
+    tally.see(is_refused(longest));
+    tally
 }

@@ -1,39 +1,39 @@
 -- `batch_opening::open_batch` meets its contract: refused, or all turns done and those left over written.
-use mathlib.Core.Path.{sym, ◌∙◌}
+use mathlib.Core.Path.{sym}
 use native.Mathlib.Omega.{arith}
 use lib.ListN.{length}
+use Rattle.std.proofs.lemmas.Result.{err_from_is_err_and}
 use Rattle.map.specs.Memory.{base}
-use Rattle.map.specs.Room.{sizes, sizes_of}
+use Rattle.map.specs.Room.{sizes_of}
+use Rattle.map.specs.Slices.{room_sizes}
 use Rattle.batch_update.proofs.Refuses.{IsGranted, granted}
 use Rattle.batch_opening.proofs.Calls.{refused_batch_lem, opened_batch}
 use Rattle.batch_opening.proofs.open_batch.Goals as goal
-use Rattle.batch_opening.proofs.open_batch.Goals.{Else-refusal-ne0}
+use Rattle.batch_opening.proofs.open_batch.Goals.{In_ok-batch_refusal}
 
 -- what no refusal says
-passed : (c : Else-refusal-ne0) → let a = c.args in let long = sizes (length a.links.now) (length a.pairs.now) (length a.hops.now)
-    (length a.bounds.now) (length a.skips.now) (length a.even.now) (length a.odd.now) in IsGranted base a.rec a.links.now a.pairs.now long
+passed : (c : In_ok-batch_refusal) → let a = c.args in IsGranted base a.rec a.links.now a.room.now.pairs.now (room_sizes (length a.links.now) a.room.now)
     (length a.left.now) a.lines.now
-passed c =
-    granted base _ _ _ _ _ _ (sym c.batch_refusal-refusal.ensures ∙ c.if-refusal-ne0.false)
+passed c = granted base _ _ _ _ _ _ (sym c.in_ok-batch_refusal.ensures)
 
-pub returns-then-refusal-ne0 : goal.returns-then-refusal-ne0
+pub returns-in_err-batch_refusal-clause-left : goal.returns-in_err-batch_refusal-clause-left
 unfolding sizes_of
-returns-then-refusal-ne0 c =
-    refused_batch_lem base _ _ _ _ _ c.batch_refusal-refusal.ensures c.if-refusal-ne0.true c.refused.ensures
+returns-in_err-batch_refusal-clause-left c =
+    let p = err_from_is_err_and c.from_residual.result c.from_residual.ensures.1 in
+    rw (p.1, p.2) (refused_batch_lem base _ _ _ _ _ _ c.in_err-batch_refusal.ensures)
 
 pub open_lines-got-requires : goal.open_lines-got-requires
 open_lines-got-requires c =
-    let ok = passed (goal.at.open_lines-got-requires c).Else-refusal-ne0 in
+    let ok = passed (goal.at.open_lines-got-requires c).In_ok-batch_refusal in
     (ok.free, ok.few, ok.opening)
 
 pub put_left-over-requires : goal.put_left-over-requires
 put_left-over-requires c =
-    let ok = passed (goal.at.put_left-over-requires c).Else-refusal-ne0 in
+    let ok = passed (goal.at.put_left-over-requires c).In_ok-batch_refusal in
     (omega (arith, ok.few, c.count_lines-count.ensures), ok.room)
 
-pub returns : goal.returns
+pub returns-clause-left : goal.returns-clause-left
 unfolding sizes_of
-returns c =
-    opened_batch base _ _ _ _ _ c.count_lines-count.ensures (passed (goal.at.returns c).Else-refusal-ne0).opening c.open_lines-got.result
-    c.open_lines-got.ensures
-    (sym (sym c.batch_refusal-refusal.ensures ∙ c.if-refusal-ne0.false)) c.put_left-over.ensures
+returns-clause-left c =
+    opened_batch base _ _ _ _ _ c.count_lines-count.ensures (passed (goal.at.returns-clause-left c).In_ok-batch_refusal).opening c.open_lines-got.result
+    c.open_lines-got.ensures.left c.in_ok-batch_refusal.ensures c.put_left-over.ensures

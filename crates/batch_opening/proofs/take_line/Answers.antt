@@ -3,11 +3,7 @@ use mathlib.Core.Path.{ap}
 use Rattle.batch_update.specs.BatchCall.{opening_on, memory_left}
 use Rattle.batch_opening.proofs.take_line.Goals as goal
 
-pub with_bit-taken-requires : goal.with_bit-taken-requires
-with_bit-taken-requires c =
-    c.requires.1
-
-pub returns : goal.returns
+pub returns-clause-left : goal.returns-clause-left
 unfolding opening_on
-returns c =
-    (ap memory_left c.open_sound-got.ensures, c.with_bit-taken.ensures)
+returns-clause-left c =
+    ap memory_left (rw c.opens_yard-yard.ensures at c.open_sound-got.ensures.left)
