@@ -1,12 +1,12 @@
 -- WHAT OPENINGS IN A BATCH LEAVE, way out by way out. Assumes nothing.
-use mathlib.Core.Path.{◌≡◌, refl, sym, ap, ap₂, ◌∙◌}
+use mathlib.Core.Path.{◌≡◌, refl, ap, ap₂, ◌∙◌}
 use mathlib.Core.Bool.{Bool, not, ◌&&◌}
 use mathlib.Core.List.{List, ◌∷◌}
 use Prim.Native.Nat.{ℕ, zero, suc, ◌≤◌, ◌<◌}
 use lib.Dec.{leb}
 use lib.ListN.{length, get_or}
 use borrow.Author.Tests.{lt-ltb, le-ltb}
-use Rattle.lists.specs.Lists.{overwrite, first_of}
+use Rattle.lists.specs.Lists.{first_of}
 use Rattle.graph.specs.Distance.{vertices, connected}
 use Rattle.rows.specs.Rows.{table_bit}
 use Rattle.map.specs.Room.{Lent, sizes_of, long_enough}
@@ -16,7 +16,7 @@ use Rattle.lent_map.specs.Faults.{lent_faults}
 use Rattle.batch.specs.Lines.{batch_limit, batch_faults}
 use Rattle.batch_update.specs.BatchCall.{batch_refusal, BatchLeft, batch_given, batch_call}
 use Rattle.batch_update.proofs.Refuses.{granted}
-use Rattle.c_values.specs.Words.{record_words, record_of, words_of, clamped_of}
+use Rattle.c_values.specs.Words.{record_words, record_of, clamped_of}
 use Rattle.c_values.proofs.Clamps.{network_in, links_clamp, figures_clamp, clamped_is}
 use Rattle.c_updates.specs.BatchOuts.{BatchOut, batched_out, batch_from, batch_out}
 
