@@ -42,9 +42,14 @@ pub extern "C" fn zorpedi_feed(
         even,
         odd,
     };
-    if let Err(refusal) =
-        c_values::step_refusal(&*words, &*links, &room, line.len(), out.len(), *held)
-    {
+    if let Err(refusal) = c_values::step_refusal(
+        &*words,
+        &*links,
+        &room,
+        line.len(),
+        out.len(),
+        *held,
+    ) {
         return refusal.number();
     }
     let rec = c_values::record_of(&*words);
@@ -55,8 +60,7 @@ pub extern "C" fn zorpedi_feed(
     };
     let fed = stream::feed(progress, links, &mut room, line, out, piece);
     let now = fed.progress;
-    let after = now.rec;
-    c_values::put_record(words, after);
+    c_values::put_record(words, now.rec);
     *lines = now.lines;
     *held = now.held;
     *used = fed.used;
@@ -97,9 +101,14 @@ pub extern "C" fn zorpedi_finish(
         even,
         odd,
     };
-    if let Err(refusal) =
-        c_values::step_refusal(&*words, &*links, &room, line.len(), out.len(), *held)
-    {
+    if let Err(refusal) = c_values::step_refusal(
+        &*words,
+        &*links,
+        &room,
+        line.len(),
+        out.len(),
+        *held,
+    ) {
         return refusal.number();
     }
     let rec = c_values::record_of(&*words);
@@ -110,8 +119,7 @@ pub extern "C" fn zorpedi_finish(
     };
     let fed = stream::finish(progress, links, &mut room, line, out);
     let now = fed.progress;
-    let after = now.rec;
-    c_values::put_record(words, after);
+    c_values::put_record(words, now.rec);
     *lines = now.lines;
     *held = now.held;
     *written = fed.written;
