@@ -22,8 +22,7 @@ use Rattle.map.specs.declared.Record.{Record}
 use Rattle.checks.proofs.Theorems.{sound_links_iff}
 use Rattle.map.specs.Room.{Lent, sizes_of}
 use Rattle.rounds.specs.Leaves.{rounds_leave}
-use Rattle.reckon.specs.ReckonCall.{reckon_refusal, figured_by, ReckonLeft, reckon_given, reckon_call}
-use Rattle.reckon.specs.declared.Reckoning.TheVariants.{Searches}
+use Rattle.reckon.specs.ReckonCall.{reckon_refusal, figured_by, Searches, ReckonLeft, reckon_given, reckon_call}
 use Rattle.lent_map.proofs.Refuses.{refused_never}
 use Rattle.update.proofs.Memories.{IsHeld, open_below}
 use Rattle.rounds.proofs.Reading.{pairs_read}

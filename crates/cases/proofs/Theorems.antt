@@ -19,9 +19,8 @@ use Rattle.graph.specs.Opening.{empty_network}
 use Rattle.graph.specs.Updates.{Update, opens, joins}
 use Rattle.graph.specs.Cases as Graph
 use Rattle.map.specs.Memory.{base, network_of, yard_network, map_network}
-use Rattle.map.specs.Empty.{empty_refusal, empty_given, empty_call}
+use Rattle.map.specs.Empty.{Done, empty_refusal, empty_given, empty_call}
 use Rattle.map.specs.declared.Record.{Record}
-use Rattle.map.specs.declared.Emptying.TheVariants.{Done}
 use Rattle.map.proofs.Theorems.{emptied_is_empty, base_shape}
 use Rattle.reckon.specs.ReckonCall.{reckon_call}
 use Rattle.outcome.specs.Outcome.{letter_of, refusal_of}

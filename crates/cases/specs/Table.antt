@@ -7,9 +7,8 @@ use Rattle.lists.specs.Lists.{overwrite}
 use Rattle.rows.specs.Rows.{encode_row, encode_table}
 use Rattle.graph.specs.Cases.{path, AnswerLine, seven_lines}
 use Rattle.map.specs.Memory.{base, places, table_words, yard_network, map_network}
-use Rattle.map.specs.Empty.{EmptyLeft}
+use Rattle.map.specs.Empty.{Done, EmptyLeft}
 use Rattle.map.specs.declared.Record.{Record}
-use Rattle.map.specs.declared.Emptying.TheVariants.{Done}
 use Rattle.map.specs.Room.{Lent}
 use Rattle.reckon.specs.ReckonCall.{ReckonLeft}
 use Rattle.update.specs.Memory.{empty_memory}

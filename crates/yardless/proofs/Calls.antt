@@ -23,19 +23,13 @@ use Rattle.map.specs.declared.Record.{Record}
 use Rattle.layers.specs.Layers.{depth_from, search_leaves}
 use Rattle.layers.proofs.Theorems.{depth_ecc}
 use Rattle.lent_map.specs.Faults.{lent_faults, lent_refusal}
-use Rattle.search.specs.SearchCall.{SearchLeft, search_refusal, search_given, search_call, ecc_of, depth_of}
-use Rattle.search.specs.SearchCall.{Found}
-use Rattle.search.specs.SearchCall.{Reached, Refused}
+use Rattle.search.specs.SearchCall.{Found, Reached, Refused, SearchLeft, search_refusal, search_given, search_call}
 use Rattle.search.proofs.Accepts.{granted}
-use Rattle.nearby.specs.WithinCall.{WithinLeft, within_refusal, within_given, within_call}
-use Rattle.nearby.specs.NearestCall.{NearestLeft, nearest_refusal, nearest_given, nearest_call}
-use Rattle.nearby.specs.WithinCall.{Listed}
-use Rattle.nearby.specs.NearestCall.{At}
-use Rattle.summary.specs.SummaryCall.{SummaryLeft, summary_refusal, summary_given, summary_call}
-use Rattle.summary.specs.SummaryCall.{Summed}
+use Rattle.nearby.specs.WithinCall.{Listed, WithinLeft, within_refusal, within_given, within_call}
+use Rattle.nearby.specs.NearestCall.{At, NearestLeft, nearest_refusal, nearest_given, nearest_call}
+use Rattle.summary.specs.SummaryCall.{Summed, SummaryLeft, summary_refusal, summary_given, summary_call}
 use Rattle.rounds.specs.Leaves.{rounds_leave}
-use Rattle.reckon.specs.ReckonCall.{ReckonLeft, reckon_refusal, figured_by, reckon_given, reckon_call}
-use Rattle.reckon.specs.declared.Reckoning.TheVariants.{Searches}
+use Rattle.reckon.specs.ReckonCall.{Searches, ReckonLeft, reckon_refusal, figured_by, reckon_given, reckon_call}
 use Rattle.yardless.specs.Earlier.{earlier_chart, earlier_network, earlier_sound_links, earlier_sound_figures, earlier_faults, ends_by, search_long, earlier_empty, earlier_search, earlier_within, earlier_nearest, earlier_summary, earlier_reckon}
 use Rattle.yardless.specs.Stands.{IsYardless}
 use Rattle.yardless.proofs.Networks.{chart_same, links_same, figures_same}
@@ -58,6 +52,15 @@ ends_both P given refused p q (suc k) = q k
 pub empty_same : (K : Shape) (rec : Record) (links pairs : List ℕ) → empty_call K rec links pairs ≡ earlier_empty K rec links pairs
 unfolding empty_call empty_refusal empty_given empty_record earlier_empty
 empty_same K rec links pairs = ends_same (λ n. empty_given n K rec links pairs) _ _ refl (λ k. refl) refl
+
+-- the two numbers of a search's answer, 0 in a refused one
+abbrev ecc_of : Found → ℕ
+ecc_of (Reached e d) = e
+ecc_of (Refused k) = 0
+
+abbrev depth_of : Found → ℕ
+depth_of (Reached e d) = d
+depth_of (Refused k) = 0
 
 module _ (K : Shape) (rec : Record) (links : List ℕ) (none : IsYardless K rec links) where
   abbrev G : Network
@@ -119,7 +122,7 @@ module _ (K : Shape) (rec : Record) (links : List ℕ) (none : IsYardless K rec 
     unfolding earlier_search
     search_layer shape code e d is =
         let q : (earlier_search K rec links B code).answer ≡ Reached e d = sym (ap (λ (l : SearchLeft). l.answer) (search_same shape code)) ∙ is in
-        sym (ap (λ (a : Found). depth_of a 0) q) ∙ ends_both (λ (l : SearchLeft). depth_of l.answer 0 ≡ ecc_of l.answer 0) _ _ refl (λ k. refl) _ ∙ ap (λ (a : Found). ecc_of a 0) q
+        sym (ap depth_of q) ∙ ends_both (λ (l : SearchLeft). depth_of l.answer ≡ ecc_of l.answer) _ _ refl (λ k. refl) _ ∙ ap ecc_of q
 
     pub within_same : (codes : List ℕ) (code k : ℕ) → within_call K rec links B codes code k ≡ earlier_within K rec links B codes code k
     unfolding within_call within_refusal within_given earlier_within search_long

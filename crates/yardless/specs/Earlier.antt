@@ -24,23 +24,17 @@ use Rattle.graph.specs.Nearby.{within_list, nearest_listed}
 use Rattle.graph.specs.Summary.{distance_sum, pair_number, ecc_count}
 use Rattle.map.specs.Memory.{Shape, places, table_words, network_of}
 use Rattle.map.specs.Bits.{sound_link}
-use Rattle.map.specs.Empty.{zeros, EmptyLeft}
+use Rattle.map.specs.Empty.{zeros, Done, Refused as RefusedEmptying, EmptyLeft}
 use Rattle.map.specs.Room.{Tables, Lent, sizes_of, long_enough}
 use Rattle.map.specs.declared.Record.{Record}
-use Rattle.map.specs.declared.Emptying.TheVariants.{Done, Refused as RefusedEmptying}
 use Rattle.layers.specs.Layers.{search_leaves}
 use Rattle.checks.specs.Sound.{all_set}
-use Rattle.search.specs.SearchCall.{search_sizes, SearchLeft}
-use Rattle.search.specs.SearchCall.{Reached, Refused as RefusedSearch}
-use Rattle.nearby.specs.WithinCall.{WithinLeft}
-use Rattle.nearby.specs.NearestCall.{NearestLeft}
-use Rattle.nearby.specs.WithinCall.{Listed, Refused as RefusedListing}
-use Rattle.nearby.specs.NearestCall.{At, Refused as RefusedNearest}
-use Rattle.summary.specs.SummaryCall.{SummaryLeft}
-use Rattle.summary.specs.SummaryCall.{Summed, Refused as RefusedSumming}
+use Rattle.search.specs.SearchCall.{search_sizes, Reached, Refused as RefusedSearch, SearchLeft}
+use Rattle.nearby.specs.WithinCall.{Listed, Refused as RefusedListing, WithinLeft}
+use Rattle.nearby.specs.NearestCall.{At, Refused as RefusedNearest, NearestLeft}
+use Rattle.summary.specs.SummaryCall.{Summed, Refused as RefusedSumming, SummaryLeft}
 use Rattle.rounds.specs.Leaves.{rounds_leave}
-use Rattle.reckon.specs.ReckonCall.{ReckonLeft}
-use Rattle.reckon.specs.declared.Reckoning.TheVariants.{Searches, Refused as RefusedReckoning}
+use Rattle.reckon.specs.ReckonCall.{Searches, Refused as RefusedReckoning, ReckonLeft}
 use Rattle.update.specs.UpdateCall.{UpdateLeft}
 use Rattle.hexadecimal.specs.Hex.{is_digit, bytes_of}
 use Rattle.notice.specs.Lines.{line_limit, opening_kind, link_kind, line_of, end_of, lines_of, Line, garbled, frame}
