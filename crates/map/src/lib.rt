@@ -202,7 +202,7 @@ impl Room<'_> {
 // ---- emptying
 
 // The record of one map: the members of the open set (one row), number open, longest chain, pair count, and the yard set (one row).
-#[derive(Clone, Copy)]
+#[derive(Clone, Copy, PartialEq, Eq)]
 pub struct Record {
     pub members: [u64; WORDS],
     pub number: u16,
