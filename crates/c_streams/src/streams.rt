@@ -42,9 +42,14 @@ pub extern "C" fn zorpedi_feed(
         even,
         odd,
     };
-    if let Err(refusal) =
-        c_values::step_refusal(&*words, &*links, &room, line.len(), out.len(), *held)
-    {
+    if let Err(refusal) = c_values::step_refusal(
+        &*words,
+        &*links,
+        &room,
+        line.len(),
+        out.len(),
+        *held,
+    ) {
         return refusal.number();
     }
     let rec = c_values::record_of(&*words);
@@ -97,9 +102,14 @@ pub extern "C" fn zorpedi_finish(
         even,
         odd,
     };
-    if let Err(refusal) =
-        c_values::step_refusal(&*words, &*links, &room, line.len(), out.len(), *held)
-    {
+    if let Err(refusal) = c_values::step_refusal(
+        &*words,
+        &*links,
+        &room,
+        line.len(),
+        out.len(),
+        *held,
+    ) {
         return refusal.number();
     }
     let rec = c_values::record_of(&*words);

@@ -23,16 +23,11 @@ use Rattle.map.specs.declared.Record.{Record}
 use Rattle.layers.specs.Layers.{depth_from, search_leaves}
 use Rattle.layers.proofs.Theorems.{depth_ecc}
 use Rattle.lent_map.specs.Faults.{lent_faults, lent_refusal}
-use Rattle.search.specs.SearchCall.{SearchLeft, search_refusal, search_given, search_call, ecc_of, depth_of}
-use Rattle.search.specs.SearchCall.{Found}
-use Rattle.search.specs.SearchCall.{Reached, Refused}
+use Rattle.search.specs.SearchCall.{SearchLeft, search_refusal, search_given, search_call, ecc_of, depth_of, Found, Reached, Refused}
 use Rattle.search.proofs.Accepts.{granted}
-use Rattle.nearby.specs.WithinCall.{WithinLeft, within_refusal, within_given, within_call}
-use Rattle.nearby.specs.NearestCall.{NearestLeft, nearest_refusal, nearest_given, nearest_call}
-use Rattle.nearby.specs.WithinCall.{Listed}
-use Rattle.nearby.specs.NearestCall.{At}
-use Rattle.summary.specs.SummaryCall.{SummaryLeft, summary_refusal, summary_given, summary_call}
-use Rattle.summary.specs.SummaryCall.{Summed}
+use Rattle.nearby.specs.WithinCall.{WithinLeft, within_refusal, within_given, within_call, Listed}
+use Rattle.nearby.specs.NearestCall.{NearestLeft, nearest_refusal, nearest_given, nearest_call, At}
+use Rattle.summary.specs.SummaryCall.{SummaryLeft, summary_refusal, summary_given, summary_call, Summed}
 use Rattle.rounds.specs.Leaves.{rounds_leave}
 use Rattle.reckon.specs.ReckonCall.{ReckonLeft, reckon_refusal, figured_by, reckon_given, reckon_call}
 use Rattle.reckon.specs.declared.Reckoning.TheVariants.{Searches}

@@ -30,14 +30,10 @@ use Rattle.map.specs.declared.Record.{Record}
 use Rattle.map.specs.declared.Emptying.TheVariants.{Done, Refused as RefusedEmptying}
 use Rattle.layers.specs.Layers.{search_leaves}
 use Rattle.checks.specs.Sound.{all_set}
-use Rattle.search.specs.SearchCall.{search_sizes, SearchLeft}
-use Rattle.search.specs.SearchCall.{Reached, Refused as RefusedSearch}
-use Rattle.nearby.specs.WithinCall.{WithinLeft}
-use Rattle.nearby.specs.NearestCall.{NearestLeft}
-use Rattle.nearby.specs.WithinCall.{Listed, Refused as RefusedListing}
-use Rattle.nearby.specs.NearestCall.{At, Refused as RefusedNearest}
-use Rattle.summary.specs.SummaryCall.{SummaryLeft}
-use Rattle.summary.specs.SummaryCall.{Summed, Refused as RefusedSumming}
+use Rattle.search.specs.SearchCall.{search_sizes, SearchLeft, Reached, Refused as RefusedSearch}
+use Rattle.nearby.specs.WithinCall.{WithinLeft, Listed, Refused as RefusedListing}
+use Rattle.nearby.specs.NearestCall.{NearestLeft, At, Refused as RefusedNearest}
+use Rattle.summary.specs.SummaryCall.{SummaryLeft, Summed, Refused as RefusedSumming}
 use Rattle.rounds.specs.Leaves.{rounds_leave}
 use Rattle.reckon.specs.ReckonCall.{ReckonLeft}
 use Rattle.reckon.specs.declared.Reckoning.TheVariants.{Searches, Refused as RefusedReckoning}
