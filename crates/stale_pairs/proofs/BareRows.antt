@@ -1,10 +1,9 @@
 -- Rows without a pair, as `bare_groups` and `next_row` pass them: by groups of 8, and one by one. Assumes nothing.
-use mathlib.Core.Path.{◌≡◌, refl, ◌∙◌}
+use mathlib.Core.Path.{◌≡◌, sym, ◌∙◌}
 use mathlib.Core.Logic.{◌⊎◌, inl, inr}
-use mathlib.Core.Bool.{Bool, true, false, not}
+use mathlib.Core.Bool.{Bool, true, false}
 use mathlib.Core.List.{List}
 use Prim.Native.Nat.{ℕ, ◌+◌, ◌*◌, ◌≤◌, ◌<◌}
-use native.Mathlib.Nat.{lt_irrefl}
 use native.Mathlib.Omega.{arith}
 use lib.Dec.{eqb}
 use lib.ListN.{get_or}
@@ -23,11 +22,8 @@ pub group_inside : (W n p s : ℕ) → n ≤ 64 * W → p + 8 ≤ n → W * (64 
 group_inside W n p s m l h = omega (arith, rows_fit W p 8 s (omega arith) h)
 
 module _ (W n : ℕ) (t : List ℕ) (u : ℕ) where
-  pub bare_start : u ≤ n → Bare W n t u u
-  bare_start l = record { after = omega arith; within = l; none = λ q v a b h. absurd (lt_irrefl q (omega arith)) }
-
   -- k rows more, whose m words are all 0, as the code's answer r says
-  bare_more : (k m : ℕ) {p : ℕ} {r : Bool} → W * k ≤ m → Bare W n t u p → n ≤ 64 * W → p + k ≤ n → r ≡ allb (λ i. eqb (get_or t (W * p + i) 0) 0) (range m) → not r ≡ false
+  bare_more : (k m : ℕ) {p : ℕ} {r : Bool} → W * k ≤ m → Bare W n t u p → n ≤ 64 * W → p + k ≤ n → r ≡ allb (λ i. eqb (get_or t (W * p + i) 0) 0) (range m) → r ≡ true
       → Bare W n t u (p + k)
   bare_more k m {p} {r} few g w l e z = record {
     after = omega (arith, g.after);
@@ -35,18 +31,13 @@ module _ (W n : ℕ) (t : List ℕ) (u : ℕ) where
     none = λ q v a b h. go q v a b h (lt_or_ge q p);
   }
     where
-      zero : (r : Bool) → not r ≡ false → true ≡ r
-      zero true z = refl
-      zero false z = z
-
       go : (q v : ℕ) → u ≤ q → q < p + k → v < 64 * W → (q < p) ⊎ (p ≤ q) → table_bit W t q v ≡ false
       go q v a b h (inl c) = g.none q v a c h
-      go q v a b h (inr c) = rows_zero W t p k m (omega arith) few (zero r z ∙ e) q v c b h
+      go q v a b h (inr c) = rows_zero W t p k m (omega arith) few (sym z ∙ e) q v c b h
 
   -- one row more, and one group
-  pub row_bare : {p : ℕ} {r : Bool} → Bare W n t u p → n ≤ 64 * W → p < n → r ≡ allb (λ i. eqb (get_or t (W * p + i) 0) 0) (range W) → not r ≡ false → Bare W n t u (p + 1)
+  pub row_bare : {p : ℕ} {r : Bool} → Bare W n t u p → n ≤ 64 * W → p < n → r ≡ allb (λ i. eqb (get_or t (W * p + i) 0) 0) (range W) → r ≡ true → Bare W n t u (p + 1)
   row_bare g w l e z = bare_more 1 W (omega arith) g w (omega arith) e z
 
-  pub group_bare : {p : ℕ} {r : Bool} → Bare W n t u p → n ≤ 64 * W → p + 8 ≤ n → r ≡ allb (λ i. eqb (get_or t (W * p + i) 0) 0) (range (8 * W)) → not r ≡ false
-      → Bare W n t u (p + 8)
+  pub group_bare : {p : ℕ} {r : Bool} → Bare W n t u p → n ≤ 64 * W → p + 8 ≤ n → r ≡ allb (λ i. eqb (get_or t (W * p + i) 0) 0) (range (8 * W)) → r ≡ true → Bare W n t u (p + 8)
   group_bare g w l e z = bare_more 8 (8 * W) (omega arith) g w l e z

@@ -59,7 +59,6 @@ module _ (W : ℕ) (far : ℕ → ℕ → ℕ) (D u : ℕ) (t₀ : List ℕ) whe
   left_below at p v = cond (eqb p u && ltb v at) (staying_pairs far D (table_bit W t₀) p v) (table_bit W t₀ p v)
 
   pub record RowDropping (t : List ℕ) (g n w at : ℕ) : Type 0 where
-    pub within : at ≤ 64 * W
     pub table : t ≡ overwrite (encode_table W (left_below at)) t₀
     pub size : length t ≡ length t₀
     pub gone : g ≡ countb (stale_pairs far D (table_bit W t₀) u) (range at)
@@ -76,7 +75,6 @@ module _ (W : ℕ) (far : ℕ → ℕ → ℕ) (D u : ℕ) (t₀ : List ℕ) whe
 
   pub row_start : W * (64 * W) ≤ length t₀ → ((i : ℕ) → i < W * (64 * W) → get_or t₀ i 0 < 2 ^ 64) → RowDropping t₀ 0 0 0 0
   row_start l fits = record {
-    within = omega arith;
     table = table_whole W t₀ l fits ∙ ap (λ (e : List ℕ). overwrite e t₀) (encode_table_ext W (table_bit W t₀) (left_below 0) (λ p v a b. sym (left_none p v)));
     size = refl;
     gone = sym (count_nothing (stale_pairs far D (table_bit W t₀) u));
@@ -162,7 +160,6 @@ module _ (W : ℕ) (far : ℕ → ℕ → ℕ) (D u : ℕ) (t₀ : List ℕ) whe
       row_word m =
           let e : 64 * (j + 1) ≡ 64 * j + 64 = omega arith in
           record {
-            within = omega arith;
             table = word_table;
             size = simp length-set i.size;
             gone = omega (arith, i.gone, word_gone, count_word (stale_pairs far D (table_bit W t₀) u));
@@ -204,7 +201,6 @@ module _ (W : ℕ) (far : ℕ → ℕ → ℕ) (D u : ℕ) (t₀ : List ℕ) whe
     row_skip e =
         let r = row_word (nothing-sifted e) {w' = w} (omega arith) in
         record {
-          within = r.within;
           table = sym (ap (λ (y : ℕ). set t (W * u + j) y) (sym e) ∙ set-get_or t (W * u + j) 0) ∙ r.table;
           size = i.size;
           gone = omega (arith, r.gone);
@@ -213,10 +209,9 @@ module _ (W : ℕ) (far : ℕ → ℕ → ℕ) (D u : ℕ) (t₀ : List ℕ) whe
         }
 
   -- no word is left
-  pub row_end : {t : List ℕ} {g n w at : ℕ} → RowDropping t g n w at → 64 * W ≤ at → rows_dropped t g n w ≡ drop_row_of W far D u t₀
+  pub row_end : {t : List ℕ} {g n w at : ℕ} → RowDropping t g n w at → at ≡ 64 * W → rows_dropped t g n w ≡ drop_row_of W far D u t₀
   unfolding drop_row_of pairs_after row_gone row_stays row_way way_at
-  row_end {at = at} i z =
-      let e : at ≡ 64 * W = omega (arith, i.within) in
+  row_end {at = at} i e =
       same_rows
       (i.table ∙ ap (λ (e : List ℕ). overwrite e t₀) (encode_table_ext W (left_below at) (pairs_after (λ p. eqb p u) far D (table_bit W t₀)) (λ p v l h. same p v (eq_or_ne p u) (omega arith))))
       (i.gone ∙ ap (λ (k : ℕ). countb (stale_pairs far D (table_bit W t₀) u) (range k)) e)

@@ -1,9 +1,10 @@
 -- `stale_pairs::drop_row` meets its contract. The loop's invariant (StaleRow.antt): the row's pairs in the words passed are dropped or counted, and their
--- greatest way is known. The measure is the words left.
+-- greatest way is known.
 use native.Mathlib.Omega.{arith}
 use Rattle.rows.proofs.Places.{row_fits}
 use Rattle.stale_pairs.proofs.StaleRow.{row_start, row_word, row_skip, row_end, gone_fits, count_fits}
 use Rattle.stale_pairs.proofs.drop_row.Goals as goal
+use Rattle.stale_pairs.proofs.drop_row.Goals.{then-old-ne0, else-old-ne0}
 
 pub overflow_mul-base : goal.overflow_mul-base
 overflow_mul-base c =
@@ -14,34 +15,8 @@ pub loop-j-init : goal.loop-j-init
 loop-j-init c =
     row_start _ _ _ _ _ c.requires.0.table (λ i l. (c.slice_known-1.given i).fits)
 
-pub overflow_add-i : goal.overflow_add-i
-overflow_add-i c =
-    let pre = c.requires in
-    omega (arith, row_fits _ _ _ pre.1 pre.0.table, c.loop-j-test.true)
-
-pub offset_bounds-pairs-i : goal.offset_bounds-pairs-i
-offset_bounds-pairs-i c =
-    let pre = c.requires in
-    omega (arith, row_fits _ _ _ pre.1 pre.0.table, c.loop-j-test.true)
-
-pub bounds-pairs-i : goal.bounds-pairs-i
-bounds-pairs-i c =
-    let pre = c.requires in
-    omega (arith, row_fits _ _ _ pre.1 pre.0.table, c.loop-j-test.true, c.loop-j.invariant.size)
-
-pub offset_bounds-pairs-i-then-old-ne0 : goal.offset_bounds-pairs-i-then-old-ne0
-offset_bounds-pairs-i-then-old-ne0 c =
-    let pre = c.requires in
-    omega (arith, row_fits _ _ _ pre.1 pre.0.table, c.loop-j-test.true)
-
-pub bounds-pairs-i-then-old-ne0 : goal.bounds-pairs-i-then-old-ne0
-bounds-pairs-i-then-old-ne0 c =
-    let pre = c.requires in
-    omega (arith, row_fits _ _ _ pre.1 pre.0.table, c.loop-j-test.true, c.loop-j.invariant.size)
-
 pub returns : goal.returns
-returns c =
-    row_end _ _ _ _ _ c.loop-j.invariant (omega (arith, c.loop-j-test.false))
+returns c = row_end _ _ _ _ _ c.loop-j.invariant (omega arith)
 
 pub overflow_add-gone : goal.overflow_add-gone
 overflow_add-gone c = search gone_fits
@@ -49,8 +24,9 @@ overflow_add-gone c = search gone_fits
 pub overflow_add-count : goal.overflow_add-count
 overflow_add-count c = search count_fits
 
-pub loop-j-preserved-then-old-ne0 : goal.loop-j-preserved-then-old-ne0
-loop-j-preserved-then-old-ne0 c = search row_word
-
 pub loop-j-preserved : goal.loop-j-preserved
-loop-j-preserved c = search row_skip
+loop-j-preserved c =
+    elim c.if-old-ne0.branch [
+      | then-old-ne0 w ↦ rw (w.pairs-is, w.gone-is, w.count-is, w.way'-is) (search row_word)
+      | else-old-ne0 w ↦ rw (w.pairs-is, w.gone-is, w.count-is, w.way'-is) (search row_skip)
+    ]
