@@ -1,4 +1,4 @@
--- Lists read by place.
+-- Lists that rise.
 pub mod Listed
 -- The refusals of a notice one by one.
 pub mod Notices

@@ -28,14 +28,7 @@ fn is_lonely(members: &[u64], words: usize, neighbours: &[u8]) -> bool
 fn is_rising(neighbours: &[u8]) -> bool
     ensures { result ≡ strictly_rising neighbours.now }
 {
-    let mut i: usize = 1;
-    while i < neighbours.len() {
-        if neighbours[i] <= neighbours[i - 1] {
-            return false;
-        }
-        i += 1;
-    }
-    true
+    neighbours.is_sorted_by(|a, b| a < b)
 }
 
 // Whether each code is open.
@@ -43,15 +36,9 @@ fn all_open(members: &[u64], words: usize, neighbours: &[u8]) -> bool
     requires { (base.words ≤ words) × (words < 513) × (words ≤ length members.now) }
     ensures { result ≡ allb (row_bit words members.now) neighbours.now }
 {
-    let mut i: usize = 0;
-    while i < neighbours.len() {
-        let v = neighbours[i] as usize;
-        if !map::is_open(members, words, v) {
-            return false;
-        }
-        i += 1;
-    }
-    true
+    neighbours
+        .iter()
+        .all(|v| map::is_open(members, words, *v as usize))
 }
 
 // The first of the refusals 5 to 8 that holds, 0 for none. They ask only which codes are open, so no link is lent; nor do they ask whether the notice
@@ -86,12 +73,10 @@ pub fn link_depot(links: &mut [u64], words: usize, code: u8, neighbours: &[u8])
         links.new ≡ overwrite table before }
 {
     let a = code as usize;
-    let mut i: usize = 0;
-    while i < neighbours.len() {
-        let v = neighbours[i] as usize;
+    for neighbour in neighbours {
+        let v = *neighbour as usize;
         rows::row_set(links, words, a, v);
         rows::row_set(links, words, v, a);
-        i += 1;
     }
 }
 

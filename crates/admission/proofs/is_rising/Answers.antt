@@ -1,16 +1,9 @@
--- `admission::is_rising` meets its contract. The loop's invariant: each code before place i is above the one before it. The measure is the places left.
-use mathlib.Core.Path.{sym}
-use Rattle.admission.proofs.Listed.{risen_more, risen_all, fault_before}
+-- `admission::is_rising` meets its contract: `is_sorted_by` over the codes (Listed.antt).
+use Rattle.std.proofs.lemmas.List.Sorted.{answers_always}
 use borrow.Author.Rules.{rules}
+use lib.Dec.{ltb}
+use Rattle.admission.proofs.Listed.{rising_is}
 use Rattle.admission.proofs.is_rising.Goals as goal
 
-pub returns-then-neighbours-i : goal.returns-then-neighbours-i
-returns-then-neighbours-i c =
-    sym (fault_before _ _ c.loop-i.invariant.0 c.loop-i-test.true c.if-neighbours-i.true)
-
 pub returns : goal.returns
-returns c =
-    sym (risen_all _ _ c.loop-i.invariant.1 c.loop-i-test.false)
-
-pub loop-i-preserved : goal.loop-i-preserved
-loop-i-preserved c = search (risen_more, rules)
+returns c = rising_is _ _ (c.is_sorted_by.ensures.cases ltb (answers_always _ _ _ (λ f a r g h. search rules)))
