@@ -57,6 +57,7 @@ pub fn put_number(line: &mut [u8], at: usize, n: u64) -> usize
     ensures { Placed (decimal n) at line.old result line.new }
 {
     let end = at + digits(n);
+    // The number says when its digits end, not the place: a for over the places would divide once more, for the first digit.
     let mut i = end - 1;
     let mut m = n;
     while 10 <= m {
