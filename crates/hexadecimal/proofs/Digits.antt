@@ -2,15 +2,11 @@
 use mathlib.Core.Path.{◌≡◌, refl, sym, ap, ◌∙◌}
 use mathlib.Core.Logic.{◌⊎◌, inl, inr}
 use mathlib.Core.Bool.{Bool, true, false, ◌&&◌}
-use mathlib.Core.List.{List, [], ◌∷◌}
-use Prim.Native.Nat.{ℕ, zero, suc, ◌+◌, ◌-◌, ◌≤◌, ◌<◌}
-use native.Mathlib.Numerals.{add-one}
+use Prim.Native.Nat.{ℕ, ◌+◌, ◌-◌, ◌≤◌, ◌<◌}
 use native.Mathlib.Omega.{arith}
 use lib.Dec.{eqb, leb}
-use lib.ListN.{length, get_or, take}
 use borrow.Author.Tests.{leb-true, lt-ltb, le-ltb, le-leb, lt-leb, ne_eqb}
 use Rattle.lists.proofs.Tests.{and-true, and_intro, or_true, or_left, or_right, lt_or_ge}
-use Rattle.lists.specs.Lists.{allb}
 use Rattle.hexadecimal.specs.Hex.{hex_digit, is_digit, digit_value}
 
 -- a digit is one of 0 to 9 or of A to F
@@ -107,12 +103,3 @@ digit_is d h = go (lt_or_ge d 10)
 -- no digit ends a line
 pub digit_no_end : (c : ℕ) → is_digit c ≡ true → eqb c 10 ≡ false
 digit_no_end c h = let l = digit_least c h in ne_eqb c 10 (λ e. omega arith)
-
--- one more digit behind digits
-pub digits_more : (s : List ℕ) (i : ℕ) → i < length s → allb is_digit (take i s) ≡ true → is_digit (get_or s i 0) ≡ true → allb is_digit (take (i + 1) s) ≡ true
-unfolding allb
-digits_more [] i h d e = absurd (omega arith)
-digits_more (c ∷ cs) zero h d e = rw e
-digits_more (c ∷ cs) (suc i) h d e =
-    let p = and-true (is_digit c) (allb is_digit (take i cs)) d in
-    rw (add-one (suc i)) (and_intro p.0 (rw (add-one i) at (digits_more cs i (omega arith) p.1 e)))

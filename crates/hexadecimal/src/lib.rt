@@ -12,14 +12,7 @@ pub fn digits_end(s: &[u8]) -> usize
         × (allb is_digit (take result s.now) ≡ true)
         × (result < length s.now → is_digit (get_or s.now result 0) ≡ false) }
 {
-    let mut i = 0;
-    while i < s.len() {
-        if !is_digit(s[i]) {
-            return i;
-        }
-        i += 1;
-    }
-    i
+    s.iter().position(|c| !is_digit(*c)).unwrap_or(s.len())
 }
 
 // Puts the bytes that the digits spell at the start of the frame buffer.
@@ -27,11 +20,8 @@ pub fn read_bytes(frame: &mut [u8], digits: &[u8])
     requires { (allb is_digit digits.now ≡ true) × (length digits.now ≤ 2 * length frame.old) }
     ensures { frame.new ≡ overwrite (bytes_of digits.now) frame.old }
 {
-    let n = digits.len() / 2;
-    let mut i = 0;
-    while i < n {
+    for i in 0..digits.len() / 2 {
         frame[i] = byte_at(digits, i);
-        i += 1;
     }
 }
 
@@ -40,12 +30,9 @@ pub fn write_digits(line: &mut [u8], frame: &[u8])
     requires { 2 * length frame.now ≤ length line.old }
     ensures { line.new ≡ overwrite (digits_of frame.now) line.old }
 {
-    let mut i = 0;
-    while i < frame.len() {
-        let b = frame[i];
-        line[2 * i] = digit(b / 16);
-        line[2 * i + 1] = digit(b % 16);
-        i += 1;
+    for (i, byte) in frame.iter().enumerate() {
+        line[2 * i] = digit(*byte / 16);
+        line[2 * i + 1] = digit(*byte % 16);
     }
 }
 

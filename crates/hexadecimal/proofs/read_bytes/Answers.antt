@@ -1,5 +1,4 @@
--- `notice::read_bytes` meets its contract. The invariant: the first i bytes spelt are written, and the rest is as it was.
--- The measure is what is left to write.
+-- `hexadecimal::read_bytes` meets its contract. The invariant: the first i bytes spelt are written, and the rest is as it was.
 use native.Mathlib.Omega.{arith}
 use Rattle.hexadecimal.proofs.Spelling.{length_bytes, bytes_more}
 use Rattle.lists.proofs.Copies.{copied_none, copied_all}
@@ -7,8 +6,7 @@ use borrow.Author.Rules.{rules}
 use Rattle.hexadecimal.proofs.read_bytes.Goals as goal
 
 pub returns : goal.returns
-returns c =
-    copied_all c.loop-i.invariant.1 (omega (arith, length_bytes c.args.digits.now))
+returns c = copied_all c.loop-i.invariant (omega (arith, length_bytes c.args.digits.now))
 
 pub loop-i-init : goal.loop-i-init
 loop-i-init c = search (copied_none, rules)

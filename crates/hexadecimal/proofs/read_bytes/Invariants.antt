@@ -1,12 +1,7 @@
--- `notice::read_bytes` meets its contract. The invariant: the first i bytes spelt are written, and the rest is as it was.
--- The measure is what is left to write.
-use Prim.Native.Nat.{◌≤◌, ◌-◌}
+-- `hexadecimal::read_bytes` meets its contract. The invariant: the first i bytes spelt are written, and the rest is as it was.
 use Rattle.hexadecimal.specs.Hex.{bytes_of}
 use Rattle.lists.proofs.Copies.{Copied}
 use Rattle.hexadecimal.proofs.read_bytes.Given as goal
 
 abbrev pub invariant-loop-i : goal.invariant-loop-i
-invariant-loop-i l = (l.i ≤ l.n) × Copied (bytes_of l.digits) l.initial.frame l.frame l.i
-
-abbrev pub decreases-loop-i : goal.decreases-loop-i
-decreases-loop-i l = l.n - l.i
+invariant-loop-i l = Copied (bytes_of l.digits) l.initial.frame l.frame l.i

@@ -1,13 +1,8 @@
--- `notice::write_digits` meets its contract. The invariant: the digits of the first i bytes are written, and the rest is as it was.
--- The measure is what is left of the frame.
-use Prim.Native.Nat.{◌≤◌, ◌-◌, ◌*◌}
-use lib.ListN.{length}
+-- `hexadecimal::write_digits` meets its contract. The invariant: the digits of the first i bytes are written, and the rest is as it was.
+use Prim.Native.Nat.{◌*◌}
 use Rattle.hexadecimal.specs.Hex.{digits_of}
 use Rattle.lists.proofs.Copies.{Copied}
 use Rattle.hexadecimal.proofs.write_digits.Given as goal
 
 abbrev pub invariant-loop-i : goal.invariant-loop-i
-invariant-loop-i l = (l.i ≤ length l.frame) × Copied (digits_of l.frame) l.initial.line l.line (2 * l.i)
-
-abbrev pub decreases-loop-i : goal.decreases-loop-i
-decreases-loop-i l = length l.frame - l.i
+invariant-loop-i l = Copied (digits_of l.frame) l.initial.line l.line (2 * l.i)
