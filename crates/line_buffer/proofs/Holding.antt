@@ -22,10 +22,10 @@ hold_full b h l = rw (le-ltb h.held line_limit l)
 
 -- ---- the bytes of a piece from a place on, which end at e: none is left, the next ends the line, or it does not
 
-pub part_out : (at : ℕ) (h : Holding) (piece : List ℕ) {e : PartLeft} → part_from at h (drop at piece) ≡ e → length piece ≤ at
-    → record { at = at; ended = false; buffer = h } ≡ e
+pub part_out : (at : ℕ) (h : Holding) (piece : List ℕ) {out : ℕ} {e : PartLeft} → part_from at h (drop at piece) ≡ e → length piece ≤ at → out ≡ at
+    → record { at = out; ended = false; buffer = h } ≡ e
 unfolding part_from
-part_out at h piece v l = rw (drop_of_length-le piece l) at v
+part_out at h piece v l q = rw q (rw (drop_of_length-le piece l) at v)
 
 pub part_here : (at : ℕ) (h : Holding) (piece : List ℕ) {h' : Holding} {e : PartLeft} → part_from at h (drop at piece) ≡ e
     → h' ≡ hold_byte (get_or piece at 0) h → at < length piece → get_or piece at 0 ≡ line_end

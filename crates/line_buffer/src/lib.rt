@@ -37,22 +37,20 @@ pub fn hold_part(line: &mut [u8], piece: &[u8], from: usize, held: usize) -> Gat
     requires { line_limit ≤ length line.old }
     ensures { part_left result line.new ≡ part_from from (holding line.old held) (drop from piece.now) }
 {
-    let mut at = from;
     let mut count = held;
-    while at < piece.len() {
+    for at in from..piece.len() {
         let b = piece[at];
         count = hold(line, count, b);
-        at += 1;
         if b == 10 {
             return Gathered {
-                at: at,
+                at: at + 1,
                 held: count,
                 ended: true,
             };
         }
     }
     Gathered {
-        at: at,
+        at: from.max(piece.len()),
         held: count,
         ended: false,
     }

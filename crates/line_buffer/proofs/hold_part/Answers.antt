@@ -10,4 +10,4 @@ pub loop-at-preserved : goal.loop-at-preserved
 loop-at-preserved c = search (part_on, rules)
 
 pub returns : goal.returns
-returns c = search part_out
+returns c = search (part_out, rules)

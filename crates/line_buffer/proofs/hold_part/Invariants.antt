@@ -1,14 +1,11 @@
 -- `line_buffer::hold_part` meets its contract. The invariant: from here the part ends where it ends from the start.
 use mathlib.Core.Path.{◌≡◌}
-use Prim.Native.Nat.{◌-◌}
+use Prim.Native.Nat.{max, ◌≤◌}
 use lib.ListN.{length, drop}
 use Rattle.line_buffer.specs.Lines.{holding, part_from}
 use Rattle.line_buffer.proofs.hold_part.Given as goal
 
 abbrev pub invariant-loop-at : goal.invariant-loop-at
 invariant-loop-at l =
-    (part_from l.at (holding l.line l.count) (drop l.at l.piece) ≡ part_from l.initial.at (holding l.initial.line l.initial.count) (drop l.initial.at l.piece))
-    × (length l.line ≡ length l.initial.line)
-
-abbrev pub decreases-loop-at : goal.decreases-loop-at
-decreases-loop-at l = length l.piece - l.at
+    (part_from l.at (holding l.line l.count) (drop l.at l.piece) ≡ part_from l.from (holding l.initial.line l.held) (drop l.from l.piece))
+    × (l.at ≤ max l.from (length l.piece))
