@@ -33,19 +33,18 @@ count_both c (b ∷ bs) = go (eqb b line_end) refl (count_both b bs)
 -- ---- the loop: the lines are those counted and those that begin in what is left
 
 pub record AreCounted (s : List ℕ) (i count : ℕ) (inside : Bool) : Type 0 where
-  pub within : i ≤ length s
   pub few : count ≤ i
   pub total : length (lines_of s) ≡ count + begun inside (drop i s)
 
 pub counted_none : (s : List ℕ) → AreCounted s 0 0 false
-counted_none s = record { within = omega arith; few = omega arith; total = omega (arith, (count_both 0 s).0) }
+counted_none s = record { few = omega arith; total = omega (arith, (count_both 0 s).0) }
 
 pub counted_more : {s : List ℕ} {i count x : ℕ} {inside : Bool} → AreCounted s i count inside → i < length s → x ≡ cond inside 0 1
     → AreCounted s (i + 1) (count + x) (not (eqb (get_or s i 0) line_end))
 unfolding begun
 counted_more {s} {i} {count} {x} {inside} is h e =
     let rest : begun inside (drop i s) ≡ cond inside 0 1 + begun (not (eqb (get_or s i 0) line_end)) (drop (i + 1) s) = rw (add-one, drop-cons s i 0 h) in
-    record { within = omega arith; few = omega (arith, is.few, e, one inside); total = omega (arith, is.total, rest, e) }
+    record { few = omega (arith, is.few, e, one inside); total = omega (arith, is.total, rest, e) }
   where
     one : (b : Bool) → cond b 0 1 ≤ 1
     one true = omega arith

@@ -44,11 +44,9 @@ pub fn count_lines(lines: &[u8]) -> usize
 {
     let mut count: usize = 0;
     let mut inside = false;
-    let mut i: usize = 0;
-    while i < lines.len() {
+    for byte in lines {
         count += begun_here(inside);
-        inside = lines[i] != 10;
-        i += 1;
+        inside = *byte != 10;
     }
     count
 }
@@ -74,6 +72,7 @@ fn opening_length(text: &[u8]) -> usize
 fn all_open(lines: &[u8]) -> bool
     ensures { result ≡ allb is_opening (lines_of lines.now) }
 {
+    // The place goes from line to line, each as long as it reads, so that no range counts it.
     let mut at: usize = 0;
     while at < lines.len() {
         let used = opening_length(&lines[at..]);
@@ -130,6 +129,7 @@ pub fn first_fit(members: &[u64], frame: &mut [u8], words: usize, taken: u64, li
         (fit_of result frame.new ≡ first_fit (network_of words members.now []) waiting)
         × FitsFrame result (length frame.new) }
 {
+    // The place goes from line to line, each as long as it reads, so that no range counts it; the number goes with it.
     let mut at: usize = 0;
     let mut number: u8 = 0;
     while at < lines.len() {
@@ -168,10 +168,8 @@ pub fn put_left(left: &mut [u8], taken: u64, count: usize) -> u8
     ensures { leavings result left.new ≡ left_over (left_numbers taken count) left.old }
 {
     let mut n: u8 = 0;
-    let mut i: u8 = 0;
-    while (i as usize) < count {
-        n = put_number(left, taken, i, n);
-        i += 1;
+    for number in 0..count as u8 {
+        n = put_number(left, taken, number, n);
     }
     n
 }
