@@ -50,11 +50,10 @@ nearer_self h c = sym (nearer_high h c c (omega arith) (omega arith) (omega arit
 module _ (h : ℕ → ℕ) (p : ℕ → Bool) (s : List ℕ) (first : ℕ) where
   -- the loop's invariant, at place i with `found` so far
   pub record IsChoosing (found i : ℕ) : Type 0 where
-    pub within : i ≤ length s
     pub same : nearest_from h first (filterb p s) ≡ nearest_from h found (filterb p (drop i s))
 
   pub choosing_none : IsChoosing first 0
-  choosing_none = record { within = omega arith; same = refl }
+  choosing_none = record { same = refl }
 
   module _ {found i : ℕ} (w : IsChoosing found i) where
     -- one code more: it counts where it passes
@@ -63,8 +62,8 @@ module _ (h : ℕ → ℕ) (p : ℕ → Bool) (s : List ℕ) (first : ℕ) where
     choosing_more l = go (look (p (get_or s i 0)))
       where
         go : (p (get_or s i 0) ≡ true) ⊎ (p (get_or s i 0) ≡ false) → IsChoosing (cond (p (get_or s i 0)) (nearer_of h found (get_or s i 0)) found) (i + 1)
-        go (inl t) = rw t (record { within = omega arith; same = w.same ∙ ap (nearest_from h found) (filter-took p s i 0 l t) })
-        go (inr f) = rw f (record { within = omega arith; same = w.same ∙ ap (nearest_from h found) (filter-passed p s i 0 l f) })
+        go (inl t) = rw t (record { same = w.same ∙ ap (nearest_from h found) (filter-took p s i 0 l t) })
+        go (inr f) = rw f (record { same = w.same ∙ ap (nearest_from h found) (filter-passed p s i 0 l f) })
 
     pub choosing_all : length s ≤ i → found ≡ nearest_from h first (filterb p s)
     unfolding nearest_from

@@ -98,13 +98,11 @@ fn first_listed(members: &[u64], listed: &[u8]) -> Next
     requires { base.words ≤ length members.now }
     ensures { FirstListed (filterb (row_bit base.words members.now) listed.now) result }
 {
-    let mut i = 0;
-    while i < listed.len() {
-        let v = listed[i] as usize;
+    for code in listed {
+        let v = *code as usize;
         if map::is_open(members, map::WORDS, v) {
             return Next::At(v);
         }
-        i += 1;
     }
     Next::Nothing
 }
@@ -141,10 +139,8 @@ fn nearest_listed(members: &[u64], hops: &[u16], listed: &[u8], first: usize) ->
         (result ≡ nearest_from (λ u. get_or hops.now u 0) first depots) × (result < places base) }
 {
     let mut found = first;
-    let mut i = 0;
-    while i < listed.len() {
-        found = nearer_open(members, hops, found, listed[i] as usize);
-        i += 1;
+    for code in listed {
+        found = nearer_open(members, hops, found, *code as usize);
     }
     found
 }
