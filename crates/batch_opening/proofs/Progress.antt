@@ -3,7 +3,7 @@ use mathlib.Core.Path.{◌≡◌, refl, sym, ap, ◌∙◌, subst}
 use mathlib.Core.Bool.{cond, not, ◌||◌}
 use mathlib.Core.List.{List, [], ◌∷◌, Memᴰ}
 use mathlib.Core.Option.{Option, some}
-use Prim.Native.Nat.{ℕ, suc, ◌-◌, ◌≤◌, ◌<◌}
+use Prim.Native.Nat.{ℕ, suc, ◌≤◌, ◌<◌}
 use native.Mathlib.Omega.{arith}
 use lib.Dec.{eqb}
 use lib.ListN.{length, get_or}
@@ -46,8 +46,8 @@ pub record IsUnderWay (K : Shape) (first : BatchStanding) (count : ℕ) (now : B
   pub goes_on : turns_on turns K now ≡ turns_on count K first
   pub free : IsFree K now.memory
 
-pub under_begun : (K : Shape) (S : BatchStanding) (count : ℕ) → IsFree K S.memory → IsUnderWay K S count S count
-under_begun K S count free = record { goes_on = refl; free = free }
+pub under_begun : (K : Shape) (S : BatchStanding) {count turns : ℕ} → turns ≡ count → IsFree K S.memory → IsUnderWay K S count S turns
+under_begun K S e free = record { goes_on = ap (λ (k : ℕ). turns_on k K S) e; free = free }
 
 module _ (K : Shape) (shape : IsShape K) (input : List ℕ) {first : BatchStanding} {count turns : ℕ} (p : BatchProgress) {links : List ℕ} {B : Lent}
     (is : IsUnderWay K first count (batch_standing p links B input) turns) where
@@ -64,7 +64,7 @@ module _ (K : Shape) (shape : IsShape K) (input : List ℕ) {first : BatchStandi
     under_none z = sym (turns_none turns K (batch_standing p links B input) (sym found ∙ ap (λ (x : Fit). fit_of x frame) z)) ∙ is.goes_on
 
     -- one fits, and is opened
-    module _ {number n : ℕ} (e : r ≡ Found number n) (more : 0 < turns) (few : length (lines_of input) ≤ batch_limit)
+    module _ {number n : ℕ} (e : r ≡ Found number n) {k : ℕ} (s : suc k ≡ turns) (few : length (lines_of input) ≤ batch_limit)
         (codes : (x : Entry) → Memᴰ x (entries_of input) → x.notice.code < places K)
         (p' : BatchProgress) {links' : List ℕ} {B' : Lent}
         (left : lent_memory p'.after links' B' ≡ memory_left (opening_on K (lent_memory p.after links B) (notice_at frame n)))
@@ -86,15 +86,12 @@ module _ (K : Shape) (shape : IsShape K) (input : List ℕ) {first : BatchStandi
         waiting = (ap (λ (w : ℕ). waiting_of w (entries_of input)) marked ∙ waiting_without p.taken number (entries_of input) (numbers_low input few)) i;
       }
 
-      pub under_more : IsUnderWay K first count (batch_standing p' links' B' input) (turns - 1)
-      under_more =
-          let k = turns - 1 in
-          let s : suc k ≡ turns = omega arith in
-          record {
-            goes_on =
-                ap (turns_on k K) now
-                ∙ sym (turns_some k K shape (batch_standing p links B input) entry fits is.free low)
-                ∙ ap (λ (j : ℕ). turns_on j K (batch_standing p links B input)) s
-                ∙ is.goes_on;
-            free = subst (λ (M : LentMemory). IsFree K M) (sym left) (opening_free K shape (lent_memory p.after links B) entry.notice is.free low);
-          }
+      pub under_more : IsUnderWay K first count (batch_standing p' links' B' input) k
+      under_more = record {
+        goes_on =
+            ap (turns_on k K) now
+            ∙ sym (turns_some k K shape (batch_standing p links B input) entry fits is.free low)
+            ∙ ap (λ (j : ℕ). turns_on j K (batch_standing p links B input)) s
+            ∙ is.goes_on;
+        free = subst (λ (M : LentMemory). IsFree K M) (sym left) (opening_free K shape (lent_memory p.after links B) entry.notice is.free low);
+      }

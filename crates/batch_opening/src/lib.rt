@@ -183,8 +183,7 @@ fn open_lines(
         after: rec,
         taken: 0,
     };
-    let mut turns = count;
-    while 0 < turns {
+    for _turn in 0..count {
         let at = progress.after;
         let fit = next_fit(at, &mut frame, progress.taken, lines);
         match fit {
@@ -195,7 +194,6 @@ fn open_lines(
             }
             Fit::Nothing => return progress,
         }
-        turns -= 1;
     }
     progress
 }
