@@ -231,17 +231,19 @@ fn bare_groups(pairs: &[u64], words: usize, rows: usize, u: usize) -> usize
     requires { (words < 513) × (words * (64 * words) ≤ length pairs.now) × (rows ≤ 64 * words) × (u ≤ rows) }
     ensures { Bare words rows pairs.now u result }
 {
-    let turns = (rows - u) / 16;
-    for k in 0..turns {
-        let p = u + 16 * k;
+    // A for over the turns was tried: it sets up its range at each call, and `next_row` then takes 4 to 20 % more instructions.
+    let mut p = u;
+    while p + 16 <= rows {
         if !rows::all_zero(pairs, words * p, 8 * words) {
             return p;
         }
-        if !rows::all_zero(pairs, words * (p + 8), 8 * words) {
-            return p + 8;
+        p += 8;
+        if !rows::all_zero(pairs, words * p, 8 * words) {
+            return p;
         }
+        p += 8;
     }
-    u + 16 * turns
+    p
 }
 
 // The next row from u on that has a pair, all rows where none has: most have none, and so most are passed 8 at a time.
