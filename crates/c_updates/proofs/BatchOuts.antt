@@ -1,12 +1,12 @@
 -- WHAT OPENINGS IN A BATCH LEAVE, way out by way out. Assumes nothing.
-use mathlib.Core.Path.{◌≡◌, refl, sym, ap, ap₂, ◌∙◌}
+use mathlib.Core.Path.{◌≡◌, refl, ap, ap₂, ◌∙◌}
 use mathlib.Core.Bool.{Bool, not, ◌&&◌}
 use mathlib.Core.List.{List, ◌∷◌}
 use Prim.Native.Nat.{ℕ, zero, suc, ◌≤◌, ◌<◌}
 use lib.Dec.{leb}
 use lib.ListN.{length, get_or}
 use borrow.Author.Tests.{lt-ltb, le-ltb}
-use Rattle.lists.specs.Lists.{overwrite, first_of}
+use Rattle.lists.specs.Lists.{first_of}
 use Rattle.graph.specs.Distance.{vertices, connected}
 use Rattle.rows.specs.Rows.{table_bit}
 use Rattle.map.specs.Room.{Lent, sizes_of, long_enough}
@@ -14,10 +14,9 @@ use Rattle.map.specs.Memory.{base}
 use Rattle.map.specs.declared.Record.{Record}
 use Rattle.lent_map.specs.Faults.{lent_faults}
 use Rattle.batch.specs.Lines.{batch_limit, batch_faults}
-use Rattle.batch_update.specs.BatchCall.{batch_refusal, BatchLeft, batch_left, batch_given, batch_call, Opened, Refused as NoBatch}
-use Rattle.batch_update.specs.declared.Batched.{Batched}
+use Rattle.batch_update.specs.BatchCall.{batch_refusal, BatchLeft, batch_given, batch_call}
 use Rattle.batch_update.proofs.Refuses.{granted}
-use Rattle.c_values.specs.Words.{record_words, record_of, words_of, clamped_of}
+use Rattle.c_values.specs.Words.{record_words, record_of, clamped_of}
 use Rattle.c_values.proofs.Clamps.{network_in, links_clamp, figures_clamp, clamped_is}
 use Rattle.c_updates.specs.BatchOuts.{BatchOut, batched_out, batch_from, batch_out}
 
@@ -70,17 +69,12 @@ module _ (l links : List ℕ) (B : Lent) (left : List ℕ) (old : ℕ) (lines : 
   unfolding batch_out
   batch_whole h = rw (le-ltb (length l) record_words h)
 
-  module _ (h : record_words ≤ length l) {rec : Record} (read : rec ≡ clamped_of l) (got : Batched) {links' : List ℕ} {B' : Lent} {left' : List ℕ}
-      (gave : batch_left got links' B' left' ≡ batch_call base rec links B left lines) where
-    called_batch : batched (batch_left got links' B' left') ≡ batch_out l links B left old lines
-    called_batch = ap batched (gave ∙ ap (λ (x : Record). batch_call base x links B left lines) read) ∙ batch_clamp ∙ batch_whole h
+  -- whatever the call that it wraps answered
+  pub batch_called : record_words ≤ length l → {rec : Record} → rec ≡ clamped_of l → {gave : BatchLeft} → gave ≡ batch_call base rec links B left lines
+      → batched gave ≡ batch_out l links B left old lines
+  batch_called h read e = ap batched (e ∙ ap (λ (x : Record). batch_call base x links B left lines) read) ∙ batch_clamp ∙ batch_whole h
 
-    pub batch_done : {n : ℕ} {l' : List ℕ} → got.answer ≡ Opened n → l' ≡ overwrite (words_of got.after) l
-        → batched_out 0 l' n links' B' left' ≡ batch_out l links B left old lines
-    unfolding batch_from
-    batch_done {n} e w =
-        ap (λ (x : List ℕ). batched_out 0 x n links' B' left') w ∙ sym (ap (λ (x : _). batch_from x (batch_left got links' B' left') l old) e) ∙ called_batch
-
-    pub batch_refused : {k : ℕ} → got.answer ≡ NoBatch k → batched_out k l old links' B' left' ≡ batch_out l links B left old lines
-    unfolding batch_from
-    batch_refused e = sym (ap (λ (x : _). batch_from x (batch_left got links' B' left') l old) e) ∙ called_batch
+-- the tables of a room stand where they were lent
+pub batch_lent : {r n : ℕ} {l' links' left' : List ℕ} {B' B'' : Lent} {y : BatchOut} → batched_out r l' n links' B' left' ≡ y → B'' ≡ B'
+    → batched_out r l' n links' B'' left' ≡ y
+batch_lent {r} {n} {l'} {links'} {left'} e q = ap (λ (T : Lent). batched_out r l' n links' T left') q ∙ e

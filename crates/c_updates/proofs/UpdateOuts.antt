@@ -96,3 +96,7 @@ module _ (l links : List ℕ) (B : Lent) (o : Update) (old : ℕ) where
 
     pub update_done : {r n : ℕ} {l' : List ℕ} → handed r l' n ≡ handed_by got.report.outcome got l old → updated_out r l' n links' B' ≡ update_out l links B o old
     update_done e = ap (λ (x : Handed). record { handed = x; links = links'; lent = B' }) e ∙ called
+
+-- the tables of a room stand where they were lent
+pub update_lent : {r n : ℕ} {l' links' : List ℕ} {B' B'' : Lent} {y : UpdateOut} → updated_out r l' n links' B' ≡ y → B'' ≡ B' → updated_out r l' n links' B'' ≡ y
+update_lent {r} {n} {l'} {links'} e q = ap (λ (T : Lent). updated_out r l' n links' T) q ∙ e

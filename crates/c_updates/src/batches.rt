@@ -41,8 +41,7 @@ pub extern "C" fn zorpedi_open_batch(
     };
     match batch_opening::open_batch(rec, links, &mut room, left, lines) {
         Ok(batched) => {
-            let after = batched.after;
-            c_values::put_record(words, after);
+            c_values::put_record(words, batched.after);
             *count = batched.left;
             0
         }

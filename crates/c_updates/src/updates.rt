@@ -15,12 +15,11 @@ fn hand_over(words: &mut [u64], searches: &mut u16, got: Returned) -> u8
     requires { record_words ≤ length words.old }
     ensures { handed result words.new searches.new ≡ handed_by got.report.outcome got words.old searches.old }
 {
-    let after = got.after;
     let report = got.report;
     let outcome = report.outcome;
     match outcome {
         Outcome::Accepted(_) => {
-            c_values::put_record(words, after);
+            c_values::put_record(words, got.after);
             *searches = report.searches;
             outcome::letter(outcome)
         }

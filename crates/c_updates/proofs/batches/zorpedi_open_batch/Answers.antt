@@ -1,20 +1,23 @@
 -- `c_updates::batches::zorpedi_open_batch` meets its contract: short, done or refused, as the call that it wraps.
-use Rattle.c_updates.proofs.BatchOuts.{batch_short, batch_done, batch_refused}
+use borrow.Author.Rules.{rules}
+use Rattle.c_values.proofs.Lent.{same_lent}
+use Rattle.c_updates.specs.BatchOuts.{batch_from}
+use Rattle.c_updates.proofs.BatchOuts.{batch_short, batch_called, batch_lent}
 use Rattle.c_updates.proofs.batches.zorpedi_open_batch.Goals as goal
 
-pub put_record-requires : goal.put_record-requires
-put_record-requires c =
-    c.if-words-lt-RECORD_WORDS.false
-
-pub returns-in-Opened : goal.returns-in-Opened
-returns-in-Opened c =
-    batch_done _ _ _ _ _ _ c.if-words-lt-RECORD_WORDS.false c.record_of-rec.ensures c.open_batch-got.result
-    c.open_batch-got.ensures c.in-Opened.is c.put_record.ensures
-
-pub returns-in-Refused : goal.returns-in-Refused
-returns-in-Refused c =
-    batch_refused _ _ _ _ _ _ c.if-words-lt-RECORD_WORDS.false c.record_of-rec.ensures _ c.open_batch-got.ensures
-    c.in-Refused.is
-
 pub returns-then-words-lt-RECORD_WORDS : goal.returns-then-words-lt-RECORD_WORDS
-returns-then-words-lt-RECORD_WORDS c = search batch_short
+returns-then-words-lt-RECORD_WORDS c = rw c.number.ensures (batch_short _ _ _ _ _ _ c.if-words-lt-RECORD_WORDS.true)
+
+pub returns-in-Ok : goal.returns-in-Ok
+unfolding batch_from
+returns-in-Ok c =
+    rw c.put_record.ensures (batch_lent
+    (batch_called _ _ _ _ _ _ c.if-words-lt-RECORD_WORDS.false c.record_of-rec.ensures c.in-Ok.ensures.left)
+    (search (rules, same_lent)))
+
+pub returns-in-Err : goal.returns-in-Err
+unfolding batch_from
+returns-in-Err c =
+    rw c.number-in-Err.ensures (batch_lent
+    (batch_called _ _ _ _ _ _ c.if-words-lt-RECORD_WORDS.false c.record_of-rec.ensures c.in-Err.ensures.left)
+    (search (rules, same_lent)))

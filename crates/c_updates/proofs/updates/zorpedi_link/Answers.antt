@@ -1,10 +1,14 @@
 -- `c_updates::updates::zorpedi_link` meets its contract: short, or the call that it wraps, handed over.
-use Rattle.c_updates.proofs.UpdateOuts.{update_short, update_done}
+use borrow.Author.Rules.{rules}
+use Rattle.c_values.proofs.Lent.{same_lent}
+use Rattle.c_updates.proofs.UpdateOuts.{update_short, update_done, update_lent}
 use Rattle.c_updates.proofs.updates.zorpedi_link.Goals as goal
 
 pub returns : goal.returns
 returns c =
-    update_done _ _ _ _ _ c.if-words-lt-RECORD_WORDS.false c.record_of-rec.ensures _ c.link_step-got.ensures c.hand_over.ensures
+    update_lent
+    (update_done _ _ _ _ _ c.if-words-lt-RECORD_WORDS.false c.record_of-rec.ensures _ c.link_step-got.ensures.left c.hand_over.ensures)
+    (search (rules, same_lent))
 
 pub returns-then-words-lt-RECORD_WORDS : goal.returns-then-words-lt-RECORD_WORDS
-returns-then-words-lt-RECORD_WORDS c = search update_short
+returns-then-words-lt-RECORD_WORDS c = rw c.number.ensures (update_short _ _ _ _ _ c.if-words-lt-RECORD_WORDS.true)
