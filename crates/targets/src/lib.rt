@@ -1,5 +1,5 @@
 // What a search left of the targets, a row of the depots that count: the greatest hop of one, the targets at it, and the hops of those above a code added.
-// Words outside, set bits inside: a code that is no target costs nothing.
+// Words outside, set bits inside: a code that is no target costs nothing. A row's width comes beside it, as crate `rows` says.
 
 #![tactic(auto)]
 
