@@ -21,14 +21,13 @@ use Rattle.c_streams.specs.Feeds.{FedOut, fed_out, fed_from, feed_given, refusal
 use Rattle.c_values.proofs.Clamps.{clamped_is}
 
 -- such a step may be taken
-pub step_ready : (words links p h x y b s line : List ℕ) (out lines held : ℕ) {k : ℕ}
-    → k ≡ step_refusal words links p (sizes (length links) (length p) (length h) (length b) (length s) (length x) (length y)) (length line) out held
-    → k ≡ 0
+pub step_ready : (words links p h x y b s line : List ℕ) (out lines held : ℕ)
+    → 0 ≡ step_refusal words links p (sizes (length links) (length p) (length h) (length b) (length s) (length x) (length y)) (length line) out held
     → {rec : Record} → rec ≡ clamped_of words
     → IsReady (progress_of rec lines held) links (lent p (tables h x y) b s) line
 unfolding sizes_of
-step_ready words links p h x y b s line out lines held e z read =
-    let g = step_granted _ _ _ _ _ _ _ (sym e ∙ z) in
+step_ready words links p h x y b s line out lines held e read =
+    let g = step_granted _ _ _ _ _ _ _ (sym e) in
     record {
       free =
           ap (λ (r : Record). map_refusal base r links p (sizes_of links (lent p (tables h x y) b s))) (read ∙ clamped_is words links p _ g.3)
@@ -81,30 +80,37 @@ module _ (words links p h x y b s line out : List ℕ) (lines held used written 
       go zero n = absurd (n refl)
       go (suc k) n = refl
 
-  module _ {k : ℕ} (e : k ≡ first) (z : k ≡ 0) where
-    module _ {rec : Record} (read : rec ≡ clamped_of words) where
-      read_is : rec ≡ record_of words
-      read_is = read ∙ clamped_is words links p _ (step_granted _ _ _ _ _ _ _ (sym e ∙ z)).3
+  module _ (e : 0 ≡ first) {rec : Record} (read : rec ≡ clamped_of words) where
+    read_is : rec ≡ record_of words
+    read_is = read ∙ clamped_is words links p _ (step_granted _ _ _ _ _ _ _ (sym e)).3
 
-      module _ (fed : Fed) (links' line' out' words' : List ℕ) (B' : Lent) (wrote : words' ≡ overwrite (words_of fed.progress.rec) words) where
-        abbrev after : ℕ → FedOut
-        after u = fed_out 0 words' fed.progress.lines fed.progress.held u fed.written links' B' line' out'
+    module _ (fed : Fed) (links' line' out' words' : List ℕ) (B' : Lent) (wrote : words' ≡ overwrite (words_of fed.progress.rec) words) where
+      abbrev after : ℕ → FedOut
+      after u = fed_out 0 words' fed.progress.lines fed.progress.held u fed.written links' B' line' out'
 
-        from : fed_from (feeding fed links' B' line' out') words ≡ after fed.used
-        unfolding fed_from
-        from = ap (λ (w : List ℕ). fed_out 0 w fed.progress.lines fed.progress.held fed.used fed.written links' B' line' out') (sym wrote)
+      from : fed_from (feeding fed links' B' line' out') words ≡ after fed.used
+      unfolding fed_from
+      from = ap (λ (w : List ℕ). fed_out 0 w fed.progress.lines fed.progress.held fed.used fed.written links' B' line' out') (sym wrote)
 
-        pub feed_done : (piece : List ℕ) → feeding fed links' B' line' out' ≡ feed_call (progress_of rec lines held) links B line out piece → after fed.used ≡ feed_out m piece
-        unfolding feed_out feed_given
-        feed_done piece left =
-            sym from
-            ∙ ap (λ (F : Feeding). fed_from F words) (left ∙ ap (λ (x : Record). feed_call (progress_of x lines held) links B line out piece) read_is)
-            ∙ ap (λ (j : ℕ). feed_given j m piece) (sym z ∙ e ∙ first_is)
+      pub feed_done : (piece : List ℕ) → feeding fed links' B' line' out' ≡ feed_call (progress_of rec lines held) links B line out piece → after fed.used ≡ feed_out m piece
+      unfolding feed_out feed_given
+      feed_done piece left =
+          sym from
+          ∙ ap (λ (F : Feeding). fed_from F words) (left ∙ ap (λ (x : Record). feed_call (progress_of x lines held) links B line out piece) read_is)
+          ∙ ap (λ (j : ℕ). feed_given j m piece) (e ∙ first_is)
 
-        pub finish_done : feeding fed links' B' line' out' ≡ finish_call (progress_of rec lines held) links B line out → after 0 ≡ finish_out m
-        unfolding finish_out finish_given
-        finish_done left =
-            ap after (sym (ap (λ (F : Feeding). F.fed.used) left ∙ end_unused (progress_of rec lines held) links B line out))
-            ∙ sym from
-            ∙ ap (λ (F : Feeding). fed_from F words) (left ∙ ap (λ (x : Record). finish_call (progress_of x lines held) links B line out) read_is)
-            ∙ ap (λ (j : ℕ). finish_given j m) (sym z ∙ e ∙ first_is)
+      pub finish_done : feeding fed links' B' line' out' ≡ finish_call (progress_of rec lines held) links B line out → after 0 ≡ finish_out m
+      unfolding finish_out finish_given
+      finish_done left =
+          ap after (sym (ap (λ (F : Feeding). F.fed.used) left ∙ end_unused (progress_of rec lines held) links B line out))
+          ∙ sym from
+          ∙ ap (λ (F : Feeding). fed_from F words) (left ∙ ap (λ (x : Record). finish_call (progress_of x lines held) links B line out) read_is)
+          ∙ ap (λ (j : ℕ). finish_given j m) (e ∙ first_is)
+
+-- the tables of a room stand where they were lent
+pub fed_lent : {r lines held used written : ℕ} {words links line out : List ℕ} {B' B'' : Lent} {y : FedOut}
+    → fed_out r words lines held used written links B' line out ≡ y
+    → B'' ≡ B'
+    → fed_out r words lines held used written links B'' line out ≡ y
+fed_lent {r} {lines} {held} {used} {written} {words} {links} {line} {out} e q =
+    ap (λ (T : Lent). fed_out r words lines held used written links T line out) q ∙ e

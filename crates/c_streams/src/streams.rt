@@ -60,8 +60,7 @@ pub extern "C" fn zorpedi_feed(
     };
     let fed = stream::feed(progress, links, &mut room, line, out, piece);
     let now = fed.progress;
-    let after = now.rec;
-    c_values::put_record(words, after);
+    c_values::put_record(words, now.rec);
     *lines = now.lines;
     *held = now.held;
     *used = fed.used;
@@ -120,8 +119,7 @@ pub extern "C" fn zorpedi_finish(
     };
     let fed = stream::finish(progress, links, &mut room, line, out);
     let now = fed.progress;
-    let after = now.rec;
-    c_values::put_record(words, after);
+    c_values::put_record(words, now.rec);
     *lines = now.lines;
     *held = now.held;
     *written = fed.written;

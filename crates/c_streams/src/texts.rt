@@ -2,8 +2,7 @@
 ghost use Rattle.std.specs.Prelude.{◌≡◌};
 ghost use Rattle.c_streams.specs.Lines.{line_out, read_out, write_out, report_fields, report_out};
 
-use notice::{Reading, Writing};
-use report::{ReportFields, Written};
+use report::ReportFields;
 
 // Reads the notice line at the start of input into frame (258 bytes). 0, and the frame's length and the bytes used; or 1 (short), 9 (garbled).
 #[unsafe(no_mangle)]
@@ -16,14 +15,13 @@ pub extern "C" fn zorpedi_read_notice(
     ensures { line_out result length.new used.new frame.new
         ≡ read_out input.now frame.old length.old used.old }
 {
-    let got = notice::read_notice(frame, input);
-    match got {
-        Reading::Frame(n, u) => {
-            *length = n;
-            *used = u;
+    match notice::read_notice(frame, input) {
+        Ok(read) => {
+            *length = read.length;
+            *used = read.used;
             0
         }
-        Reading::Refused(k) => k,
+        Err(refusal) => refusal.number(),
     }
 }
 
@@ -32,13 +30,12 @@ pub extern "C" fn zorpedi_read_notice(
 pub extern "C" fn zorpedi_write_notice(line: &mut [u8], length: &mut usize, frame: &[u8]) -> u8
     ensures { line_out result length.new 0 line.new ≡ write_out frame.now line.old length.old }
 {
-    let got = notice::write_notice(line, frame);
-    match got {
-        Writing::Line(n) => {
-            *length = n;
+    match notice::write_notice(line, frame) {
+        Ok(end) => {
+            *length = end;
             0
         }
-        Writing::Refused(k) => k,
+        Err(refusal) => refusal.number(),
     }
 }
 
@@ -59,19 +56,18 @@ pub extern "C" fn zorpedi_report(
 {
     let outcome = c_values::outcome_of(answer);
     let fields = ReportFields {
-        number: number,
-        outcome: outcome,
-        depots: depots,
-        chain: chain,
-        pairs: pairs,
-        searches: searches,
+        number,
+        outcome,
+        depots,
+        chain,
+        pairs,
+        searches,
     };
-    let got = report::write_report(line, fields);
-    match got {
-        Written::Line(n) => {
-            *length = n;
+    match report::write_report(line, fields) {
+        Ok(end) => {
+            *length = end;
             0
         }
-        Written::Refused(k) => k,
+        Err(refusal) => refusal.number(),
     }
 }

@@ -76,5 +76,5 @@ module _ (l links pairs : List ℕ) (z : Sizes) (line out held : ℕ) where
       go false false true v p q r e = absurd (lt_irrefl 0 (omega (arith, e)))
       go false false false true p q r e = absurd (lt_irrefl 0 (omega (arith, e)))
 
-  pub step_room : {k : ℕ} → k ≡ said → k ≡ 0 → record_words ≤ length l
-  step_room e z = (step_granted (sym e ∙ z)).0
+  pub step_room : 0 ≡ said → record_words ≤ length l
+  step_room e = (step_granted (sym e)).0

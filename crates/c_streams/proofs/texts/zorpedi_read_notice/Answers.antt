@@ -2,8 +2,8 @@
 use Rattle.c_streams.proofs.Lines.{read_frame_out, read_refused_out}
 use Rattle.c_streams.proofs.texts.zorpedi_read_notice.Goals as goal
 
-pub returns-in-Frame : goal.returns-in-Frame
-returns-in-Frame c = search read_frame_out
+pub returns-in-Ok : goal.returns-in-Ok
+returns-in-Ok c = read_frame_out _ _ _ _ _ c.in-Ok.ensures
 
-pub returns-in-Refused : goal.returns-in-Refused
-returns-in-Refused c = search read_refused_out
+pub returns-in-Err : goal.returns-in-Err
+returns-in-Err c = rw c.number.ensures (read_refused_out _ _ _ _ _ c.in-Err.ensures)

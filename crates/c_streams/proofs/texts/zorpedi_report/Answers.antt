@@ -2,8 +2,8 @@
 use Rattle.c_streams.proofs.Lines.{report_line_out, report_refused_out}
 use Rattle.c_streams.proofs.texts.zorpedi_report.Goals as goal
 
-pub returns-in-Line : goal.returns-in-Line
-returns-in-Line c = search report_line_out
+pub returns-in-Ok : goal.returns-in-Ok
+returns-in-Ok c = report_line_out _ _ _ _ _ _ c.outcome_of-outcome.ensures _ _ _ c.in-Ok.ensures
 
-pub returns-in-Refused : goal.returns-in-Refused
-returns-in-Refused c = search report_refused_out
+pub returns-in-Err : goal.returns-in-Err
+returns-in-Err c = rw c.number.ensures (report_refused_out _ _ _ _ _ _ c.outcome_of-outcome.ensures _ _ _ c.in-Err.ensures)

@@ -2,8 +2,8 @@
 use Rattle.c_streams.proofs.Lines.{write_line_out, write_refused_out}
 use Rattle.c_streams.proofs.texts.zorpedi_write_notice.Goals as goal
 
-pub returns-in-Line : goal.returns-in-Line
-returns-in-Line c = search write_line_out
+pub returns-in-Ok : goal.returns-in-Ok
+returns-in-Ok c = write_line_out _ _ _ _ c.in-Ok.ensures
 
-pub returns-in-Refused : goal.returns-in-Refused
-returns-in-Refused c = search write_refused_out
+pub returns-in-Err : goal.returns-in-Err
+returns-in-Err c = rw c.number.ensures (write_refused_out _ _ _ _ c.in-Err.ensures)
