@@ -124,8 +124,8 @@ def main():
     for path, number, what in list(unheld()) + list(misbelieved()):
         found += 1
         print(f'{path}:{number}: {what}')
-    # docs/PORT.md sets today's names beside those that are gone
-    for page in ['README.md'] + sorted(set(glob.glob('docs/*.md')) - {'docs/PORT.md'}):
+    # these two pages set today's names beside those that are gone
+    for page in ['README.md'] + sorted(set(glob.glob('docs/*.md')) - {'docs/PORT.md', 'docs/DESIGN-PASS.md'}):
         for number, what in stale(page):
             found += 1
             print(f'{page}:{number}: {what}')

@@ -1,5 +1,5 @@
 // Whether a notice may be opened (refusals 5 to 8), and the links of the depot that it opens; whether two depots may be linked (4, 13, 14), and their
-// link. A row of words may be longer than a map's, up to 512: a code is a byte, and so stands in a row.
+// link. A row of words may be longer than a map's, up to 512: a code is a byte, and so stands in a row. A row's width comes beside it, as crate `rows` says.
 
 #![tactic(auto)]
 

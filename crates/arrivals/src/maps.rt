@@ -1,7 +1,6 @@
 // A line's map, and the notices that it takes.
-use batch_update::BatchAnswer;
-use map::Record;
-use outcome::Outcome;
+use map::{Record, Room};
+use outcome::{Outcome, Refusal};
 use std::fmt;
 use update::Returned;
 
@@ -84,15 +83,18 @@ impl Map {
     // The opening of a depot.
     fn open(&mut self, code: u8, neighbours: &[u8]) -> Result<(), u8> {
         let mut scratch = Scratch::new();
+        let mut room = Room {
+            pairs: &mut self.pairs,
+            hops: &mut scratch.hops,
+            bounds: &mut scratch.bounds,
+            skips: &mut scratch.skips,
+            even: &mut scratch.even,
+            odd: &mut scratch.odd,
+        };
         let got = lent_opening::open_value(
             self.rec,
             &mut self.links,
-            &mut self.pairs,
-            &mut scratch.hops,
-            &mut scratch.bounds,
-            &mut scratch.skips,
-            &mut scratch.even,
-            &mut scratch.odd,
+            &mut room,
             false,
             code,
             neighbours,
@@ -103,18 +105,15 @@ impl Map {
     // The link of two depots.
     fn link(&mut self, first: u8, second: u8) -> Result<(), u8> {
         let mut scratch = Scratch::new();
-        let got = linking::link_step(
-            self.rec,
-            &mut self.links,
-            &mut self.pairs,
-            &mut scratch.hops,
-            &mut scratch.bounds,
-            &mut scratch.skips,
-            &mut scratch.even,
-            &mut scratch.odd,
-            first,
-            second,
-        );
+        let mut room = Room {
+            pairs: &mut self.pairs,
+            hops: &mut scratch.hops,
+            bounds: &mut scratch.bounds,
+            skips: &mut scratch.skips,
+            even: &mut scratch.even,
+            odd: &mut scratch.odd,
+        };
+        let got = linking::link_step(self.rec, &mut self.links, &mut room, first, second);
         self.keep(got)
     }
 
@@ -130,34 +129,28 @@ impl Map {
     pub fn take_batch(&mut self, lines: &[u8]) -> Result<u8, u8> {
         let mut scratch = Scratch::new();
         let mut left = [0; batch::LIMIT];
-        let got = batch_opening::open_batch(
+        let mut room = Room {
+            pairs: &mut self.pairs,
+            hops: &mut scratch.hops,
+            bounds: &mut scratch.bounds,
+            skips: &mut scratch.skips,
+            even: &mut scratch.even,
+            odd: &mut scratch.odd,
+        };
+        let batched = batch_opening::open_batch(
             self.rec,
             &mut self.links,
-            &mut self.pairs,
-            &mut scratch.hops,
-            &mut scratch.bounds,
-            &mut scratch.skips,
-            &mut scratch.even,
-            &mut scratch.odd,
+            &mut room,
             &mut left,
             lines,
-        );
-        self.rec = got.after;
-        match got.answer {
-            BatchAnswer::Opened(left) => Ok(left),
-            BatchAnswer::Refused(number) => Err(number),
-        }
+        ).map_err(Refusal::number)?;
+        self.rec = batched.after;
+        Ok(batched.left)
     }
 
     // Whether two maps are equal: record, link table and pair table.
     pub fn is_same(&self, other: &Map) -> bool {
-        self.links == other.links
-            && self.pairs == other.pairs
-            && self.rec.members == other.rec.members
-            && self.rec.yards == other.rec.yards
-            && self.rec.number == other.rec.number
-            && self.rec.chain == other.rec.chain
-            && self.rec.count == other.rec.count
+        self.links == other.links && self.pairs == other.pairs && self.rec == other.rec
     }
 }
 

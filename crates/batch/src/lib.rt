@@ -1,5 +1,5 @@
 // The lines of a batch of openings: how many there are, whether all read, which is the first that can be accepted, and the numbers of those left
-// over. Nothing of a map is lent but its open set.
+// over. Nothing of a map is lent but its open set. A row's width comes beside it, as crate `rows` says.
 
 #![tactic(auto)]
 

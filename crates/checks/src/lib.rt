@@ -1,4 +1,5 @@
 // The checks of a lent map: whether its links and its figures are sound. Only set bits are walked, so that a check costs what is there.
+// A row's width comes beside it, as crate `rows` says.
 
 #![tactic(auto)]
 

@@ -1,4 +1,5 @@
 // One step of a breadth-first search: from the frontier, the last layer that was reached, to the next one. Rows of 1 to 512 words.
+// A row's width comes beside it, as crate `rows` says.
 
 #![tactic(auto)]
 

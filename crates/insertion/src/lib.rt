@@ -35,7 +35,7 @@ pub struct Figures {
 
 // ---- a call that searched from a alone
 
-// The pairs and marks after it, answering the number of pairs.
+// The pairs and marks after it, answering the number of pairs. It takes slices: of a whole room it would have to say besides that hops and rows stay.
 fn join(
     pairs: &mut [u64],
     bounds: &mut [u16],

@@ -1,4 +1,4 @@
-// Breadth-first search over any table of rows, layer by layer.
+// Breadth-first search over any table of rows, layer by layer. A row's width comes beside it, as crate `rows` says.
 
 #![tactic(auto)]
 

@@ -22,10 +22,9 @@ use Rattle.graph.proofs.Distances.{dist_is, dist-reached, dist_below}
 use Rattle.graph.proofs.Connected.{connected_iff}
 use Rattle.rows.specs.Rows.{row_bit, table_bit}
 use Rattle.layers.specs.Layers.{Searched, searched, search_leaves, search_table}
-use Rattle.map.specs.Memory.{table_network}
+use Rattle.map.specs.Memory.{table_network, network_of}
 use Rattle.map.specs.Room.{Tables, tables}
 use Rattle.layers.proofs.Theorems.{table_search}
-use Rattle.map.specs.Memory.{network_of}
 use Rattle.map.proofs.Theorems.{network_open_below, network_most}
 
 -- ---- a test of all codes

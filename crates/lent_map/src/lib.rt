@@ -1,5 +1,5 @@
 // What refuses lent memory before a call looks at what it is asked (rule 8.1, numbers 1 to 3): buffers too short, words that are no map, a map
-// in parts.
+// in parts. A row's width comes beside it, as crate `rows` says.
 
 #![tactic(auto)]
 

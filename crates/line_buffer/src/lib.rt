@@ -10,6 +10,7 @@ ghost use Rattle.line_buffer.specs.Lines.{holding, hold_byte, part_left, part_fr
 use update::Returned;
 
 // What the line buffer took of a piece: the place behind it, the bytes held then, and whether the line ended.
+// Place and count hold either way, so that an Option would be no plainer.
 #[derive(Clone, Copy)]
 pub struct Gathered {
     pub at: usize,

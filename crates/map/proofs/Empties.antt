@@ -16,9 +16,8 @@ use Rattle.words.proofs.Bits.{bit_of_zero, word_of-none}
 use Rattle.rows.specs.Rows.{row_bit, table_bit, encode_row, encode_table}
 use Rattle.rows.proofs.Written.{row_in, row_past, table_read}
 use Rattle.map.specs.Memory.{Shape, table_words, base}
-use Rattle.map.specs.Empty.{zeros, empty_record, empty_refusal, empty_given, empty_call}
+use Rattle.map.specs.Empty.{zeros, empty_record, empty_refusal, empty_given, empty_call, Done, Refused}
 use Rattle.map.specs.declared.Record.{Record}
-use Rattle.map.specs.Empty.{Done, Refused}
 
 -- ---- zeros
 

@@ -24,9 +24,8 @@ use Rattle.graph.proofs.Rising.{range_rising, filter_rising}
 use Rattle.rows.specs.Rows.{row_bit, table_bit, encode_row}
 use Rattle.rows.proofs.Written.{row_within}
 use Rattle.map.specs.Memory.{Shape, network_of, yard_network, IsShape, base}
-use Rattle.map.specs.Empty.{empty_record, empty_refusal, empty_given, empty_call, IsEmpty, emptying_number, empty_buffers, EmptyDemand1}
+use Rattle.map.specs.Empty.{empty_record, empty_refusal, empty_given, empty_call, IsEmpty, emptying_number, empty_buffers, EmptyDemand1, Done}
 use Rattle.map.specs.declared.Record.{Record}
-use Rattle.map.specs.Empty.{Done}
 use Rattle.map.proofs.Empties.{row_zeros, table_zeros}
 
 -- ---- codes and links read from words lie below the number of places

@@ -1,4 +1,4 @@
-// The record of one map, the tests of a bit of its tables, and emptying a map.
+// The record of one map, the tests of a bit of its tables, and emptying a map. A row's width comes beside it, as crate `rows` says.
 
 #![tactic(auto)]
 
@@ -113,7 +113,8 @@ pub fn pair_is_sound(delivering: &[u64], words: usize, low: usize, high: usize) 
 
 // ---- the room
 
-// Whether the seven buffers of a reckoning or an opening have their named sizes.
+// Whether the seven buffers of a reckoning or an opening have their named sizes. It takes lengths, since a search asks it too, for which what it is not lent
+// counts as whole.
 pub fn are_long(
     links: usize,
     pairs: usize,
@@ -202,7 +203,7 @@ impl Room<'_> {
 // ---- emptying
 
 // The record of one map: the members of the open set (one row), number open, longest chain, pair count, and the yard set (one row).
-#[derive(Clone, Copy)]
+#[derive(Clone, Copy, PartialEq, Eq)]
 pub struct Record {
     pub members: [u64; WORDS],
     pub number: u16,

@@ -7,9 +7,8 @@ use Rattle.graph.specs.Nearby.{AreWithin, IsNearest}
 use Rattle.map.specs.Memory.{Shape, map_network}
 use Rattle.map.specs.Room.{Tables}
 use Rattle.map.specs.declared.Record.{Record}
-use Rattle.search.specs.SearchCall.{search_left}
+use Rattle.search.specs.SearchCall.{search_left, Reached}
 use Rattle.search.specs.Demand2.{KeepsPast, IsSearch}
-use Rattle.search.specs.SearchCall.{Reached}
 use Rattle.nearby.specs.WithinCall.{within_refusal, Listed, WithinLeft, within_call}
 use Rattle.nearby.specs.NearestCall.{nearest_refusal, At, NearestLeft, nearest_call}
 

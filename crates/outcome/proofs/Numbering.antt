@@ -1,5 +1,5 @@
 -- The discriminant of each refusal, one more than its tag, is its number; and no number is 0.
-use Rattle.std.proofs.Common.{◌≡◌, ℕ, ◌+◌, refl, arith}
+use Rattle.std.proofs.Common.{◌≡◌, ◌+◌, refl, arith}
 use denote.Enum.Declared.{tag_of}
 use Rattle.outcome.specs.contracts.Refusal.{the_type}
 use Rattle.outcome.specs.Refusals.{number_of}

@@ -1,5 +1,5 @@
 // The pair table with the number of its pairs, and a search's own pairs added to it. A row of words may be up to 512 long.
-// What a function ensures of table and count is one equation, so that callers rewrite by it.
+// What a function ensures of table and count is one equation, so that callers rewrite by it. A row's width comes beside it, as crate `rows` says.
 
 #![tactic(auto)]
 

@@ -24,8 +24,7 @@ use Rattle.rounds.specs.Workspace.{Workspace, workspace, run_of, rounds_begun, r
 use Rattle.rounds.proofs.Holding.{Origin}
 use Rattle.rounds.proofs.Targets.{delivering_targets, delivering_network}
 use Rattle.rounds.proofs.Finish.{start_holds, start_running, run_is}
-use Rattle.reckon.specs.ReckonCall.{reckon_refusal, figured_by, reckon_left, reckon_given, reckon_call}
-use Rattle.reckon.specs.ReckonCall.{Searches, Refused}
+use Rattle.reckon.specs.ReckonCall.{reckon_refusal, figured_by, reckon_left, reckon_given, reckon_call, Searches, Refused}
 use Rattle.map.proofs.Longs.{are_long_lem}
 use Rattle.lent_map.proofs.Passes.{IsPassed, lent-passed, passed_net}
 use Rattle.lent_map.specs.Faults.{lent_faults, lent_refusal}

@@ -26,10 +26,9 @@ use Rattle.map.proofs.Theorems.{network_open_below, network_length, base_shape}
 use Rattle.checks.proofs.Theorems.{sound_links_iff}
 use Rattle.search.proofs.Theorems.{over_keeps}
 use Rattle.rounds.specs.Leaves.{rounds_leave, search_after}
-use Rattle.reckon.specs.ReckonCall.{reckon_refusal, figured_by, reckon_given, reckon_call, reckoning_number}
+use Rattle.reckon.specs.ReckonCall.{reckon_refusal, figured_by, reckon_given, reckon_call, reckoning_number, Refused}
 use Rattle.reckon.specs.Refusals.{reckon_conditions, ReckonDemand1}
 use Rattle.reckon.specs.Demand2.{IsReckoning, ReckonDemand2}
-use Rattle.reckon.specs.ReckonCall.{Refused}
 use Rattle.reckon.proofs.Reckons.{granted_long, granted_tests, granted_net}
 use Rattle.rounds.proofs.Reading.{pairs_read, skip_bound, closed_at, skip_marks, skips_counted, bound_ecc, few_searches, last_search}
 use Rattle.map.proofs.Longs.{long_is}

@@ -12,12 +12,10 @@ use Rattle.graph.specs.Correct.{IsCovered, IsSkipped}
 use Rattle.rows.specs.Rows.{table_bit}
 use Rattle.map.specs.Memory.{Shape, places, table_words, map_network}
 use Rattle.map.specs.declared.Record.{Record}
-use Rattle.search.specs.SearchCall.{search_left}
+use Rattle.search.specs.SearchCall.{search_left, Reached}
 use Rattle.search.specs.Demand2.{KeepsPast, IsSearch}
-use Rattle.search.specs.SearchCall.{Reached}
 use Rattle.map.specs.Room.{Lent, sizes_of}
-use Rattle.reckon.specs.ReckonCall.{reckon_refusal, ReckonLeft, reckoning_number, searches_of}
-use Rattle.reckon.specs.ReckonCall.{Searches, Refused}
+use Rattle.reckon.specs.ReckonCall.{reckon_refusal, ReckonLeft, reckoning_number, searches_of, Searches, Refused}
 
 -- A whole reckoning of G, lent the tables B; references are the depots that the rules search from, in order.
 pub record IsReckoning (K : Shape) (G : Network) (rec : Record) (B : Lent) (references : List ℕ) (left : ReckonLeft) : Type 0 where

@@ -5,10 +5,8 @@ use Rattle.std.specs.Prelude.{List, [], ℕ, false}
 use Rattle.lists.specs.Conditions.{Refuses}
 use Rattle.map.specs.Memory.{Shape}
 use Rattle.map.specs.declared.Record.{Record}
-use Rattle.map.specs.Room.{Lent}
-use Rattle.reckon.specs.ReckonCall.{ReckonLeft, reckon_left, reckoning_number}
-use Rattle.reckon.specs.ReckonCall.{Refused}
-use Rattle.map.specs.Room.{Lent, rounds_buffers}
+use Rattle.map.specs.Room.{Lent, Lent, rounds_buffers}
+use Rattle.reckon.specs.ReckonCall.{ReckonLeft, reckon_left, reckoning_number, Refused}
 use Rattle.lent_map.specs.Faults.{lent_conditions}
 
 -- 1 short, 2 spoilt (links alone: whatever figures are stored), 3 apart

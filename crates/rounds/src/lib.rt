@@ -1,4 +1,4 @@
-// Reference rounds over lent tables (rules 5.1 to 5.4), a round at a time. Rows of 1 to 512 words.
+// Reference rounds over lent tables (rules 5.1 to 5.4), a round at a time. Rows of 1 to 512 words. A row's width comes beside it, as crate `rows` says.
 
 #![tactic(auto)]
 
@@ -77,7 +77,7 @@ pub fn reach_by(
     )
 }
 
-// The candidate after a search whose own eccentricity is e.
+// The candidate after a search whose own eccentricity is e: by the test of the definition, so that no law of `max` is needed.
 fn raise(candidate: u16, e: u16) -> u16
     ensures { result ≡ cond (ltb candidate e) e candidate }
 {

@@ -23,11 +23,9 @@ use Rattle.map.specs.Memory.{Shape, places, IsShape, network_of, yard_network, m
 use Rattle.map.specs.declared.Record.{Record}
 use Rattle.map.proofs.Theorems.{network_open_below}
 use Rattle.outcome.specs.Numbers.{absent_code}
-use Rattle.search.specs.SearchCall.{search_sizes, search_refusal, SearchLeft, search_left, search_given, search_call, last_layer}
-use Rattle.search.specs.SearchCall.{Found}
-use Rattle.search.specs.SearchCall.{Reached, Refused}
+use Rattle.search.specs.SearchCall.{search_sizes, search_refusal, search_left, search_given, search_call, last_layer, Reached, Refused}
 use Rattle.map.proofs.Longs.{are_long_lem}
-use Rattle.lent_map.specs.Faults.{lent_faults, lent_refusal}
+use Rattle.lent_map.specs.Faults.{lent_refusal}
 use Rattle.lent_map.proofs.Passes.{lent_first, lent_then, lent-passed, passed_net}
 use Rattle.search.proofs.Reaches.{ecc_over, all_reached_lem}
 

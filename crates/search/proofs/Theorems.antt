@@ -25,20 +25,17 @@ use Rattle.graph.proofs.Theorems.{eccentricity_is}
 use Rattle.rows.specs.Rows.{row_bit, encode_row}
 use Rattle.rows.proofs.Written.{row_past, row_at, encode_row_length}
 use Rattle.layers.specs.Layers.{depth_from, layer_bit, search_leaves}
-use Rattle.map.specs.Room.{Tables}
+use Rattle.map.specs.Room.{Tables, long_enough}
 use Rattle.layers.proofs.Theorems.{depth_is, depth_low, layer_is_lem}
 use Rattle.map.specs.Memory.{Shape, places, IsShape, map_network, table_words}
 use Rattle.map.proofs.Theorems.{network_open_below}
-use Rattle.search.specs.SearchCall.{search_refusal, SearchLeft, search_left, search_given, search_call, last_layer, search_number}
+use Rattle.search.specs.SearchCall.{search_refusal, SearchLeft, search_left, search_given, search_call, last_layer, search_number, Reached, search_sizes}
 use Rattle.search.specs.Refusals.{search_buffers, search_conditions, SearchDemand1}
 use Rattle.search.specs.Demand2.{HoldsLayer, HoldsBefore, KeepsPast, IsSearch, SearchDemand2}
-use Rattle.search.specs.SearchCall.{Reached}
 use Rattle.outcome.specs.Numbers.{absent_code}
 use Rattle.search.proofs.Reaches.{part_is}
 use Rattle.search.proofs.Accepts.{granted}
-use Rattle.map.specs.Room.{long_enough}
 use Rattle.lent_map.proofs.Refuses.{lent_tells}
-use Rattle.search.specs.SearchCall.{search_sizes}
 use native.Mathlib.Nat.{le_refl}
 use borrow.Author.Tests.{le-leb}
 

@@ -8,8 +8,7 @@ use Rattle.rows.specs.Rows.{row_bit}
 use Rattle.map.specs.Room.{Tables}
 use Rattle.map.specs.Memory.{Shape, places, map_network}
 use Rattle.map.specs.declared.Record.{Record}
-use Rattle.search.specs.SearchCall.{search_refusal, SearchLeft, search_call, last_layer}
-use Rattle.search.specs.SearchCall.{Reached}
+use Rattle.search.specs.SearchCall.{search_refusal, SearchLeft, search_call, last_layer, Reached}
 
 -- the row holds exactly the depots at distance d from s
 abbrev pub HoldsLayer : ℕ → Network → ℕ → ℕ → List ℕ → Type 0

@@ -8,8 +8,7 @@ use Rattle.graph.specs.Refusals.{IsAbsent}
 use Rattle.map.specs.Room.{Tables}
 use Rattle.map.specs.Memory.{Shape, places, table_words, map_network}
 use Rattle.map.specs.declared.Record.{Record}
-use Rattle.search.specs.SearchCall.{SearchLeft, search_left, search_number}
-use Rattle.search.specs.SearchCall.{Refused}
+use Rattle.search.specs.SearchCall.{SearchLeft, search_left, search_number, Refused}
 use Rattle.lent_map.specs.Faults.{lent_conditions}
 
 -- the buffers that a search is lent, each its named size with its length: link table, hop table, two layer rows

@@ -4,14 +4,13 @@ use Rattle.std.specs.Prelude.{false, not, cond, List, [], ◌∷◌, ◌++◌, �
 use Rattle.lists.specs.Lists.{first_of}
 use Rattle.outcome.specs.Numbers.{absent_code}
 use Rattle.graph.specs.Chart.{chart, ecc}
-use Rattle.map.specs.Room.{Tables}
+use Rattle.map.specs.Room.{Tables, Sizes, sizes, long_enough}
 use Rattle.layers.specs.Layers.{depth_from, search_leaves}
 use Rattle.map.specs.Memory.{Shape, places, table_words, map_network}
 use Rattle.map.specs.declared.Record.{Record}
 use Rattle.outcome.specs.Refusals.{number_of}
 use Rattle.outcome.specs.declared.Refusal.{Refusal}
 use Rattle.search.specs.declared.Reach.{Reach}
-use Rattle.map.specs.Room.{Sizes, sizes, long_enough}
 use Rattle.lent_map.specs.Faults.{lent_faults}
 
 -- the sizes of what a search is lent; the tables that it is not lent count as whole

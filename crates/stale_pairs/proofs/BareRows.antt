@@ -39,6 +39,5 @@ module _ (W n : ℕ) (t : List ℕ) (u : ℕ) where
   pub row_bare : {p : ℕ} {r : Bool} → Bare W n t u p → n ≤ 64 * W → p < n → r ≡ allb (λ i. eqb (get_or t (W * p + i) 0) 0) (range W) → r ≡ true → Bare W n t u (p + 1)
   row_bare g w l e z = bare_more 1 W (omega arith) g w (omega arith) e z
 
-  pub group_bare : {p q : ℕ} {r : Bool} → Bare W n t u p → n ≤ 64 * W → p + 8 ≤ n → r ≡ allb (λ i. eqb (get_or t (W * p + i) 0) 0) (range (8 * W)) → r ≡ true → q ≡ p + 8
-      → Bare W n t u q
-  group_bare g w l e z q = rw q (bare_more 8 (8 * W) (omega arith) g w l e z)
+  pub group_bare : {p : ℕ} {r : Bool} → Bare W n t u p → n ≤ 64 * W → p + 8 ≤ n → r ≡ allb (λ i. eqb (get_or t (W * p + i) 0) 0) (range (8 * W)) → r ≡ true → Bare W n t u (p + 8)
+  group_bare g w l e z = bare_more 8 (8 * W) (omega arith) g w l e z

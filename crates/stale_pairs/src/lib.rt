@@ -1,7 +1,7 @@
 // Stale pairs dropped from the pair table itself: those that a search, or either of two, shows to be nearer than the chain. A row of words may be up to
 // 512 long.
 // Rows are done one after the other, each in its place: there is no second pair table.
-// What a function ensures of table, counts and way is one equation, so that callers rewrite by it.
+// What a function ensures of table, counts and way is one equation, so that callers rewrite by it. A row's width comes beside it, as crate `rows` says.
 
 #![tactic(auto)]
 
@@ -29,16 +29,6 @@ pub struct RowsDropping {
     pub gone: u32,
     pub count: u32,
     pub way: u16,
-}
-
-// The greater of two ways.
-fn longer(a: u16, b: u16) -> u16
-    ensures { result ≡ max a b }
-{
-    if a < b {
-        return b;
-    }
-    a
 }
 
 // The way from u to v by the hops of a search, and no more than chain. Two hops may pass 65,535, so they are summed at 32 bits.
@@ -79,7 +69,7 @@ fn sift(hops: &[u16], x: u64, u: usize, first: usize, chain: u16) -> Sifted
     while left != 0 {
         let b = words::least(left);
         let d = way_by(hops, u, first + b, chain);
-        way = longer(way, d);
+        way = way.max(d);
         if d < chain {
             word = words::without_bit(word, b);
             gone += 1;
@@ -123,7 +113,7 @@ fn sift_either(near: &[u16], far: &[u16], x: u64, u: usize, first: usize, chain:
     while left != 0 {
         let b = words::least(left);
         let least = way_by_either(near, far, u, first + b, chain);
-        way = longer(way, least);
+        way = way.max(least);
         if least < chain {
             word = words::without_bit(word, b);
             gone += 1;
@@ -161,7 +151,7 @@ fn drop_row(pairs: &mut [u64], hops: &[u16], words: usize, u: usize, chain: u16)
             pairs[i] = left.word;
             gone += left.gone;
             count += left.kept;
-            way = longer(way, left.way);
+            way = way.max(left.way);
         }
     }
     RowsDropping {
@@ -196,7 +186,7 @@ fn drop_row_either(
             pairs[i] = kept.word;
             gone += kept.gone;
             count += kept.kept;
-            way = longer(way, kept.way);
+            way = way.max(kept.way);
         }
     }
     RowsDropping {
@@ -231,17 +221,19 @@ fn bare_groups(pairs: &[u64], words: usize, rows: usize, u: usize) -> usize
     requires { (words < 513) × (words * (64 * words) ≤ length pairs.now) × (rows ≤ 64 * words) × (u ≤ rows) }
     ensures { Bare words rows pairs.now u result }
 {
-    let turns = (rows - u) / 16;
-    for k in 0..turns {
-        let p = u + 16 * k;
+    // A for over the turns was tried: it sets up its range at each call, and `next_row` then takes 4 to 20 % more instructions.
+    let mut p = u;
+    while p + 16 <= rows {
         if !rows::all_zero(pairs, words * p, 8 * words) {
             return p;
         }
-        if !rows::all_zero(pairs, words * (p + 8), 8 * words) {
-            return p + 8;
+        p += 8;
+        if !rows::all_zero(pairs, words * p, 8 * words) {
+            return p;
         }
+        p += 8;
     }
-    u + 16 * turns
+    p
 }
 
 // The next row from u on that has a pair, all rows where none has: most have none, and so most are passed 8 at a time.
@@ -285,7 +277,7 @@ pub fn drop_rows(
         let row = drop_row_by(pairs, near, far, words, u, chain, either);
         gone += row.gone;
         count += row.count;
-        way = longer(way, row.way);
+        way = way.max(row.way);
         if gone + count == total {
             u = rows;
         } else {
@@ -313,7 +305,8 @@ pub fn drop_stale(pairs: &mut [u64], hops: &[u16], words: usize, chain: u16, tot
     }
 }
 
-// `drop_stale` by two searches: a pair is stale that either shows to be nearer than the chain.
+// `drop_stale` by two searches: a pair is stale that either shows to be nearer than the chain. (One function for both would be told the second search and
+// the number of pairs by an Option each, and be no shorter.)
 pub fn drop_stale_either(
     pairs: &mut [u64],
     near: &[u16],

@@ -7,9 +7,8 @@ use Rattle.graph.specs.Summary.{IsSummary}
 use Rattle.map.specs.Memory.{Shape, places, map_network}
 use Rattle.map.specs.Room.{Tables}
 use Rattle.map.specs.declared.Record.{Record}
-use Rattle.search.specs.SearchCall.{search_left}
+use Rattle.search.specs.SearchCall.{search_left, Reached}
 use Rattle.search.specs.Demand2.{KeepsPast, IsSearch}
-use Rattle.search.specs.SearchCall.{Reached}
 use Rattle.summary.specs.SummaryCall.{summary_refusal, Summed, SummaryLeft, summary_call}
 
 -- A report of the network G: it is one by the published words, its counts stand in their places, and the tables are as the search from the highest

@@ -1,5 +1,5 @@
 // What a search left of the targets, a row of the depots that count: the greatest hop of one, the targets at it, and the hops of those above a code added.
-// Words outside, set bits inside: a code that is no target costs nothing.
+// Words outside, set bits inside: a code that is no target costs nothing. A row's width comes beside it, as crate `rows` says.
 
 #![tactic(auto)]
 
@@ -14,13 +14,6 @@ ghost use Rattle.targets.specs.Reach.{farthest_of, reached, reach_of};
 
 // ---- the greatest hop
 
-// The greater of two hops.
-fn greater(a: u16, b: u16) -> u16
-    ensures { result ≡ max a b }
-{
-    if a < b { b } else { a }
-}
-
 // The greatest hop of the members that word w of a row holds. The word is a copy, from which each member leaves as it is looked at.
 fn greatest_of_word(hops: &[u16], w: usize, word: u64) -> u16
     requires { (64 * w + 64 ≤ length hops.now) × (w < 2 ^ 32) }
@@ -30,7 +23,7 @@ fn greatest_of_word(hops: &[u16], w: usize, word: u64) -> u16
     let mut x = word;
     while x != 0 {
         let v = 64 * w + words::least(x);
-        most = greater(most, hops[v]);
+        most = most.max(hops[v]);
         x = words::drop_least(x);
     }
     most
@@ -43,7 +36,7 @@ fn greatest_of_all(targets: &[u64], hops: &[u16], words: usize) -> u16
 {
     let mut most: u16 = 0;
     for w in 0..words {
-        most = greater(most, greatest_of_word(hops, w, targets[w]));
+        most = most.max(greatest_of_word(hops, w, targets[w]));
     }
     most
 }

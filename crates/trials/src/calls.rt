@@ -1,12 +1,10 @@
 // The calls, on all that is lent to them; and what they answer and leave, held to the sheet.
 use crate::notices::Notice;
-use map::Record;
+use map::{Record, Room};
 use outcome::Outcome;
 use plain_search::marks::{are_covered, searched};
 use plain_search::tables::bits_are;
 use plain_search::{CODES, Change, Refusal, Sheet};
-use reckon::Reckoning;
-use search::Found;
 
 // The scratch of a call.
 #[derive(Clone, Copy, PartialEq, Eq)]
@@ -55,15 +53,6 @@ fn answer_of(outcome: Outcome) -> Result<Change, u8> {
     }
 }
 
-// Whether two records are the same.
-fn same_record(a: &Record, b: &Record) -> bool {
-    a.members == b.members
-        && a.yards == b.yards
-        && a.number == b.number
-        && a.chain == b.chain
-        && a.count == b.count
-}
-
 impl Lent {
     // The empty map, and scratch of no use.
     pub fn empty() -> Lent {
@@ -76,7 +65,7 @@ impl Lent {
             count: 9,
             yards: [9; map::WORDS],
         };
-        let rec = map::empty_map(spent, &mut links, &mut pairs).after;
+        let rec = map::empty_map(spent, &mut links, &mut pairs).unwrap_or(spent);
         let scratch = Scratch {
             hops: [7; map::PLACES],
             bounds: [7; map::PLACES],
@@ -98,15 +87,18 @@ impl Lent {
     pub fn open(&mut self, notice: &Notice) -> Opening {
         let odd = &mut self.scratch.odd[..];
         let words = if notice.short { 3 } else { map::WORDS };
+        let mut room = Room {
+            pairs: &mut self.pairs,
+            hops: &mut self.scratch.hops,
+            bounds: &mut self.scratch.bounds,
+            skips: &mut self.scratch.skips,
+            even: &mut self.scratch.even,
+            odd: &mut odd[..words],
+        };
         let got = lent_opening::open_value(
             self.rec,
             &mut self.links,
-            &mut self.pairs,
-            &mut self.scratch.hops,
-            &mut self.scratch.bounds,
-            &mut self.scratch.skips,
-            &mut self.scratch.even,
-            &mut odd[..words],
+            &mut room,
             false,
             notice.code,
             notice.neighbours.items(),
@@ -120,37 +112,32 @@ impl Lent {
 
     // A whole reckoning: the number of searches, or of a refusal.
     pub fn reckon(&mut self) -> Result<u16, u8> {
-        let got = reckon::reckon_all(
-            self.rec,
-            &self.links,
-            &mut self.pairs,
-            &mut self.scratch.hops,
-            &mut self.scratch.bounds,
-            &mut self.scratch.skips,
-            &mut self.scratch.even,
-            &mut self.scratch.odd,
-        );
-        self.rec = got.after;
-        match got.answer {
-            Reckoning::Searches(number) => Ok(number),
-            Reckoning::Refused(number) => Err(number),
-        }
+        let mut room = Room {
+            pairs: &mut self.pairs,
+            hops: &mut self.scratch.hops,
+            bounds: &mut self.scratch.bounds,
+            skips: &mut self.scratch.skips,
+            even: &mut self.scratch.even,
+            odd: &mut self.scratch.odd,
+        };
+        let reckoned = reckon::reckon_all(self.rec, &self.links, &mut room).map_err(
+            outcome::Refusal::number,
+        )?;
+        self.rec = reckoned.after;
+        Ok(reckoned.searches)
     }
 
     // A search of the code s: its eccentricity and its depth, or the number of a refusal.
     pub fn search(&mut self, s: u8) -> Result<(u16, u16), u8> {
-        let found = search::search_from(
-            self.rec,
-            &self.links,
-            &mut self.scratch.hops,
-            &mut self.scratch.even,
-            &mut self.scratch.odd,
-            s,
-        );
-        match found {
-            Found::Reached(e, depth) => Ok((e, depth)),
-            Found::Refused(number) => Err(number),
-        }
+        let mut scratch = map::Scratch {
+            hops: &mut self.scratch.hops,
+            even: &mut self.scratch.even,
+            odd: &mut self.scratch.odd,
+        };
+        let reach = search::search_from(self.rec, &self.links, &mut scratch, s).map_err(
+            outcome::Refusal::number,
+        )?;
+        Ok((reach.ecc, reach.depth))
     }
 
     // ---- what they left
@@ -159,7 +146,7 @@ impl Lent {
     fn is_same(&self, other: &Lent) -> bool {
         self.links == other.links
             && self.pairs == other.pairs
-            && same_record(&self.rec, &other.rec)
+            && self.rec == other.rec
             && self.scratch == other.scratch
     }
 
@@ -194,21 +181,18 @@ impl Lent {
 
     // Whether a search of the code s hands back, as its last layer, the depots farthest from s by the plain search.
     fn hands_back(&mut self, s: u8, e: u16, farthest: &[bool; CODES]) -> bool {
-        let mut refusal = 99;
-        let mut ecc = 0;
-        let mut depth = 0;
         let rows = search::search_rows(
             self.rec,
             &self.links,
             &mut self.scratch.hops,
             &mut self.scratch.even,
             &mut self.scratch.odd,
-            &mut refusal,
-            &mut ecc,
-            &mut depth,
             s,
         );
-        bits_are(rows[0], farthest) && refusal == 0 && ecc == e && depth == e
+        bits_are(rows.last, farthest)
+            && rows
+                .found
+                .is_ok_and(|reach| reach.ecc == e && reach.depth == e)
     }
 
     // Whether a search of the code s finds the distances, the eccentricity, which without yards is the depth, and the farthest depots of the plain search.

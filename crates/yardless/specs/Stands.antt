@@ -10,8 +10,7 @@ use Rattle.map.specs.Memory.{Shape, map_network}
 use Rattle.map.specs.Empty.{empty_call}
 use Rattle.map.specs.Room.{Tables, Lent}
 use Rattle.map.specs.declared.Record.{Record}
-use Rattle.search.specs.SearchCall.{search_call}
-use Rattle.search.specs.SearchCall.{Reached}
+use Rattle.search.specs.SearchCall.{search_call, Reached}
 use Rattle.nearby.specs.WithinCall.{within_call}
 use Rattle.nearby.specs.NearestCall.{nearest_call}
 use Rattle.summary.specs.SummaryCall.{summary_call}

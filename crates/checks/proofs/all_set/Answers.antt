@@ -2,8 +2,7 @@
 -- that refutes the test. The measure is what is left of the word.
 use mathlib.Core.Path.{◌∙◌}
 use native.Mathlib.Omega.{arith}
-use Rattle.checks.proofs.Scans.{bits_start, bits_next, words_start, words_next, rows_start, rows_next}
-use Rattle.checks.proofs.Scans.{scan_whole, scan_fault}
+use Rattle.checks.proofs.Scans.{bits_start, bits_next, words_start, words_next, rows_start, rows_next, scan_whole, scan_fault}
 use Rattle.checks.proofs.all_set.Goals as goal
 use Rattle.checks.proofs.all_set.Goals.{else-rows-test, then-rows-test+then-loop-w-test+then-loop-x-test+then-not-passes}
 

@@ -1,6 +1,6 @@
 -- `search::search_from` meets its contract: the refusal is the definition's, and without one the search over the table is that of the network, with the
 -- depots that deliver as its targets.
-use mathlib.Core.Path.{sym, ◌∙◌}
+use mathlib.Core.Path.{sym}
 use native.Mathlib.Omega.{arith}
 use Rattle.map.specs.Memory.{base}
 use Rattle.map.proofs.Theorems.{base_shape}

@@ -1,6 +1,6 @@
--- `stale_pairs::bare_groups` meets its contract. The loop's invariant: the rows of the first k turns from `u` on have no pair (BareRows.antt).
-use mathlib.Core.Path.{refl}
-use Prim.Native.Nat.{◌+◌, ◌*◌}
+-- `stale_pairs::bare_groups` meets its contract. The loop's invariant: the rows from `u` to `p` have no pair (BareRows.antt).
+-- The measure is the rows left.
+use Prim.Native.Nat.{◌+◌}
 use native.Mathlib.Omega.{arith}
 use Rattle.stale_pairs.specs.Stale.{Bare}
 use Rattle.stale_pairs.proofs.BareRows.{group_bare, group_inside}
@@ -10,19 +10,18 @@ use Rattle.stale_pairs.proofs.bare_groups.Goals.{Else-not-all_zero}
 pub all_zero-requires : goal.all_zero-requires
 all_zero-requires c = group_inside _ _ _ _ c.requires.2 (omega arith) c.requires.1
 
-pub all_zero-requires-in-loop-k : goal.all_zero-requires-in-loop-k
-all_zero-requires-in-loop-k c = group_inside _ _ _ _ c.requires.2 (omega arith) c.requires.1
+pub all_zero-requires-in-loop-p : goal.all_zero-requires-in-loop-p
+all_zero-requires-in-loop-p c = group_inside _ _ _ _ c.requires.2 (omega arith) c.requires.1
 
 -- the first group of a turn has no pair
-one-group : (c : Else-not-all_zero) → let a = c.args in Bare a.words a.rows a.pairs.now a.u (a.u + 16 * c.loop-k.k + 8)
-one-group c =
-    group_bare _ _ _ _ c.loop-k.invariant c.requires.2 (omega arith) c.all_zero.ensures c.if-not-all_zero.false refl
+one-group : (c : Else-not-all_zero) → let a = c.args in Bare a.words a.rows a.pairs.now a.u (c.loop-p.p + 8)
+one-group c = group_bare _ _ _ _ c.loop-p.invariant c.requires.2 (omega arith) c.all_zero.ensures c.if-not-all_zero.false
 
 pub returns-then-not-all_zero-2 : goal.returns-then-not-all_zero-2
 returns-then-not-all_zero-2 c =
     one-group (goal.at.returns-then-not-all_zero-2 c).Else-not-all_zero
 
-pub loop-k-preserved : goal.loop-k-preserved
-loop-k-preserved c =
-    group_bare _ _ _ _ (one-group (goal.at.loop-k-preserved c).Else-not-all_zero) c.requires.2 (omega arith)
-    c.all_zero-in-loop-k.ensures c.if-not-all_zero-2.false (omega arith)
+pub loop-p-preserved : goal.loop-p-preserved
+loop-p-preserved c =
+    group_bare _ _ _ _ (one-group (goal.at.loop-p-preserved c).Else-not-all_zero) c.requires.2 (omega arith)
+    c.all_zero-in-loop-p.ensures c.if-not-all_zero-2.false

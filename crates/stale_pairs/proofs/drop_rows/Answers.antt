@@ -32,14 +32,14 @@ pub loop-u-preserved-then-gone-count : goal.loop-u-preserved-then-gone-count
 loop-u-preserved-then-gone-count c =
     let one =
     rows_more _ _ _ _ c.loop-u.invariant c.requires.2 c.loop-u-test.true c.drop_row_by-row.ensures
-    c.longer-way.ensures c.drop_row_by-row.auto.pairs in
+    c.max-way.ensures c.drop_row_by-row.auto.pairs in
     rows_bare _ _ _ _ one c.requires.2 (rows_met _ _ _ _ one c.requires.2 c.requires.3 c.if-gone-count.true)
 
 pub loop-u-preserved : goal.loop-u-preserved
 loop-u-preserved c =
     rows_bare _ _ _ _
     (rows_more _ _ _ _ c.loop-u.invariant c.requires.2 c.loop-u-test.true c.drop_row_by-row.ensures
-    c.longer-way.ensures c.drop_row_by-row.auto.pairs)
+    c.max-way.ensures c.drop_row_by-row.auto.pairs)
     c.requires.2 c.next_row-u-else-gone-count.ensures
 
 pub returns : goal.returns

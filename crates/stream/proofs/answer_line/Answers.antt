@@ -34,7 +34,8 @@ answer_frame-requires c =
 
 pub returns-in-Ok-clause-left : goal.returns-in-Ok-clause-left
 returns-in-Ok-clause-left c =
-    answered-frame _ _ _ _ _ _ (read (goal.at.returns-in-Ok-clause-left c).In-Ok).1 (read (goal.at.returns-in-Ok-clause-left c).In-Ok).2 c.answer_frame.ensures.left
+    let found = read (goal.at.returns-in-Ok-clause-left c).In-Ok in
+    answered-frame _ _ _ _ _ _ found.1 found.2 c.answer_frame.ensures.left
 
 pub returns-in-Err-clause-left : goal.returns-in-Err-clause-left
 returns-in-Err-clause-left c =

@@ -12,7 +12,10 @@ abbrev pub invariant-loop-now : goal.invariant-loop-now
 invariant-loop-now l =
     AtTurn l.piece (feeding l.initial.now l.initial.links (lent_in l.initial.room) l.initial.line l.initial.out)
     (feeding l.now l.links (lent_in l.room) l.line l.out)
-    × (IsSameRoom l.initial.room l.room × (length l.links ≡ length l.initial.links) × (length l.line ≡ length l.initial.line) × (length l.out ≡ length l.initial.out))
+    × (IsSameRoom l.initial.room l.room
+    × (length l.links ≡ length l.initial.links)
+    × (length l.line ≡ length l.initial.line)
+    × (length l.out ≡ length l.initial.out))
     × (l.now.used ≤ length l.piece)
     × (l.now.written ≤ length l.out)
 

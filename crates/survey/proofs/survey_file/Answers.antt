@@ -12,7 +12,12 @@ follow_file-followed-requires c =
     (omega arith) (omega arith) (omega arith) (omega arith) (omega arith) (omega arith) (omega arith) (omega arith)
 
 pub put_file-put-requires : goal.put_file-put-requires
-put_file-put-requires c = (omega arith, c.requires.1, answered_as _ _ _ _ _ _ c.summarise-answer.ensures.left c.map_err.ensures.cases (λ k n p. search (rules, tests)), c.requires.2)
+put_file-put-requires c = (
+  omega arith,
+  c.requires.1,
+  answered_as _ _ _ _ _ _ c.summarise-answer.ensures.left c.map_err.ensures.cases (λ k n p. search (rules, tests)),
+  c.requires.2,
+)
 
 pub slice_bounds-write_out-end : goal.slice_bounds-write_out-end
 slice_bounds-write_out-end c = file_fits _ _ _ c.put_file-put.ensures
