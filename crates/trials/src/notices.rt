@@ -85,7 +85,7 @@ impl Kind {
     }
 
     // The notice of depot j, bent so that it is refused for `bent`: by a short buffer, the code of the depot before, no neighbours, one neighbour more, a 0, or
-    // only one, the next depot, which is closed, or itself. What is bent elsewhere, or not at all, has it as it is.
+    // only one, the next depot, which is closed, or itself. A call that is bent elsewhere, or not at all, has it as it is.
     pub fn notice(self, j: u8, bent: Option<Refusal>) -> Notice {
         let mut near = self.neighbours(j);
         match bent {

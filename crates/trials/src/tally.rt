@@ -20,6 +20,7 @@ impl Tally {
     }
 }
 
+// As it is printed behind the name of a group.
 impl fmt::Display for Tally {
     fn fmt<W: fmt::Write>(&self, f: &mut fmt::Formatter<W>) -> fmt::Result {
         let tried = self.tried;
