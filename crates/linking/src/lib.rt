@@ -44,13 +44,9 @@ fn relink_codes(plan: Plan<'_>, room: &mut Room<'_>, first: u8, second: u8, chai
         figured result.change (ran (lent_in room.new) result.chain result.count result.searches)
         ≡ relinked_by base G (min first second) (max first second) chain (lent_in room.old) }
 {
-    relink::relink(
-        plan,
-        room,
-        first.min(second) as usize,
-        first.max(second) as usize,
-        chain,
-    )
+    let low = first.min(second);
+    let high = first.max(second);
+    relink::relink(plan, room, low as usize, high as usize, chain)
 }
 
 // A link that nothing refuses: put in place, then the figures, the lower code's search first.

@@ -6,7 +6,7 @@ use Rattle.linking.proofs.relink_codes.Goals as goal
 
 pub relink-requires : goal.relink-requires
 relink-requires c =
-    (search rules, relinkable_at _ _ _ _ _ c.min.ensures c.max.ensures c.requires.1, omega arith, omega arith)
+    (search rules, relinkable_at _ _ _ _ _ c.min-low.ensures c.max-high.ensures c.requires.1, omega arith, omega arith)
 
 pub returns-clause-left : goal.returns-clause-left
-returns-clause-left c = relinked_at _ _ _ _ c.min.ensures c.max.ensures c.relink.ensures.left
+returns-clause-left c = relinked_at _ _ _ _ c.min-low.ensures c.max-high.ensures c.relink.ensures.left
