@@ -5,9 +5,9 @@
 
 #![tactic(auto)]
 
-ghost use Rattle.std.specs.Prelude.{◌≡◌, ◌+◌, ◌*◌, ◌<◌, ◌≤◌, min, max, length};
+ghost use Rattle.std.specs.Prelude.{ℕ, ◌≡◌, ◌+◌, ◌*◌, ◌^◌, ◌<◌, ◌≤◌, min, max, length};
 ghost use Rattle.pairs.specs.Pairs.{tally};
-ghost use Rattle.stale_pairs.specs.Stale.{HasHops, Bare, way_by, way_by_either, way_from, sifted, sift_of};
+ghost use Rattle.stale_pairs.specs.Stale.{HasHops, Bare, Tells, TellsWord, way_by, way_by_either, sifted, sift_of};
 ghost use Rattle.stale_pairs.specs.Stale.{dropped, rows_dropped, drop_row_of, drop_rows_of, drop_of, pairs_below};
 ghost use Rattle.lists.specs.Lists.{range};
 ghost use Rattle.graph.specs.Chart.{count_pairs};
@@ -45,6 +45,15 @@ fn way_by(hops: &[u16], u: usize, v: usize, chain: u16) -> u16
     chain
 }
 
+// The lesser of the ways from u to v by the hops of two searches, and no more than chain.
+fn way_by_either(near: &[u16], far: &[u16], u: usize, v: usize, chain: u16) -> u16
+    requires { (u < length near.now) × (v < length near.now) × (u < length far.now) × (v < length far.now) }
+    ensures { result ≡ min chain (way_by_either near.now far.now u v) }
+{
+    let least = way_by(near, u, v, chain);
+    way_by(far, u, v, least)
+}
+
 // The members of a word that stay, how many went and how many stay, and the greatest way of those that were there. They are counted as they are met: few
 // words of a pair table have many.
 #[derive(Clone, Copy)]
@@ -55,11 +64,15 @@ pub struct Sifted {
     pub way: u16,
 }
 
-// Takes the stale members out of x, whose bit b stands for the pair of u and first + b: those whose way is below chain.
-fn sift(hops: &[u16], x: u64, u: usize, first: usize, chain: u16) -> Sifted
-    requires { (u < length hops.now) × (first + 64 ≤ length hops.now) }
-    ensures { let way = way_by hops.now in
-        sifted result.word result.gone result.kept result.way ≡ sift_of way chain u first x }
+// Takes the stale members out of x, whose bit b stands for the pair of u and first + b: those whose way is below chain. What tells the way of a pair is
+// a function, so that the loop over one search has no test more than that search asks.
+fn sift<F: Fn(usize, usize) -> u16>(tell: &F, x: u64, u: usize, first: usize, chain: u16) -> Sifted
+    requires small { first + 64 < 2 ^ 64 }
+    requires asked { (b : ℕ) → b < 64 → F.pre tell.now u (first + b) }
+    requires told { (way : ℕ → ℕ → ℕ) × TellsWord u first chain (F.post tell.now) way }
+    ensures { (way : ℕ → ℕ → ℕ)
+        → TellsWord u first chain (F.post tell.now) way
+        → sifted result.word result.gone result.kept result.way ≡ sift_of way chain u first x }
 {
     let mut word = x;
     let mut gone: u32 = 0;
@@ -68,53 +81,9 @@ fn sift(hops: &[u16], x: u64, u: usize, first: usize, chain: u16) -> Sifted
     let mut left = x;
     while left != 0 {
         let b = words::least(left);
-        let d = way_by(hops, u, first + b, chain);
+        let d = tell(u, first + b);
         way = way.max(d);
         if d < chain {
-            word = words::without_bit(word, b);
-            gone += 1;
-            left = words::drop_least(left);
-        } else {
-            kept += 1;
-            left = words::drop_least(left);
-        }
-    }
-    Sifted {
-        word: word,
-        gone: gone,
-        kept: kept,
-        way: way,
-    }
-}
-
-// The lesser of the ways from u to v by the hops of two searches, and no more than chain.
-fn way_by_either(near: &[u16], far: &[u16], u: usize, v: usize, chain: u16) -> u16
-    requires { (u < length near.now) × (v < length near.now) × (u < length far.now) × (v < length far.now) }
-    ensures { result ≡ min chain (way_by_either near.now far.now u v) }
-{
-    let least = way_by(near, u, v, chain);
-    way_by(far, u, v, least)
-}
-
-// `sift` by two searches. A loop of its own, so that the one over one table has no test more.
-fn sift_either(near: &[u16], far: &[u16], x: u64, u: usize, first: usize, chain: u16) -> Sifted
-    requires { (u < length near.now)
-        × (first + 64 ≤ length near.now)
-        × (u < length far.now)
-        × (first + 64 ≤ length far.now) }
-    ensures { let way = way_by_either near.now far.now in
-        sifted result.word result.gone result.kept result.way ≡ sift_of way chain u first x }
-{
-    let mut word = x;
-    let mut gone: u32 = 0;
-    let mut kept: u32 = 0;
-    let mut way: u16 = 0;
-    let mut left = x;
-    while left != 0 {
-        let b = words::least(left);
-        let least = way_by_either(near, far, u, first + b, chain);
-        way = way.max(least);
-        if least < chain {
             word = words::without_bit(word, b);
             gone += 1;
             left = words::drop_least(left);
@@ -134,10 +103,19 @@ fn sift_either(near: &[u16], far: &[u16], x: u64, u: usize, first: usize, chain:
 // ---- rows
 
 // Drops the stale pairs of row u, a word at a time. Words without a pair are passed: most of a row has none.
-fn drop_row(pairs: &mut [u64], hops: &[u16], words: usize, u: usize, chain: u16) -> RowsDropping
-    requires { HasHops words pairs.old hops.now × (u < 64 * words) }
-    ensures { let way = way_by hops.now in
-        rows_dropped pairs.new result.gone result.count result.way ≡ drop_row_of words way chain u pairs.old }
+fn drop_row<F: Fn(usize, usize) -> u16>(
+    pairs: &mut [u64],
+    tell: &F,
+    words: usize,
+    u: usize,
+    chain: u16,
+) -> RowsDropping
+    requires room { (words < 513) × (words * (64 * words) ≤ length pairs.old) × (u < 64 * words) }
+    requires asked { (u v : ℕ) → u < 64 * words → v < 64 * words → F.pre tell.now u v }
+    requires told { (way : ℕ → ℕ → ℕ) × Tells (64 * words) chain (F.post tell.now) way }
+    ensures { (way : ℕ → ℕ → ℕ)
+        → Tells (64 * words) chain (F.post tell.now) way
+        → rows_dropped pairs.new result.gone result.count result.way ≡ drop_row_of words way chain u pairs.old }
 {
     let base = words * u;
     let mut gone: u32 = 0;
@@ -147,7 +125,7 @@ fn drop_row(pairs: &mut [u64], hops: &[u16], words: usize, u: usize, chain: u16)
         let i = base + j;
         let old = pairs[i];
         if old != 0 {
-            let left = sift(hops, old, u, 64 * j, chain);
+            let left = sift(tell, old, u, 64 * j, chain);
             pairs[i] = left.word;
             gone += left.gone;
             count += left.kept;
@@ -159,61 +137,6 @@ fn drop_row(pairs: &mut [u64], hops: &[u16], words: usize, u: usize, chain: u16)
         count: count,
         way: way,
     }
-}
-
-// `drop_row` by two searches.
-fn drop_row_either(
-    pairs: &mut [u64],
-    near: &[u16],
-    far: &[u16],
-    words: usize,
-    u: usize,
-    chain: u16,
-) -> RowsDropping
-    requires { HasHops words pairs.old near.now × HasHops words pairs.old far.now × (u < 64 * words) }
-    ensures { let way = way_by_either near.now far.now in
-        rows_dropped pairs.new result.gone result.count result.way ≡ drop_row_of words way chain u pairs.old }
-{
-    let base = words * u;
-    let mut gone: u32 = 0;
-    let mut count: u32 = 0;
-    let mut way: u16 = 0;
-    for j in 0..words {
-        let i = base + j;
-        let old = pairs[i];
-        if old != 0 {
-            let kept = sift_either(near, far, old, u, 64 * j, chain);
-            pairs[i] = kept.word;
-            gone += kept.gone;
-            count += kept.kept;
-            way = way.max(kept.way);
-        }
-    }
-    RowsDropping {
-        gone: gone,
-        count: count,
-        way: way,
-    }
-}
-
-// `drop_row` by one search, or by either of two. The choice is made for a row, so that the loops over its words and members have no test more.
-fn drop_row_by(
-    pairs: &mut [u64],
-    near: &[u16],
-    far: &[u16],
-    words: usize,
-    u: usize,
-    chain: u16,
-    either: bool,
-) -> RowsDropping
-    requires { HasHops words pairs.old near.now × HasHops words pairs.old far.now × (u < 64 * words) }
-    ensures { let way = way_from either near.now far.now in
-        rows_dropped pairs.new result.gone result.count result.way ≡ drop_row_of words way chain u pairs.old }
-{
-    if either {
-        return drop_row_either(pairs, near, far, words, u, chain);
-    }
-    drop_row(pairs, near, words, u, chain)
 }
 
 // Where the rows from u on that have no pair end, as far as whole groups of 8 tell: two groups a turn, while there are two.
@@ -251,22 +174,23 @@ fn next_row(pairs: &[u64], words: usize, rows: usize, u: usize) -> usize
 
 // Drops the stale pairs of the first rows in place, a row after the other: those rows have their pairs that stay, the others are as they were, and
 // the pairs gone so far are counted. No more than `total` pairs stand in them, so that no row is looked at behind the last of these.
-pub fn drop_rows(
+fn drop_rows<F: Fn(usize, usize) -> u16>(
     pairs: &mut [u64],
-    near: &[u16],
-    far: &[u16],
+    tell: &F,
     words: usize,
     rows: usize,
     chain: u16,
-    either: bool,
     total: u32,
 ) -> RowsDropping
-    requires { HasHops words pairs.old near.now
-        × HasHops words pairs.old far.now
+    requires room { (words < 513)
+        × (words * (64 * words) ≤ length pairs.old)
         × (rows ≤ 64 * words)
         × (pairs_below words rows pairs.old ≤ total) }
-    ensures { let way = way_from either near.now far.now in
-        rows_dropped pairs.new result.gone result.count result.way ≡ drop_rows_of words way chain rows pairs.old }
+    requires asked { (u v : ℕ) → u < 64 * words → v < 64 * words → F.pre tell.now u v }
+    requires told { (way : ℕ → ℕ → ℕ) × Tells (64 * words) chain (F.post tell.now) way }
+    ensures { (way : ℕ → ℕ → ℕ)
+        → Tells (64 * words) chain (F.post tell.now) way
+        → rows_dropped pairs.new result.gone result.count result.way ≡ drop_rows_of words way chain rows pairs.old }
 {
     let mut gone: u32 = 0;
     let mut count: u32 = 0;
@@ -274,7 +198,7 @@ pub fn drop_rows(
     // A row is jumped to, so that no range counts the rows.
     let mut u = next_row(&*pairs, words, rows, 0);
     while u < rows {
-        let row = drop_row_by(pairs, near, far, words, u, chain, either);
+        let row = drop_row(pairs, tell, words, u, chain);
         gone += row.gone;
         count += row.count;
         way = way.max(row.way);
@@ -298,7 +222,8 @@ pub fn drop_stale(pairs: &mut [u64], hops: &[u16], words: usize, chain: u16, tot
         × (count_pairs (range (64 * words)) (table_bit words pairs.old) ≤ total) }
     ensures { dropped (tally pairs.new result.count) result.way ≡ drop_of words (way_by hops.now) chain pairs.old }
 {
-    let done = drop_rows(pairs, hops, hops, words, 64 * words, chain, false, total);
+    let tell = |u: usize, v: usize| way_by(hops, u, v, chain);
+    let done = drop_rows(pairs, &tell, words, 64 * words, chain, total);
     Dropping {
         count: done.count,
         way: done.way,
@@ -318,7 +243,8 @@ pub fn drop_stale_either(
     ensures { let way = way_by_either near.now far.now in
         dropped (tally pairs.new result.count) result.way ≡ drop_of words way chain pairs.old }
 {
-    let done = drop_rows(pairs, near, far, words, 64 * words, chain, true, MOST);
+    let tell = |u: usize, v: usize| way_by_either(near, far, u, v, chain);
+    let done = drop_rows(pairs, &tell, words, 64 * words, chain, MOST);
     Dropping {
         count: done.count,
         way: done.way,

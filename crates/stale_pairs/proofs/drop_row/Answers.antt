@@ -7,26 +7,26 @@ use Rattle.stale_pairs.proofs.drop_row.Goals as goal
 use Rattle.stale_pairs.proofs.drop_row.Goals.{then-old-ne0, else-old-ne0}
 
 pub overflow_mul-base : goal.overflow_mul-base
-overflow_mul-base c =
-    let pre = c.requires in
-    omega (arith, row_fits _ _ _ pre.1 pre.0.table)
+overflow_mul-base g c = let pre = c.requires.room in omega (arith, row_fits _ _ _ pre.2 pre.1)
+
+pub sift-left-requires-clause-told : goal.sift-left-requires-clause-told
+sift-left-requires-clause-told g c = let told = c.requires.told in (told.0, λ b r l. told.1 _ _ _ (omega arith) (omega arith))
 
 pub loop-j-init : goal.loop-j-init
-loop-j-init c =
-    row_start _ _ _ _ _ c.requires.0.table (λ i l. (c.slice_known-1.given i).fits)
-
-pub returns : goal.returns
-returns c = row_end _ _ _ _ _ c.loop-j.invariant (omega arith)
+loop-j-init g c = λ way h. row_start _ _ _ _ _ c.requires.room.1 (λ i l. (c.slice_known-1.given i).fits)
 
 pub overflow_add-gone : goal.overflow_add-gone
-overflow_add-gone c = search gone_fits
+overflow_add-gone g c = let told = c.requires.told in search (gone_fits, c.loop-j.invariant told.0 told.1, c.sift-left.ensures told.0 (λ b r l. told.1 _ _ _ (omega arith) (omega arith)))
 
 pub overflow_add-count : goal.overflow_add-count
-overflow_add-count c = search count_fits
+overflow_add-count g c = let told = c.requires.told in search (count_fits, c.loop-j.invariant told.0 told.1, c.sift-left.ensures told.0 (λ b r l. told.1 _ _ _ (omega arith) (omega arith)))
 
 pub loop-j-preserved : goal.loop-j-preserved
-loop-j-preserved c =
-    elim c.if-old-ne0.branch [
-      | then-old-ne0 w ↦ rw (w.pairs-is, w.gone-is, w.count-is, w.way'-is) (search row_word)
-      | else-old-ne0 w ↦ rw (w.pairs-is, w.gone-is, w.count-is, w.way'-is) (search row_skip)
+loop-j-preserved g c =
+    λ way h. elim c.if-old-ne0.branch [
+      | then-old-ne0 w ↦ rw (w.pairs-is, w.gone-is, w.count-is, w.way'-is) (search (row_word, c.loop-j.invariant way h, w.sift-left.ensures way (λ b r l. h _ _ _ (omega arith) (omega arith))))
+      | else-old-ne0 w ↦ rw (w.pairs-is, w.gone-is, w.count-is, w.way'-is) (search (row_skip, c.loop-j.invariant way h))
     ]
+
+pub returns : goal.returns
+returns g c = λ way h. row_end _ _ _ _ _ (c.loop-j.invariant way h) (omega arith)

@@ -5,22 +5,19 @@ use Rattle.stale_pairs.proofs.Sifting.{sift_start, sift_few, sift_drop, sift_kee
 use Rattle.stale_pairs.proofs.sift.Goals as goal
 
 pub overflow_add-gone : goal.overflow_add-gone
-overflow_add-gone c =
-    omega (arith, sift_few _ _ _ _ _ c.loop-left.invariant)
+overflow_add-gone g c = let told = c.requires.told in omega (arith, sift_few _ _ _ _ _ (c.loop-left.invariant told.0 told.1))
 
 pub overflow_add-kept : goal.overflow_add-kept
-overflow_add-kept c =
-    omega (arith, sift_few _ _ _ _ _ c.loop-left.invariant)
+overflow_add-kept g c = let told = c.requires.told in omega (arith, sift_few _ _ _ _ _ (c.loop-left.invariant told.0 told.1))
 
 pub returns : goal.returns
-returns c =
-    sift_end _ _ _ _ _ c.loop-left.invariant (omega arith)
+returns g c = λ way h. sift_end _ _ _ _ _ (c.loop-left.invariant way h) (omega arith)
 
 pub loop-left-init : goal.loop-left-init
-loop-left-init c = search sift_start
+loop-left-init g c = λ way h. search sift_start
 
 pub loop-left-preserved-then-d-chain : goal.loop-left-preserved-then-d-chain
-loop-left-preserved-then-d-chain c = search sift_drop
+loop-left-preserved-then-d-chain g c = λ way h. search (sift_drop, c.loop-left.invariant way h, h _ _ c.least-b.ensures.below c.tell-d.ensures)
 
 pub loop-left-preserved : goal.loop-left-preserved
-loop-left-preserved c = search sift_keep
+loop-left-preserved g c = λ way h. search (sift_keep, c.loop-left.invariant way h, h _ _ c.least-b.ensures.below c.tell-d.ensures)
