@@ -6,12 +6,6 @@ use Rattle.stale_pairs.proofs.StaleRow.{row_start, row_word, row_skip, row_end, 
 use Rattle.stale_pairs.proofs.drop_row.Goals as goal
 use Rattle.stale_pairs.proofs.drop_row.Goals.{then-old-ne0, else-old-ne0}
 
-pub overflow_mul-base : goal.overflow_mul-base
-overflow_mul-base g c = let pre = c.requires.room in omega (arith, row_fits _ _ _ pre.2 pre.1)
-
-pub sift-left-requires-clause-told : goal.sift-left-requires-clause-told
-sift-left-requires-clause-told g c = let told = c.requires.told in (told.0, λ b r l. told.1 _ _ _ (omega arith) (omega arith))
-
 pub loop-j-init : goal.loop-j-init
 loop-j-init g c = λ way h. row_start _ _ _ _ _ c.requires.room.1 (λ i l. (c.slice_known-1.given i).fits)
 

@@ -42,6 +42,3 @@ loop-u-preserved g c =
     rows_bare _ _ _ _
     (rows_more _ _ _ _ (c.loop-u.invariant way h) pre.2 c.loop-u-test.true (c.drop_row-row.ensures way h) c.max-way.ensures c.drop_row-row.auto.pairs)
     pre.2 c.next_row-u-else-gone-count.ensures
-
-pub returns : goal.returns
-returns g c = λ way h. rows_end _ _ _ _ (c.loop-u.invariant way h) (omega arith)

@@ -2,8 +2,5 @@
 use Rattle.stale_pairs.proofs.BareRows.{row_bare, row_inside}
 use Rattle.stale_pairs.proofs.next_row.Goals as goal
 
-pub all_zero-requires : goal.all_zero-requires
-all_zero-requires c = search row_inside
-
 pub loop-p-preserved : goal.loop-p-preserved
 loop-p-preserved c = search row_bare
