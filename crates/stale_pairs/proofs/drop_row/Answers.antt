@@ -21,6 +21,3 @@ loop-j-preserved g c =
       | then-old-ne0 w ↦ rw (w.pairs-is, w.gone-is, w.count-is, w.way'-is) (search (row_word, c.loop-j.invariant way h, w.sift-left.ensures way (λ b r l. h _ _ _ (omega arith) (omega arith))))
       | else-old-ne0 w ↦ rw (w.pairs-is, w.gone-is, w.count-is, w.way'-is) (search (row_skip, c.loop-j.invariant way h))
     ]
-
-pub returns : goal.returns
-returns g c = λ way h. row_end _ _ _ _ _ (c.loop-j.invariant way h) (omega arith)

@@ -5,9 +5,6 @@ use Rattle.stale_pairs.specs.Stale.{way_by_either}
 use Rattle.stale_pairs.proofs.StaleTable.{below_few, all_rows}
 use Rattle.stale_pairs.proofs.drop_stale_either.Goals as goal
 
-pub drop_rows-done-requires-clause-room : goal.drop_rows-done-requires-clause-room
-drop_rows-done-requires-clause-room c = let h = c.requires.0 in (h.most, h.table, omega arith, omega (arith, below_few c.args.words c.args.pairs.now h.most))
-
 pub drop_rows-done-requires-clause-told : goal.drop_rows-done-requires-clause-told
 drop_rows-done-requires-clause-told c = (way_by_either c.args.near.now c.args.far.now, λ u v r l m h. search rules)
 

@@ -10,9 +10,6 @@ overflow_add-gone g c = let told = c.requires.told in omega (arith, sift_few _ _
 pub overflow_add-kept : goal.overflow_add-kept
 overflow_add-kept g c = let told = c.requires.told in omega (arith, sift_few _ _ _ _ _ (c.loop-left.invariant told.0 told.1))
 
-pub returns : goal.returns
-returns g c = λ way h. sift_end _ _ _ _ _ (c.loop-left.invariant way h) (omega arith)
-
 pub loop-left-init : goal.loop-left-init
 loop-left-init g c = λ way h. search sift_start
 
