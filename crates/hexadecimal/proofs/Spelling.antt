@@ -11,7 +11,7 @@ use Rattle.lists.specs.Lists.{allb}
 use Rattle.lists.proofs.Tests.{and-true, and_intro}
 use Rattle.hexadecimal.specs.Hex.{hex_digit, is_digit, digit_value, is_byte, digits_of, bytes_of}
 use Rattle.lists.proofs.Copies.{Copied, copied_more, copied_at}
-use Rattle.hexadecimal.proofs.Digits.{value_below, digit_value_lem, value_digit, digit_is}
+use Rattle.hexadecimal.proofs.DigitLaws.{value_below, digit_value_lem, value_digit, digit_is}
 
 pub length_digits : (f : List ℕ) → length (digits_of f) ≡ 2 * length f
 unfolding digits_of

@@ -1,5 +1,5 @@
 -- `notice::digit` meets its contract: the two arms are the numerals and the letters of `hex_digit`.
-use Rattle.hexadecimal.proofs.Digits.{digit_numeral, digit_letter}
+use Rattle.hexadecimal.proofs.DigitLaws.{digit_numeral, digit_letter}
 use Rattle.hexadecimal.proofs.digit.Goals as goal
 
 pub returns-then-d-lt10 : goal.returns-then-d-lt10

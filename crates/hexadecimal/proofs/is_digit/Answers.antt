@@ -1,5 +1,5 @@
 -- `hexadecimal::is_digit` meets its contract: each way out has its own stretch of the characters.
-use Rattle.hexadecimal.proofs.Digits.{digit_too_low, digit_too_high, digit_low, digit_high}
+use Rattle.hexadecimal.proofs.DigitLaws.{digit_too_low, digit_too_high, digit_low, digit_high}
 use Rattle.hexadecimal.proofs.is_digit.Goals as goal
 
 pub returns-then-c-lt48 : goal.returns-then-c-lt48

@@ -1,7 +1,7 @@
 -- `notice::value` meets its contract: a digit is at least 48, and what is left of it is below 16.
 use mathlib.Core.Path.{subst}
 use Prim.Native.Nat.{ℕ, ◌<◌}
-use Rattle.hexadecimal.proofs.Digits.{digit_least, value_numeral, value_letter, value_below}
+use Rattle.hexadecimal.proofs.DigitLaws.{digit_least, value_numeral, value_letter, value_below}
 use borrow.Author.Rules.{rules}
 use Rattle.hexadecimal.proofs.value.Goals as goal
 

@@ -1,12 +1,12 @@
--- `hexadecimal::read_bytes` meets its contract. The invariant: the first i bytes spelt are written, and the rest is as it was.
+-- `hexadecimal::Digits::read_bytes` meets its contract. The invariant: the first i bytes spelt are written, and the rest is as it was.
 use native.Mathlib.Omega.{arith}
 use Rattle.hexadecimal.proofs.Spelling.{length_bytes, bytes_more}
 use Rattle.lists.proofs.Copies.{copied_none, copied_all}
 use borrow.Author.Rules.{rules}
-use Rattle.hexadecimal.proofs.read_bytes.Goals as goal
+use Rattle.hexadecimal.proofs.Digits.read_bytes.Goals as goal
 
 pub returns : goal.returns
-returns c = copied_all c.loop-i.invariant (omega (arith, length_bytes c.args.digits.now))
+returns c = copied_all c.loop-i.invariant (omega (arith, length_bytes c.args.self.bytes.now))
 
 pub loop-i-init : goal.loop-i-init
 loop-i-init c = search (copied_none, rules)
