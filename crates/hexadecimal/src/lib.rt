@@ -24,19 +24,12 @@ impl<'a> Digits<'a> {
         Digits { bytes: &s[..end] }
     }
 
-    // How many there are.
-    pub fn length(self) -> usize
-        ensures { result ≡ length self.entry.bytes.now }
-    {
-        self.bytes.len()
-    }
-
     // Puts the bytes that the digits spell at the start of the frame buffer.
     pub fn read_bytes(self, frame: &mut [u8])
         requires { length self.bytes.now ≤ 2 * length frame.old }
         ensures { frame.new ≡ overwrite (bytes_of self.entry.bytes.now) frame.old }
     {
-        for i in 0..self.length() / 2 {
+        for i in 0..self.bytes.len() / 2 {
             frame[i] = self.byte_at(i);
         }
     }
