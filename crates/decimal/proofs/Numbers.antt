@@ -6,12 +6,12 @@ use Prim.Native.Nat.{ℕ, zero, suc, ◌+◌, ◌/◌, ◌%◌, ◌^◌, ◌≤�
 use native.Mathlib.Nat.{zero-add, one-le-pow, pow-succ', div-one, div-div-eq-div-mul}
 use native.Mathlib.Omega.{arith}
 use lib.Dec.{ltb}
-use lib.ListN.{length, set, length-append}
+use lib.ListN.{length, set, length-append, length-set}
 use borrow.Author.Tests.{ltb-true, ltb-false}
 use Rattle.lists.proofs.Appends.{append_none}
 use Rattle.decimal.specs.Decimal.{numeral, decimal, field}
 use Rattle.decimal.specs.Placed.{Placed}
-use Rattle.decimal.proofs.Decimals.{decimal_one, decimal_more}
+use Rattle.decimal.proofs.Decimals.{decimal_one, decimal_more, decimal_long}
 use Rattle.decimal.proofs.Places.{placed_byte, placed_none, placed_before, placed_size, placed_join, placed_text, placed_end}
 
 -- ---- how many digits
@@ -37,6 +37,8 @@ pub digits_are : (k n : ℕ) → 10 ^ suc k ≤ n → n < 10 ^ suc (suc k) → s
 digits_are zero n h l = omega (arith, more_length n (omega arith), one_length (n / 10) (omega arith))
 digits_are (suc k) n h l = omega (arith, more_length n (omega arith), digits_are k (n / 10) (omega arith) (omega arith))
 
+pub ruleset between_powers = (digits_first, digits_are)
+
 -- the last k, and the d before them
 pub digits_behind : (k n d : ℕ) → 10 ^ k ≤ n → d ≡ length (decimal (n / 10 ^ k)) → k + d ≡ length (decimal n)
 digits_behind zero n d h e = zero-add d ∙ e ∙ ap (λ (m : ℕ). length (decimal m)) (div-one n)
@@ -44,6 +46,12 @@ digits_behind (suc k) n d h e =
     let q : n / 10 ^ suc k ≡ n / 10 / 10 ^ k = ap (λ (m : ℕ). n / m) (pow-succ' 10 k) ∙ sym (div-div-eq-div-mul n 10 (10 ^ k)) in
     let p : 1 ≤ 10 ^ k = one-le-pow k 10 (omega arith) in
     omega (arith, more_length n (omega arith), digits_behind k (n / 10) d (omega arith) (e ∙ ap (λ (m : ℕ). length (decimal m)) q))
+
+-- a number of 64 bits: what stands before its last ten digits is short
+pub digits_before : (n : ℕ) → n < 2 ^ 64 → length (decimal (n / 10 ^ 10)) ≤ 20
+digits_before n h = decimal_long (n / 10 ^ 10) (omega arith)
+
+pub ruleset long_numbers = (digits_behind, digits_before)
 
 -- ---- a turn
 
@@ -97,6 +105,8 @@ module _ (n at : ℕ) (old : List ℕ) (room : at + length (decimal n) ≤ lengt
         subst (λ (j : ℕ). Placed (decimal n) j old end (set line i (numeral m))) q
         (placed_text (placed_before (numeral m) f.stands fill_inside) (sym (f.whole ∙ ap (λ (r : List ℕ). r ++ f.text) (decimal_one m h))))
 
+pub ruleset filling = (digits_some, fill_start, fill_size, fill_place, fill_before, fill_more, fill_end)
+
 -- ---- a field
 
 pub field-length : (text : List ℕ) → length (field text) ≡ length text + 1
@@ -107,3 +117,5 @@ field-length text = omega arith
 pub field_placed : {text old new : List ℕ} {at end : ℕ} → Placed text (at + 1) (set old at 32) end new → at < length old → Placed (field text) at old end new
 unfolding field
 field_placed {old = old} {at = at} w h = placed_join (placed_byte at old 32 h) w (omega arith)
+
+pub ruleset fields = (field-length, field_placed, length-set)

@@ -2,11 +2,15 @@
 use mathlib.Core.Path.{◌≡◌, refl, sym, ap, ◌∙◌}
 use mathlib.Core.Logic.{◌⊎◌, inl, inr}
 use mathlib.Core.Bool.{Bool, true, false, ◌&&◌}
+use mathlib.Core.List.{List}
 use Prim.Native.Nat.{ℕ, ◌+◌, ◌-◌, ◌≤◌, ◌<◌}
 use native.Mathlib.Omega.{arith}
 use lib.Dec.{eqb, leb}
+use lib.ListN.{length, get_or}
 use borrow.Author.Tests.{leb-true, lt-ltb, le-ltb, le-leb, lt-leb, ne_eqb}
 use Rattle.lists.proofs.Tests.{and-true, and_intro, or_true, or_left, or_right, lt_or_ge}
+use Rattle.lists.specs.Lists.{allb}
+use Rattle.lists.proofs.Scans.{all-at}
 use Rattle.hexadecimal.specs.Hex.{hex_digit, is_digit, digit_value}
 
 -- a digit is one of 0 to 9 or of A to F
@@ -42,6 +46,12 @@ digit_high {c} h k = rw (le-leb 48 c (omega arith), lt-leb c 57 h, le-leb c 70 k
     and_one true = refl
     and_one false = refl
 
+pub ruleset digit_tests = (digit_too_low, digit_too_high, digit_low, digit_high)
+
+-- each of some digits is one
+pub digit_at : (ds : List ℕ) (i : ℕ) → allb is_digit ds ≡ true → i < length ds → is_digit (get_or ds i 0) ≡ true
+digit_at ds i h l = all-at is_digit ds i 0 l h
+
 -- a digit is at least 48
 pub digit_least : (c : ℕ) → is_digit c ≡ true → 48 ≤ c
 digit_least c h = go (digit_cases c h)
@@ -72,6 +82,8 @@ value_below c h = go (digit_cases c h)
     go : ((48 ≤ c) × (c ≤ 57)) ⊎ ((65 ≤ c) × (c ≤ 70)) → digit_value c < 16
     go (inl p) = let e = value_numeral c (omega arith) in omega arith
     go (inr p) = let e = value_letter c (omega arith) in omega arith
+
+pub ruleset digit_values = (value_numeral, value_letter, value_below, digit_least)
 
 -- digit and value are each other's inverse
 pub digit_value_lem : (c : ℕ) → is_digit c ≡ true → hex_digit (digit_value c) ≡ c

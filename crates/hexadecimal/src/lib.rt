@@ -25,6 +25,7 @@ impl<'a> Digits<'a> {
     }
 
     // Puts the bytes that the digits spell at the start of the frame buffer.
+    #[tactic(auto, using(crate::proofs::Spelling::bytes_read))]
     pub fn read_bytes(self, frame: &mut [u8])
         requires { length self.bytes.now ≤ 2 * length frame.old }
         ensures { frame.new ≡ overwrite (bytes_of self.entry.bytes.now) frame.old }
@@ -35,6 +36,7 @@ impl<'a> Digits<'a> {
     }
 
     // Byte i of those that the digits spell.
+    #[tactic(auto, using(crate::proofs::DigitLaws::digit_at, crate::proofs::Spelling::byte_spelt))]
     pub fn byte_at(self, i: usize) -> u8
         requires { 2 * i + 1 < length self.bytes.now }
         ensures { result ≡ get_or (bytes_of self.entry.bytes.now) i 0 }
@@ -46,6 +48,7 @@ impl<'a> Digits<'a> {
 }
 
 // Puts two digits for each byte of the frame at the start of the line buffer.
+#[tactic(auto, using(crate::proofs::Spelling::digits_written))]
 pub fn write_digits(line: &mut [u8], frame: &[u8])
     requires { 2 * length frame.now ≤ length line.old }
     ensures { line.new ≡ overwrite (digits_of frame.now) line.old }
@@ -57,6 +60,7 @@ pub fn write_digits(line: &mut [u8], frame: &[u8])
 }
 
 // Whether c is a digit: lower case is not. Both ends first, so that what is left is told by one more test.
+#[tactic(auto, using(crate::proofs::DigitLaws::digit_tests))]
 fn is_digit(c: u8) -> bool
     ensures { result ≡ is_digit c }
 {
@@ -73,6 +77,7 @@ fn is_digit(c: u8) -> bool
 }
 
 // The number that a digit stands for.
+#[tactic(auto, using(crate::proofs::DigitLaws::digit_values))]
 fn value(c: u8) -> u8
     requires { is_digit c ≡ true }
     ensures { (result ≡ digit_value c) × (result < 16) }
@@ -81,6 +86,7 @@ fn value(c: u8) -> u8
 }
 
 // The digit of a number below 16.
+#[tactic(auto, using(crate::proofs::DigitLaws::digit_numeral, crate::proofs::DigitLaws::digit_letter))]
 fn digit(d: u8) -> u8
     requires { d < 16 }
     ensures { result ≡ hex_digit d }

@@ -5,9 +5,5 @@ use Rattle.decimal.proofs.Decimals.{decimal_long}
 use Rattle.decimal.proofs.Numbers.{digits_behind}
 use Rattle.decimal.proofs.digits.Goals as goal
 
-pub overflow_add-result : goal.overflow_add-result
-overflow_add-result c =
-    omega (arith, c.few_digits-2.ensures, decimal_long (c.args.n / 10 ^ 10) (omega arith))
-
 pub returns : goal.returns
 returns c = search digits_behind

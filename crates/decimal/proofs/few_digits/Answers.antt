@@ -3,9 +3,6 @@ use borrow.Author.Rules.{rules}
 use Rattle.decimal.proofs.Numbers.{digits_first, digits_are}
 use Rattle.decimal.proofs.few_digits.Goals as goal
 
-pub returns-then-n-lt10 : goal.returns-then-n-lt10
-returns-then-n-lt10 c = search digits_first
-
 pub returns-then-n-lt100 : goal.returns-then-n-lt100
 returns-then-n-lt100 c = digits_are 0 _ (search rules) (search rules)
 

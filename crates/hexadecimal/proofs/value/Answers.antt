@@ -16,6 +16,3 @@ returns-else-c-lt65 c = (
   search (value_letter, rules),
   subst (λ (n : ℕ). n < 16) (value_letter _ c.if-c-lt65.false) (value_below _ c.requires),
 )
-
-pub overflow_sub-result : goal.overflow_sub-result
-overflow_sub-result c = search digit_least

@@ -5,11 +5,5 @@ use Rattle.lists.proofs.Copies.{copied_none, copied_all}
 use borrow.Author.Rules.{rules}
 use Rattle.hexadecimal.proofs.Digits.read_bytes.Goals as goal
 
-pub returns : goal.returns
-returns c = copied_all c.loop-i.invariant (omega (arith, length_bytes c.args.self.bytes.now))
-
-pub loop-i-init : goal.loop-i-init
-loop-i-init c = search (copied_none, rules)
-
 pub loop-i-preserved : goal.loop-i-preserved
 loop-i-preserved c = search (bytes_more, rules)
