@@ -7,7 +7,7 @@ ghost use Rattle.decimal.specs.Decimal.{decimal, field};
 ghost use Rattle.decimal.specs.Placed.{Placed};
 
 // How many digits a number below 10,000,000,000 has, and so any of 32 bits: by comparisons, which are quicker than a division for each digit.
-#[tactic(auto, using(crate::proofs::Numbers::between_powers))]
+#[tactic(auto, using(crate::proofs::Numbers::ten_digits))]
 fn few_digits(n: u64) -> usize
     requires { n < 10 ^ 10 }
     ensures { result ≡ length (decimal n) }

@@ -16,8 +16,7 @@ pub struct Digits<'a> {
 impl<'a> Digits<'a> {
     // The digits that some bytes begin with: what stands behind them is no digit, or the end.
     pub fn leading(s: &'a [u8]) -> Digits<'a>
-        ensures {
-            let n = length result.bytes.now in
+        ensures { let n = length result.bytes.now in
             (n ≤ length s.now) × (result.bytes.now ≡ take n s.now) × (n < length s.now → is_digit (get_or s.now n 0) ≡ false) }
     {
         let end = s.iter().position(|c| !is_digit(*c)).unwrap_or(s.len());
@@ -60,7 +59,7 @@ pub fn write_digits(line: &mut [u8], frame: &[u8])
 }
 
 // Whether c is a digit: lower case is not. Both ends first, so that what is left is told by one more test.
-#[tactic(auto, using(crate::proofs::DigitLaws::digit_tests))]
+#[tactic(auto, unfolding(crate::specs::Hex::is_digit))]
 fn is_digit(c: u8) -> bool
     ensures { result ≡ is_digit c }
 {
@@ -77,7 +76,7 @@ fn is_digit(c: u8) -> bool
 }
 
 // The number that a digit stands for.
-#[tactic(auto, using(crate::proofs::DigitLaws::digit_values))]
+#[tactic(auto, unfolding(crate::specs::Hex::is_digit, crate::specs::Hex::digit_value))]
 fn value(c: u8) -> u8
     requires { is_digit c ≡ true }
     ensures { (result ≡ digit_value c) × (result < 16) }
@@ -86,7 +85,7 @@ fn value(c: u8) -> u8
 }
 
 // The digit of a number below 16.
-#[tactic(auto, using(crate::proofs::DigitLaws::digit_numeral, crate::proofs::DigitLaws::digit_letter))]
+#[tactic(auto, unfolding(crate::specs::Hex::hex_digit))]
 fn digit(d: u8) -> u8
     requires { d < 16 }
     ensures { result ≡ hex_digit d }
