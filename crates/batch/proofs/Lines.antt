@@ -16,7 +16,7 @@ use Rattle.lists.proofs.Appends.{append_none, append_append}
 use Rattle.graph.specs.Opening.{notice_of}
 use Rattle.graph.specs.Batch.{entry_of}
 use Rattle.hexadecimal.specs.Hex.{is_digit, digits_of}
-use Rattle.hexadecimal.proofs.Digits.{digit_no_end}
+use Rattle.hexadecimal.proofs.DigitLaws.{digit_no_end}
 use Rattle.hexadecimal.proofs.Spelling.{all_digits}
 use Rattle.notice.specs.Lines.{yard_kind, opens_depot, line_end, line_of, Line, garbled, frame, read_line, onto, lines_of}
 use Rattle.notice.proofs.Readings.{behind, FrameStands}

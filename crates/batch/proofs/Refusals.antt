@@ -46,3 +46,5 @@ module _ (W : ℕ) (members input : List ℕ) where
       pub refused_nothing : e ≡ false → allb is_opening (lines_of input) ≡ true → 0 ≡ first_of (batch_faults number input)
       unfolding batch_faults first_of
       refused_nothing h q = rw (← count, le-ltb batch_limit k few, bare empty, h, q)
+
+pub ruleset refused_lines = (refused_overfull, refused_bare, refused_garbled, refused_nothing)

@@ -3,7 +3,7 @@
 
 #![tactic(auto)]
 
-ghost use Rattle.std.specs.Prelude.{[], ◌≡◌, true, cond, not, ◌&&◌, ◌≤◌, ◌<◌, length};
+ghost use Rattle.std.specs.Prelude.{[], ◌≡◌, true, cond, not, ◌&&◌, ◌≤◌, ◌<◌, length, IfOk};
 ghost use Rattle.lists.specs.Lists.{allb, first_of};
 ghost use Rattle.graph.specs.Distance.{vertices};
 ghost use Rattle.graph.specs.Batch.{accepts, first_fit};
@@ -75,23 +75,6 @@ fn all_open(lines: &[u8]) -> bool
     true
 }
 
-// The first of the refusals 11, 12 and 9 that holds.
-pub fn lines_refusal(members: &[u64], words: usize, lines: &[u8]) -> Result<(), Refusal>
-    requires { words ≤ length members.now }
-    ensures { refused_by result ≡ first_of (batch_faults (length (vertices (network_of words members.now []))) lines.now) }
-{
-    if LIMIT < count_lines(lines) {
-        return Err(Refusal::Overfull);
-    }
-    if rows::is_empty(members, words) {
-        return Err(Refusal::Bare);
-    }
-    if !all_open(lines) {
-        return Err(Refusal::Garbled);
-    }
-    Ok(())
-}
-
 // ---- the scan
 
 // Whether the line of a number is not taken, and its notice, which stands in the frame, can be accepted.
@@ -107,42 +90,69 @@ fn fits(members: &[u64], frame: &[u8], words: usize, taken: u64, number: u8, n: 
     admission::notice_refusal(members, words, code, &frame[3..n]).is_ok()
 }
 
-// The first line, in their order, that is not taken and can be accepted with these depots open. Its notice is left in the frame. Only the open
-// set is asked, so that no table is lent.
-pub fn first_fit(
-    members: &[u64],
-    frame: &mut [u8],
-    words: usize,
-    taken: u64,
-    lines: &[u8],
-) -> Option<Fit>
-    requires { (base.words ≤ words)
-        × (words < 513)
-        × (words ≤ length members.now)
-        × (frame_limit ≤ length frame.old)
-        × (length (lines_of lines.now) ≤ batch_limit)
-        × (allb is_opening (lines_of lines.now) ≡ true) }
-    ensures { let waiting = waiting_of taken (entries_of lines.now) in
-        (fit_of result frame.new ≡ first_fit (network_of words members.now []) waiting)
-        × FitsFrame result (length frame.new) }
-{
-    // The place goes from line to line, each as long as it reads, so that no range counts it; the number goes with it.
-    let mut at: usize = 0;
-    let mut number: u8 = 0;
-    while at < lines.len() {
-        let Ok(got) = notice::read_notice(frame, &lines[at..]) else {
-            return None;
-        };
-        if fits(members, &*frame, words, taken, number, got.length) {
-            return Some(Fit {
-                number,
-                length: got.length,
-            });
+// The lines of a batch that nothing refuses: each opens something, and they are counted.
+#[derive(Clone, Copy)]
+pub struct Openings<'a> {
+    pub lines: &'a [u8],
+    pub count: usize,
+    pub ghost counted: { count ≡ length (lines_of lines.now) },
+    pub ghost few: { count ≤ batch_limit },
+    pub ghost opening: { allb is_opening (lines_of lines.now) ≡ true },
+}
+
+impl<'a> Openings<'a> {
+    // The lines, or the first of the refusals 11, 12 and 9 that holds.
+    #[tactic(auto, using(crate::proofs::Refusals::refused_lines))]
+    pub fn judged(members: &[u64], words: usize, lines: &'a [u8]) -> Result<Openings<'a>, Refusal>
+        requires { words ≤ length members.now }
+        ensures refused { refused_by result ≡ first_of (batch_faults (length (vertices (network_of words members.now []))) lines.now) }
+        ensures same { IfOk result (λ o. o.lines.now ≡ lines.now) }
+    {
+        let count = count_lines(lines);
+        if LIMIT < count {
+            return Err(Refusal::Overfull);
         }
-        at += got.used;
-        number += 1;
+        if rows::is_empty(members, words) {
+            return Err(Refusal::Bare);
+        }
+        if !all_open(lines) {
+            return Err(Refusal::Garbled);
+        }
+        Ok(Openings { lines, count })
     }
-    None
+
+    // The first line, in their order, that is not taken and can be accepted with these depots open. Its notice is left in the frame. Only the open
+    // set is asked, so that no table is lent.
+    pub fn first_fit(
+        self,
+        members: &[u64],
+        frame: &mut [u8],
+        words: usize,
+        taken: u64,
+    ) -> Option<Fit>
+        requires { (base.words ≤ words) × (words < 513) × (words ≤ length members.now) × (frame_limit ≤ length frame.old) }
+        ensures { let waiting = waiting_of taken (entries_of self.entry.lines.now) in
+            (fit_of result frame.new ≡ first_fit (network_of words members.now []) waiting)
+            × FitsFrame result (length frame.new) }
+    {
+        // The place goes from line to line, each as long as it reads, so that no range counts it; the number goes with it.
+        let mut at: usize = 0;
+        let mut number: u8 = 0;
+        while at < self.lines.len() {
+            let Ok(got) = notice::read_notice(frame, &self.lines[at..]) else {
+                return None;
+            };
+            if fits(members, &*frame, words, taken, number, got.length) {
+                return Some(Fit {
+                    number,
+                    length: got.length,
+                });
+            }
+            at += got.used;
+            number += 1;
+        }
+        None
+    }
 }
 
 // ---- those left over

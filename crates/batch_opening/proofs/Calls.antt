@@ -67,3 +67,11 @@ module _ (K : Shape) (rec : Record) (links : List ℕ) (B : Lent) (places input 
           left = (l i).places;
         })
         ∙ ap (λ (m : ℕ). batch_given m K rec links B places input) ok
+
+-- the lines as the judge hands them on
+pub opened_lines : (K : Shape) (rec : Record) (links : List ℕ) (B : Lent) (places input : List ℕ) {read : List ℕ} → read ≡ input → {count : ℕ} → count ≡ length (lines_of read) → allb is_opening (lines_of read) ≡ true
+    → (p : BatchProgress) {links' : List ℕ} {B' : Lent} → batch_standing p links' B' read ≡ turns_on count K (batch_standing (batch_begun rec) links B read)
+    → {over : ℕ} {left : List ℕ} → 0 ≡ batch_refusal K rec links B.pairs (sizes_of links B) (length places) input → leavings over left ≡ left_over (left_numbers p.taken count) places
+    → batch_left rec (Ok (record { left = over; after = p.after })) links' B' left ≡ batch_call K rec links B places input
+opened_lines K rec links B places input same counted opening p turned ok e =
+    rw (← same) (opened_batch K rec links B places _ counted opening p turned (rw (← same) at ok) e)

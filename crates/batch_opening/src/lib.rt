@@ -2,8 +2,7 @@
 
 #![tactic(auto)]
 
-ghost use Rattle.std.specs.Prelude.{[], ◌≡◌, true, ◌&&◌, ◌||◌, ◌≤◌, ◌<◌, eqb, leb, length};
-ghost use Rattle.lists.specs.Lists.{allb};
+ghost use Rattle.std.specs.Prelude.{[], ◌≡◌, ◌&&◌, ◌||◌, ◌≤◌, ◌<◌, eqb, leb, length, IfOk};
 ghost use Rattle.words.specs.Bits.{bit, word_of};
 ghost use Rattle.graph.specs.Batch.{first_fit};
 ghost use Rattle.map.specs.Memory.{base, network_of};
@@ -11,15 +10,14 @@ ghost use Rattle.map.specs.Room.{long_enough};
 ghost use Rattle.map.specs.Slices.{lent_in, room_sizes, IsSameRoom};
 ghost use Rattle.outcome.specs.Refusals.{refused_by};
 ghost use Rattle.update.specs.Steps.{map_refusal};
-ghost use Rattle.notice.specs.Lines.{lines_of};
 ghost use Rattle.notice.specs.Calls.{frame_limit};
-ghost use Rattle.batch.specs.Lines.{batch_limit, is_opening, entries_of};
+ghost use Rattle.batch.specs.Lines.{batch_limit, entries_of};
 ghost use Rattle.batch.specs.Steps.{waiting_of, notice_at, fit_of, FitsFrame};
 ghost use Rattle.batch_update.specs.BatchCall.{batch_refusal, lent_memory, memory_left, opening_on, batch_left, batch_call};
 ghost use Rattle.batch_update.specs.Steps.{turns_on};
 ghost use Rattle.batch_opening.specs.Steps.{batch_standing, batch_begun};
 
-use batch::Fit;
+use batch::{Fit, Openings};
 use batch_update::Batched;
 use map::{Record, Room};
 use outcome::Refusal;
@@ -40,36 +38,35 @@ fn are_long(links: usize, room: &Room<'_>, left: usize) -> bool
     batch::LIMIT <= left && room.is_long(links)
 }
 
-// The first refusal that holds. It only reads.
-fn batch_refusal(
+// The lines, or the first refusal that holds. It only reads.
+fn batch_refusal<'a>(
     rec: Record,
     links: &[u64],
     room: &Room<'_>,
     left: usize,
-    lines: &[u8],
-) -> Result<(), Refusal>
-    ensures { let long = room_sizes (length links.now) room.now in
+    lines: &'a [u8],
+) -> Result<Openings<'a>, Refusal>
+    ensures refused { let long = room_sizes (length links.now) room.now in
         refused_by result ≡ batch_refusal base rec links.now room.now.pairs.now long left lines.now }
+    ensures same { IfOk result (λ o. o.lines.now ≡ lines.now) }
 {
     let long = are_long(links.len(), room, left);
     lent_map::map_refusal(rec, links, Some(&*room.pairs), long)?;
     let members = rec.members;
-    batch::lines_refusal(&members, map::WORDS, lines)
+    Openings::judged(&members, map::WORDS, lines)
 }
 
 // ---- the openings
 
 // The first line that can be accepted on the map of this record.
-fn next_fit(rec: Record, frame: &mut [u8], taken: u64, lines: &[u8]) -> Option<Fit>
-    requires { (frame_limit ≤ length frame.old)
-        × (length (lines_of lines.now) ≤ batch_limit)
-        × (allb is_opening (lines_of lines.now) ≡ true) }
-    ensures { let waiting = waiting_of taken (entries_of lines.now) in
+fn next_fit(rec: Record, frame: &mut [u8], taken: u64, openings: Openings<'_>) -> Option<Fit>
+    requires { frame_limit ≤ length frame.old }
+    ensures { let waiting = waiting_of taken (entries_of openings.entry.lines.now) in
         (fit_of result frame.new ≡ first_fit (network_of base.words rec.members []) waiting)
         × FitsFrame result (length frame.new) }
 {
     let members = rec.members;
-    batch::first_fit(&members, frame, map::WORDS, taken, lines)
+    openings.first_fit(&members, frame, map::WORDS, taken)
 }
 
 // Opens the notice that stands in the frame, and marks its line as taken.
@@ -104,24 +101,21 @@ fn open_lines(
     rec: Record,
     links: &mut [u64],
     room: &mut Room<'_>,
-    count: usize,
-    lines: &[u8],
+    openings: Openings<'_>,
 ) -> BatchProgress
-    requires { let long = room_sizes (length links.old) room.old in
-        (map_refusal base rec links.old room.old.pairs.now long ≡ 0)
-        × (length (lines_of lines.now) ≤ batch_limit)
-        × (allb is_opening (lines_of lines.now) ≡ true) }
+    requires { map_refusal base rec links.old room.old.pairs.now (room_sizes (length links.old) room.old) ≡ 0 }
     ensures same { IsSameRoom room.old room.new }
-    ensures left { let before = batch_standing (batch_begun rec) links.old (lent_in room.old) lines.now in
-        batch_standing result links.new (lent_in room.new) lines.now ≡ turns_on count base before }
+    ensures left { let lines = openings.entry.lines.now in
+        let before = batch_standing (batch_begun rec) links.old (lent_in room.old) lines in
+        batch_standing result links.new (lent_in room.new) lines ≡ turns_on openings.entry.count base before }
 {
     let mut frame = [0u8; notice::FRAME_LIMIT];
     let mut progress = BatchProgress {
         after: rec,
         taken: 0,
     };
-    for _turn in 0..count {
-        let Some(fit) = next_fit(progress.after, &mut frame, progress.taken, lines) else {
+    for _turn in 0..openings.count {
+        let Some(fit) = next_fit(progress.after, &mut frame, progress.taken, openings) else {
             return progress;
         };
         progress = take_line(progress, links, room, &frame, fit);
@@ -144,10 +138,9 @@ pub fn open_batch(
     ensures left { batch_left rec result links.new (lent_in room.new) left.new
         ≡ batch_call base rec links.old (lent_in room.old) left.old lines.now }
 {
-    batch_refusal(rec, &*links, &*room, left.len(), lines)?;
-    let count = batch::count_lines(lines);
-    let got = open_lines(rec, links, room, count, lines);
-    let over = batch::put_left(left, got.taken, count);
+    let openings = batch_refusal(rec, &*links, &*room, left.len(), lines)?;
+    let got = open_lines(rec, links, room, openings);
+    let over = batch::put_left(left, got.taken, openings.count);
     Ok(Batched {
         left: over,
         after: got.after,

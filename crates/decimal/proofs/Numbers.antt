@@ -6,12 +6,12 @@ use Prim.Native.Nat.{ℕ, zero, suc, ◌+◌, ◌/◌, ◌%◌, ◌^◌, ◌≤�
 use native.Mathlib.Nat.{zero-add, one-le-pow, pow-succ', div-one, div-div-eq-div-mul}
 use native.Mathlib.Omega.{arith}
 use lib.Dec.{ltb}
-use lib.ListN.{length, set, length-append}
+use lib.ListN.{length, set, length-append, length-set}
 use borrow.Author.Tests.{ltb-true, ltb-false}
 use Rattle.lists.proofs.Appends.{append_none}
 use Rattle.decimal.specs.Decimal.{numeral, decimal, field}
 use Rattle.decimal.specs.Placed.{Placed}
-use Rattle.decimal.proofs.Decimals.{decimal_one, decimal_more}
+use Rattle.decimal.proofs.Decimals.{decimal_one, decimal_more, decimal_long}
 use Rattle.decimal.proofs.Places.{placed_byte, placed_none, placed_before, placed_size, placed_join, placed_text, placed_end}
 
 -- ---- how many digits
@@ -32,18 +32,31 @@ digits_some n = by_size (ltb n 10) refl
 pub digits_first : (n : ℕ) → n < 10 → 1 ≡ length (decimal n)
 digits_first n h = sym (one_length n h)
 
--- between two powers of ten
-pub digits_are : (k n : ℕ) → 10 ^ suc k ≤ n → n < 10 ^ suc (suc k) → suc (suc k) ≡ length (decimal n)
-digits_are zero n h l = omega (arith, more_length n (omega arith), one_length (n / 10) (omega arith))
-digits_are (suc k) n h l = omega (arith, more_length n (omega arith), digits_are k (n / 10) (omega arith) (omega arith))
-
--- the last k, and the d before them
-pub digits_behind : (k n d : ℕ) → 10 ^ k ≤ n → d ≡ length (decimal (n / 10 ^ k)) → k + d ≡ length (decimal n)
-digits_behind zero n d h e = zero-add d ∙ e ∙ ap (λ (m : ℕ). length (decimal m)) (div-one n)
-digits_behind (suc k) n d h e =
+-- the last k, and those before them
+digits_behind : (k n : ℕ) → 10 ^ k ≤ n → length (decimal n) ≡ k + length (decimal (n / 10 ^ k))
+digits_behind zero n h = sym (zero-add (length (decimal (n / 1))) ∙ ap (λ (m : ℕ). length (decimal m)) (div-one n))
+digits_behind (suc k) n h =
     let q : n / 10 ^ suc k ≡ n / 10 / 10 ^ k = ap (λ (m : ℕ). n / m) (pow-succ' 10 k) ∙ sym (div-div-eq-div-mul n 10 (10 ^ k)) in
     let p : 1 ≤ 10 ^ k = one-le-pow k 10 (omega arith) in
-    omega (arith, more_length n (omega arith), digits_behind k (n / 10) d (omega arith) (e ∙ ap (λ (m : ℕ). length (decimal m)) q))
+    omega (arith, more_length n (omega arith), digits_behind k (n / 10) (omega arith), ap (λ (m : ℕ). length (decimal m)) q)
+
+pub digits_three : (n : ℕ) → 10 ^ 3 ≤ n → length (decimal n) ≡ 3 + length (decimal (n / 10 ^ 3))
+digits_three n h = digits_behind 3 n h
+
+pub digits_six : (n : ℕ) → 10 ^ 6 ≤ n → length (decimal n) ≡ 6 + length (decimal (n / 10 ^ 6))
+digits_six n h = digits_behind 6 n h
+
+pub digits_ten : (n : ℕ) → 10 ^ 10 ≤ n → length (decimal n) ≡ 10 + length (decimal (n / 10 ^ 10))
+digits_ten n h = digits_behind 10 n h
+
+-- one digit, or those of a shorter number and the ones behind them: enough for up to ten digits
+pub ruleset ten_digits = (digits_first, digits_three, digits_six, more_length)
+
+-- a number of 64 bits: what stands before its last ten digits is short
+pub digits_before : (n : ℕ) → n < 2 ^ 64 → length (decimal (n / 10 ^ 10)) ≤ 20
+digits_before n h = decimal_long (n / 10 ^ 10) (omega arith)
+
+pub ruleset long_numbers = (digits_ten, digits_before)
 
 -- ---- a turn
 
@@ -97,6 +110,8 @@ module _ (n at : ℕ) (old : List ℕ) (room : at + length (decimal n) ≤ lengt
         subst (λ (j : ℕ). Placed (decimal n) j old end (set line i (numeral m))) q
         (placed_text (placed_before (numeral m) f.stands fill_inside) (sym (f.whole ∙ ap (λ (r : List ℕ). r ++ f.text) (decimal_one m h))))
 
+pub ruleset filling = (digits_some, more_length, fill_start, fill_size, fill_place, fill_more, fill_end)
+
 -- ---- a field
 
 pub field-length : (text : List ℕ) → length (field text) ≡ length text + 1
@@ -104,6 +119,9 @@ unfolding field
 field-length text = omega arith
 
 -- a space, and the text behind it
-pub field_placed : {text old new : List ℕ} {at end : ℕ} → Placed text (at + 1) (set old at 32) end new → at < length old → Placed (field text) at old end new
+pub field_placed : {text old new : List ℕ} {at end : ℕ} → Placed text (at + 1) (set old at 32) end new → at + length (field text) ≤ length old
+    → Placed (field text) at old end new
 unfolding field
-field_placed {old = old} {at = at} w h = placed_join (placed_byte at old 32 h) w (omega arith)
+field_placed {old = old} {at = at} w h = placed_join (placed_byte at old 32 (omega arith)) w (omega arith)
+
+pub ruleset fields = (field-length, field_placed, length-set)

@@ -7,6 +7,7 @@ ghost use Rattle.decimal.specs.Decimal.{decimal, field};
 ghost use Rattle.decimal.specs.Placed.{Placed};
 
 // How many digits a number below 10,000,000,000 has, and so any of 32 bits: by comparisons, which are quicker than a division for each digit.
+#[tactic(auto, using(crate::proofs::Numbers::ten_digits))]
 fn few_digits(n: u64) -> usize
     requires { n < 10 ^ 10 }
     ensures { result ≡ length (decimal n) }
@@ -42,6 +43,7 @@ fn few_digits(n: u64) -> usize
 }
 
 // How many digits a number has: from 10,000,000,000 on, the last ten and those before them.
+#[tactic(auto, using(crate::proofs::Numbers::long_numbers))]
 fn digits(n: u64) -> usize
     ensures { result ≡ length (decimal n) }
 {
@@ -52,6 +54,7 @@ fn digits(n: u64) -> usize
 }
 
 // Puts a number at a place of the line, from its last digit to its first, and answers the place behind it.
+#[tactic(auto, using(crate::proofs::Numbers::filling))]
 pub fn put_number(line: &mut [u8], at: usize, n: u64) -> usize
     requires { at + length (decimal n) ≤ length line.old }
     ensures { Placed (decimal n) at line.old result line.new }
@@ -70,6 +73,7 @@ pub fn put_number(line: &mut [u8], at: usize, n: u64) -> usize
 }
 
 // Puts a space and a number at a place of the line.
+#[tactic(auto, using(crate::proofs::Numbers::fields))]
 pub fn put_field(line: &mut [u8], at: usize, n: u64) -> usize
     requires { at + length (field (decimal n)) ≤ length line.old }
     ensures { Placed (field (decimal n)) at line.old result line.new }

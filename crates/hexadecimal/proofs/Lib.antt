@@ -1,4 +1,4 @@
 -- The sixteen digits.
-pub mod Digits
+pub mod DigitLaws
 -- Bytes to digits and back.
 pub mod Spelling

@@ -10,8 +10,8 @@ use borrow.Author.Tests.{ltb-true, lt-ltb}
 use Rattle.lists.specs.Lists.{allb}
 use Rattle.lists.proofs.Tests.{and-true, and_intro}
 use Rattle.hexadecimal.specs.Hex.{hex_digit, is_digit, digit_value, is_byte, digits_of, bytes_of}
-use Rattle.lists.proofs.Copies.{Copied, copied_more, copied_at}
-use Rattle.hexadecimal.proofs.Digits.{value_below, digit_value_lem, value_digit, digit_is}
+use Rattle.lists.proofs.Copies.{Copied, copied_none, copied_more, copied_at, copied_all}
+use Rattle.hexadecimal.proofs.DigitLaws.{value_below, digit_value_lem, value_digit, digit_is}
 
 pub length_digits : (f : List ℕ) → length (digits_of f) ≡ 2 * length f
 unfolding digits_of
@@ -119,3 +119,7 @@ digits_more f old {i = i} w p q h k =
 pub bytes_more : (ds old : List ℕ) {l : List ℕ} {i b : ℕ} → Copied (bytes_of ds) old l i → b ≡ get_or (bytes_of ds) i 0 → i < length ds / 2 → length ds ≤ 2 * length old
     → Copied (bytes_of ds) old (set l i b) (i + 1)
 bytes_more ds old w p h k = let n = length_bytes ds in copied_more w p (omega arith) (omega arith)
+
+pub ruleset bytes_read = (length_bytes, bytes_more, copied_none, copied_all)
+
+pub ruleset digits_written = (length_digits, digits_more, copied_none, copied_all)

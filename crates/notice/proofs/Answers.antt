@@ -6,7 +6,6 @@ use Prim.Native.Nat.{ℕ, ◌+◌, ◌*◌, ◌/◌, ◌≤◌, ◌<◌}
 use native.Mathlib.Omega.{arith}
 use lib.Dec.{ltb}
 use lib.ListN.{length, get_or, set, take, length-take}
-use lib.Seq.{length-take-le}
 use borrow.Author.Tests.{lt-ltb, le-ltb}
 use Rattle.outcome.specs.Numbers.{short_buffer, garbled_line}
 use Rattle.lists.specs.Lists.{allb, overwrite}
@@ -28,46 +27,48 @@ read-head : (input buffer : List ℕ) {head : List ℕ} → head ≡ take line_l
 unfolding read_call read_line
 read-head input buffer e k = rw (le-ltb (length buffer) frame_limit k, e)
 
--- at e stands the first byte of the head that is no digit
-module _ (input : List ℕ) {head : List ℕ} {e : ℕ} (part : head ≡ take line_limit input) (at : (e ≤ length head) × (allb is_digit (take e head) ≡ true) × (e < length head → is_digit (get_or head e 0) ≡ false)) where
-  pub end-most : e ≤ line_limit
-  end-most = omega (arith, at.0, ap length part, length-take line_limit input)
+-- ds are the digits that the head begins with: behind them stands the first byte that is no digit
+module _ (input : List ℕ) {head ds : List ℕ} (part : head ≡ take line_limit input) (digits : allb is_digit ds ≡ true)
+    (at : (length ds ≤ length head) × (ds ≡ take (length ds) head) × (length ds < length head → is_digit (get_or head (length ds) 0) ≡ false)) where
+  pub end_most : length ds ≤ line_limit
+  end_most = omega (arith, at.0, ap length part, length-take line_limit input)
 
-  pub digits-length : e ≡ length (take e head)
-  digits-length = sym (length-take-le e head at.0)
+  -- the digits fit the frame buffer, two to a byte
+  pub digits_fit : (buffer : List ℕ) → (length ds ≡ length head → ⊥) → frame_limit ≤ length buffer → length ds ≤ 2 * length buffer
+  digits_fit buffer n k = omega (arith, at.0, ap length part, length-take line_limit input)
 
-  -- the digits before it fit the frame buffer, two to a byte
-  pub digits-fit : (buffer : List ℕ) → (e ≡ length head → ⊥) → frame_limit ≤ length buffer → length (take e head) ≤ 2 * length buffer
-  digits-fit buffer n k = omega (arith, at.0, digits-length, ap length part, length-take line_limit input)
+  before : allb is_digit (take (length ds) head) ≡ true
+  before = ap (allb is_digit) (sym at.1) ∙ digits
 
-  pub read-endless : (buffer : List ℕ) → e ≡ length head → frame_limit ≤ length buffer → line_left (line_refused garbled_line) buffer ≡ read_call input buffer
-  unfolding read_head read_into
-  read-endless buffer n k = rw (le-ltb (end_of head) (length head) (omega (arith, end_none head e n at.1))) at (read-head input buffer part k)
-
-  pub read-stray : (buffer : List ℕ) → (e ≡ length head → ⊥) → (get_or head e 0 ≡ line_end → ⊥) → frame_limit ≤ length buffer → line_left (line_refused garbled_line) buffer ≡ read_call input buffer
-  unfolding read_head read_into
-  read-stray buffer n o k =
-      let l : e < length head = omega (arith, at.0) in
-      let s = spells_other (take (end_of head) head) (end_stray head e l at.1 o (at.2 l)) in
-      rw (← s, ← and_none (ltb (end_of head) (length head))) at (read-head input buffer part k)
-
-  -- where it is 0A, it is the line's end
-  ended : (e ≡ length head → ⊥) → get_or head e 0 ≡ line_end → e ≡ end_of head
-  ended n o = end_found head e (omega (arith, at.0)) at.1 o
-
-  pub read-other : (buffer : List ℕ) → (e ≡ length head → ⊥) → get_or head e 0 ≡ line_end → spells_frame (take e head) ≡ false → frame_limit ≤ length buffer
+  pub read_endless : (buffer : List ℕ) → length ds ≡ length head → frame_limit ≤ length buffer
       → line_left (line_refused garbled_line) buffer ≡ read_call input buffer
   unfolding read_head read_into
-  read-other buffer n o s k = rw (← ended n o, s, ← and_none (ltb e (length head))) at (read-head input buffer part k)
+  read_endless buffer n k = rw (le-ltb (end_of head) (length head) (omega (arith, end_none head (length ds) n before))) at (read-head input buffer part k)
 
-  pub read_done : (buffer : List ℕ) {after : List ℕ} → after ≡ overwrite (bytes_of (take e head)) buffer → (e ≡ length head → ⊥) → get_or head e 0 ≡ line_end → spells_frame (take e head) ≡ true → frame_limit ≤ length buffer
-      → line_left (line_done (e / 2) (e + 1)) after ≡ read_call input buffer
+  pub read_stray : (buffer : List ℕ) → (length ds ≡ length head → ⊥) → (get_or head (length ds) 0 ≡ line_end → ⊥) → frame_limit ≤ length buffer
+      → line_left (line_refused garbled_line) buffer ≡ read_call input buffer
+  unfolding read_head read_into
+  read_stray buffer n o k =
+      let l : length ds < length head = omega (arith, at.0) in
+      let s = spells_other (take (end_of head) head) (end_stray head (length ds) l before o (at.2 l)) in
+      rw (← s, ← and_none (ltb (end_of head) (length head))) at (read-head input buffer part k)
+
+  -- where it is 0A, it is the line's end, and the digits are what stands before that
+  ended : (length ds ≡ length head → ⊥) → get_or head (length ds) 0 ≡ line_end → end_of head ≡ length ds
+  ended n o = sym (end_found head (length ds) (omega (arith, at.0)) before o)
+
+  pub read_other : (buffer : List ℕ) → (length ds ≡ length head → ⊥) → get_or head (length ds) 0 ≡ line_end → spells_frame ds ≡ false → frame_limit ≤ length buffer
+      → line_left (line_refused garbled_line) buffer ≡ read_call input buffer
+  unfolding read_head read_into
+  read_other buffer n o s k = rw (ended n o, ← at.1, s, ← and_none (ltb (length ds) (length head))) at (read-head input buffer part k)
+
+  pub read_done : (buffer : List ℕ) {after : List ℕ} → after ≡ overwrite (bytes_of ds) buffer → (length ds ≡ length head → ⊥) → get_or head (length ds) 0 ≡ line_end
+      → spells_frame ds ≡ true → frame_limit ≤ length buffer → line_left (line_done (length ds / 2) (length ds + 1)) after ≡ read_call input buffer
   unfolding read_head read_into
   read_done buffer {after} w n o s k =
-      let l : e < length head = omega (arith, at.0) in
-      let m : length (bytes_of (take e head)) ≡ e / 2 = length_bytes (take e head) ∙ ap (λ (i : ℕ). i / 2) (sym digits-length) in
-      ap₂ (λ (i : ℕ) (r : List ℕ). line_left (line_done i (e + 1)) r) (sym m) w
-      ∙ (rw (← ended n o, lt-ltb e (length head) l, s) at (read-head input buffer part k))
+      let l : length ds < length head = omega (arith, at.0) in
+      ap₂ (λ (i : ℕ) (r : List ℕ). line_left (line_done i (length ds + 1)) r) (sym (length_bytes ds)) w
+      ∙ (rw (ended n o, lt-ltb (length ds) (length head) l, ← at.1, s) at (read-head input buffer part k))
 
 -- ---- the writer
 

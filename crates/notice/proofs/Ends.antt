@@ -15,7 +15,7 @@ use Rattle.lists.proofs.Tests.{look, clash, and-true}
 use Rattle.lists.proofs.Scans.{all-at}
 use Rattle.hexadecimal.specs.Hex.{is_digit, digits_of}
 use Rattle.notice.specs.Lines.{line_end, end_of, line_of}
-use Rattle.hexadecimal.proofs.Digits.{digit_no_end}
+use Rattle.hexadecimal.proofs.DigitLaws.{digit_no_end}
 use Rattle.hexadecimal.proofs.Spelling.{length_digits}
 
 -- the end is further on, is here, or is none

@@ -5,12 +5,11 @@
 #![tactic(auto)]
 
 ghost use Rattle.std.specs.Prelude.{◌≡◌, true, eqb, take};
-ghost use Rattle.lists.specs.Lists.{allb};
-ghost use Rattle.hexadecimal.specs.Hex.{is_digit};
 ghost use Rattle.notice.specs.Lines.{line_limit, yard_kind, opens_depot, frame_length, is_frame, spells_frame};
 ghost use Rattle.notice.specs.Kinds.{byte_of, KindIs};
 ghost use Rattle.notice.specs.Calls.{reading_of, writing_of, line_left, read_call, write_call};
 
+use hexadecimal::Digits;
 use outcome::Refusal;
 
 // the most bytes that a frame has, and a line with its ending; in specifications `frame_limit`, `line_limit`
@@ -85,18 +84,18 @@ pub fn read_notice(frame: &mut [u8], input: &[u8]) -> Result<Frame, Refusal>
     }
     let head = first_part(input);
     // one scan finds the line's end: the first byte that is no digit has to be the 0A
-    let end = hexadecimal::digits_end(head);
+    let digits = Digits::leading(head);
+    let end = digits.bytes.len();
     if end == head.len() {
         return Err(Refusal::Garbled);
     }
     if head[end] != 10 {
         return Err(Refusal::Garbled);
     }
-    let digits = &head[..end];
     if !spells_frame(digits) {
         return Err(Refusal::Garbled);
     }
-    hexadecimal::read_bytes(frame, digits);
+    digits.read_bytes(frame);
     Ok(Frame {
         length: end / 2,
         used: end + 1,
@@ -154,19 +153,18 @@ fn frame_length(kind: u8, third: u8) -> usize
 }
 
 // Whether the digits of a line spell a frame: its kind and its third byte say how long it is.
-fn spells_frame(digits: &[u8]) -> bool
-    requires { allb is_digit digits.now ≡ true }
-    ensures { result ≡ spells_frame digits.now }
+fn spells_frame(digits: Digits<'_>) -> bool
+    ensures { result ≡ spells_frame digits.entry.bytes.now }
 {
-    let n = digits.len();
+    let n = digits.bytes.len();
     if n % 2 != 0 {
         return false;
     }
     if n < 6 {
         return false;
     }
-    let kind = hexadecimal::byte_at(digits, 0);
-    let third = hexadecimal::byte_at(digits, 2);
+    let kind = digits.byte_at(0);
+    let third = digits.byte_at(2);
     n / 2 == frame_length(kind, third)
 }
 

@@ -33,6 +33,7 @@ pub enum Refusal {
 
 impl Refusal {
     // The number that the scanner shows for a refusal.
+    #[tactic(auto, using(crate::proofs::Numbering::discriminant))]
     pub fn number(self) -> u8
         ensures { result ≡ number_of self }
     {
@@ -83,6 +84,7 @@ pub enum Outcome {
 }
 
 // The letter that the report line shows for an outcome.
+#[tactic(auto, unfolding(crate::specs::Outcome::letter_of))]
 pub fn letter(o: Outcome) -> u8
     ensures { result ≡ letter_of o }
 {

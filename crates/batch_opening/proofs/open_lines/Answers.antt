@@ -13,7 +13,7 @@ use Rattle.batch_opening.proofs.open_lines.Goals as goal
 pub loop-turn-init : goal.loop-turn-init
 unfolding sizes_of
 loop-turn-init c =
-    (under_begun base _ (omega arith) c.requires.0, search rules, refl)
+    (under_begun base _ (omega arith) c.requires, search rules, refl)
 
 pub returns-in_default-clause-left : goal.returns-in_default-clause-left
 returns-in_default-clause-left c =
@@ -29,7 +29,7 @@ pub loop-turn-preserved : goal.loop-turn-preserved
 loop-turn-preserved c =
     let v = c.loop-turn.invariant in (
       under_more base base_shape _ c.loop-turn.progress v.0 _ _ c.next_fit.ensures.0 c.in-Some.is (omega arith)
-          c.requires.1 (entries_codes _) c.take_line-progress.result c.take_line-progress.ensures.left
+          (omega (arith, c.args.openings.counted, c.args.openings.few)) (entries_codes _) c.take_line-progress.result c.take_line-progress.ensures.left
           c.take_line-progress.ensures.taken,
       search rules,
       omega (arith, v.2, c.next_fit.auto),

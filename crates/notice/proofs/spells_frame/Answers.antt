@@ -9,22 +9,14 @@ use Rattle.notice.proofs.spells_frame.Goals as goal
 
 pub returns-then-n-ne0 : goal.returns-then-n-ne0
 returns-then-n-ne0 c =
-    spells_odd _ c.requires c.if-n-ne0.true
+    spells_odd _ c.args.digits.are_digits c.if-n-ne0.true
 
 pub returns-then-n-lt6 : goal.returns-then-n-lt6
 returns-then-n-lt6 c =
-    spells_even _ c.requires c.if-n-ne0.false (spelt_short _ c.if-n-lt6.true)
-
-pub byte_at-kind-requires : goal.byte_at-kind-requires
-byte_at-kind-requires c =
-    (c.requires, omega arith)
-
-pub byte_at-third-requires : goal.byte_at-third-requires
-byte_at-third-requires c =
-    (c.requires, omega arith)
+    spells_even _ c.args.digits.are_digits c.if-n-ne0.false (spelt_short _ c.if-n-lt6.true)
 
 pub returns : goal.returns
 returns c =
-    spells_even _ c.requires c.if-n-ne0.false
+    spells_even _ c.args.digits.are_digits c.if-n-ne0.false
     (frame_long _ (spelt_long _ c.if-n-lt6.false) (sym (length_bytes _))
     (c.frame_length.ensures ∙ ap₂ frame_length c.byte_at-kind.ensures c.byte_at-third.ensures))

@@ -1,12 +1,16 @@
 -- The sixteen digits: each number below 16 has one digit, and each digit one number. Assumes nothing.
-use mathlib.Core.Path.{◌≡◌, refl, sym, ap, ◌∙◌}
+use mathlib.Core.Path.{◌≡◌, ap, ◌∙◌}
 use mathlib.Core.Logic.{◌⊎◌, inl, inr}
-use mathlib.Core.Bool.{Bool, true, false, ◌&&◌}
+use mathlib.Core.Bool.{true, false, ◌&&◌}
+use mathlib.Core.List.{List}
 use Prim.Native.Nat.{ℕ, ◌+◌, ◌-◌, ◌≤◌, ◌<◌}
 use native.Mathlib.Omega.{arith}
 use lib.Dec.{eqb, leb}
-use borrow.Author.Tests.{leb-true, lt-ltb, le-ltb, le-leb, lt-leb, ne_eqb}
+use lib.ListN.{length, get_or}
+use borrow.Author.Tests.{leb-true, lt-ltb, le-ltb, le-leb, ne_eqb}
 use Rattle.lists.proofs.Tests.{and-true, and_intro, or_true, or_left, or_right, lt_or_ge}
+use Rattle.lists.specs.Lists.{allb}
+use Rattle.lists.proofs.Scans.{all-at}
 use Rattle.hexadecimal.specs.Hex.{hex_digit, is_digit, digit_value}
 
 -- a digit is one of 0 to 9 or of A to F
@@ -21,26 +25,9 @@ digit_cases c h = go (or_true (leb 48 c && leb c 57) (leb 65 c && leb c 70) h)
     go (inl e) = inl (within 48 57 e)
     go (inr e) = inr (within 65 70 e)
 
--- the tests by which the code decides
-pub digit_too_low : {c : ℕ} → c < 48 → false ≡ is_digit c
-unfolding is_digit
-digit_too_low {c} h = rw (lt-leb 48 c h, lt-leb 65 c (omega arith))
-
-pub digit_low : {c : ℕ} → 48 ≤ c → c ≤ 57 → true ≡ is_digit c
-unfolding is_digit
-digit_low {c} h k = rw (le-leb 48 c h, le-leb c 57 k)
-
-pub digit_too_high : {c : ℕ} → 70 < c → false ≡ is_digit c
-unfolding is_digit
-digit_too_high {c} h = rw (le-leb 48 c (omega arith), lt-leb c 57 (omega arith), le-leb 65 c (omega arith), lt-leb c 70 h)
-
-pub digit_high : {c : ℕ} → 57 < c → c ≤ 70 → leb 65 c ≡ is_digit c
-unfolding is_digit
-digit_high {c} h k = rw (le-leb 48 c (omega arith), lt-leb c 57 h, le-leb c 70 k) (sym (and_one (leb 65 c)))
-  where
-    and_one : (b : Bool) → (b && true) ≡ b
-    and_one true = refl
-    and_one false = refl
+-- each of some digits is one
+pub digit_at : (ds : List ℕ) (i : ℕ) → allb is_digit ds ≡ true → i < length ds → is_digit (get_or ds i 0) ≡ true
+digit_at ds i h l = all-at is_digit ds i 0 l h
 
 -- a digit is at least 48
 pub digit_least : (c : ℕ) → is_digit c ≡ true → 48 ≤ c

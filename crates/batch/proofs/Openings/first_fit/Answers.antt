@@ -1,4 +1,4 @@
--- `batch::first_fit` meets its contract. The invariant: the first that fits is the first of those from the line reached on. The measure is what is
+-- `batch::Openings::first_fit` meets its contract. The invariant: the first that fits is the first of those from the line reached on. The measure is what is
 -- left of the length; a line that reads is not empty.
 use mathlib.Core.Path.{refl}
 use mathlib.Core.List.{List}
@@ -9,24 +9,24 @@ use Rattle.notice.proofs.Readings.{FrameStands, frame_read, garbled_read}
 use Rattle.batch.specs.Lines.{batch_limit}
 use Rattle.batch.proofs.Lines.{LineReads}
 use Rattle.batch.proofs.Scans.{scan_none, scan_reads, scan_line, scan_within, scan_number, scan_found, scan_more, scan_end}
-use Rattle.batch.proofs.first_fit.Goals as goal
-use Rattle.batch.proofs.first_fit.Goals.{In-Ok}
+use Rattle.batch.proofs.Openings.first_fit.Goals as goal
+use Rattle.batch.proofs.Openings.first_fit.Goals.{In-Ok}
 
 -- the frame that was read from the line reached
-read : (c : In-Ok) → (f : List ℕ) × LineReads (drop c.loop-at.at c.args.lines.now) f c.in-Ok.got.used × FrameStands f c.in-Ok.got.length c.read_notice.new.frame
+read : (c : In-Ok) → (f : List ℕ) × LineReads (drop c.loop-at.at c.args.self.lines.now) f c.in-Ok.got.used × FrameStands f c.in-Ok.got.length c.read_notice.new.frame
 read c =
     let got = frame_read _ _ (omega (arith, c.loop-at.invariant.1, c.requires.3)) c.in-Ok.is c.read_notice.ensures in
     (got.0, scan_line c.loop-at.invariant.0 got.1, got.2)
 
 pub loop-at-init : goal.loop-at-init
 loop-at-init c =
-    (scan_none _ _ _ c.requires.5, refl)
+    (scan_none _ _ _ c.args.self.opening, refl)
 
 -- its number is that of a line, and its notice stands in the frame
 placed : (c : In-Ok) → (c.loop-at.number < batch_limit) × (3 ≤ c.in-Ok.got.length) × (c.in-Ok.got.length ≤ length c.read_notice.new.frame)
 placed c =
     let got = read c in (
-      omega (arith, scan_number c.loop-at.invariant.0 got.1, c.requires.4),
+      omega (arith, scan_number c.loop-at.invariant.0 got.1, c.args.self.counted, c.args.self.few),
       got.2.long,
       omega (arith, got.2.fits, c.loop-at.invariant.1, c.requires.3, c.read_notice.auto),
     )

@@ -1,7 +1,0 @@
--- `hexadecimal::read_bytes` meets its contract. The invariant: the first i bytes spelt are written, and the rest is as it was.
-use Rattle.hexadecimal.specs.Hex.{bytes_of}
-use Rattle.lists.proofs.Copies.{Copied}
-use Rattle.hexadecimal.proofs.read_bytes.Given as goal
-
-abbrev pub invariant-loop-i : goal.invariant-loop-i
-invariant-loop-i l = Copied (bytes_of l.digits) l.initial.frame l.frame l.i
