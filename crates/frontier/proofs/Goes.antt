@@ -1,11 +1,10 @@
 -- Visits one after another, in the struct that the code keeps them in: of nobody, of one member, of one set and then of another. Assumes nothing.
 use mathlib.Core.Path.{◌≡◌, refl, ap, ◌∙◌}
 use mathlib.Core.Bool.{Bool, false, ◌||◌}
-use mathlib.Core.List.{List}
-use Prim.Native.Nat.{ℕ, ◌+◌, ◌*◌, ◌<◌, ◌≤◌}
+use Prim.Native.Nat.{ℕ, ◌+◌, ◌*◌, ◌<◌}
 use native.Mathlib.Omega.{arith}
 use lib.Dec.{eqb}
-use lib.ListN.{length, set, length-set}
+use lib.ListN.{set}
 use Rattle.words.specs.Bits.{bit, word_of}
 use Rattle.rows.specs.Rows.{table_bit}
 use Rattle.frontier.specs.declared.Four.{Four}

@@ -7,7 +7,7 @@ use Prim.Native.Nat.{ℕ, ◌+◌, ◌-◌, ◌*◌, ◌^◌, ◌≤◌, ◌<◌
 use native.Mathlib.Omega.{arith}
 use lib.Bits.{bit_and, bit_or, or_add_and, and_le_l}
 use lib.Dec.{eqb}
-use lib.ListN.{length, get_or, set, length-set}
+use lib.ListN.{length, get_or, set}
 use borrow.Author.Tests.{eq-eqb, ne_eqb}
 use Rattle.lists.specs.Lists.{range, mapl, overwrite}
 use Rattle.words.specs.Bits.{bit, word_of}
@@ -74,10 +74,6 @@ module _ (row : List ℕ) (n : Four) (N : AreWords n) (s₀ : get_or row 0 0 < 2
   four_both = four_ext (both_word 0 (omega arith) s₀ N.a_fits) (both_word 1 (omega arith) s₁ N.b_fits) (both_word 2 (omega arith) s₂ N.c_fits) (both_word 3 (omega arith) s₃ N.d_fits)
 
 -- ---- four words stored
-
--- a place of a row stays one where another is stored
-pub still : (l : List ℕ) (i j x : ℕ) → j < length l → j < length (set l i x)
-still l i j x h = subst (λ (n : ℕ). j < n) (sym (length-set l i x)) h
 
 pub four_put : (row : List ℕ) (n : Four) → 4 ≤ length row → set (set (set (set row 0 n.a) 1 n.b) 2 n.c) 3 n.d ≡ overwrite (four_list n) row
 unfolding overwrite

@@ -15,7 +15,7 @@ use Rattle.lists.proofs.Fills.{fill_more}
 use Rattle.words.specs.Bits.{bit, word_of}
 use Rattle.words.specs.Least.{IsLeast, WithoutLeast}
 use Rattle.words.proofs.Bits.{bit_of_zero, bit-word_of, word_of_ext}
-use Rattle.rows.specs.Rows.{row_bit, table_bit, encode_row, in_word}
+use Rattle.rows.specs.Rows.{row_bit, encode_row, in_word}
 use Rattle.rows.proofs.Written.{row_in}
 use Rattle.rows.proofs.Turns.{turn_none}
 use Rattle.frontier.specs.declared.Four.{Four}

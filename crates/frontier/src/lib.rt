@@ -20,6 +20,7 @@ struct Four {
 }
 
 // Makes word j of a row x. Past the row there is none.
+#[tactic(auto, using(crate::proofs::Links::put_here, crate::proofs::Links::put_past))]
 fn put_word(row: &mut [u64], words: usize, j: usize, x: u64)
     requires { words ≤ length row.old }
     ensures { row.new ≡ put_word words j x row.old }
@@ -30,6 +31,7 @@ fn put_word(row: &mut [u64], words: usize, j: usize, x: u64)
 }
 
 // Takes the codes that are seen out of next, and answers whether one is left: the or of all words tells by one test at the end.
+#[tactic(auto, using(crate::proofs::Passes::keeping))]
 fn keep_unseen(seen: &[u64], next: &mut [u64], words: usize) -> bool
     requires { (words ≤ length next.old) × (words ≤ length seen.now) }
     ensures { unseen result next.new ≡ unseen_of words seen.now next.old }
@@ -44,6 +46,7 @@ fn keep_unseen(seen: &[u64], next: &mut [u64], words: usize) -> bool
 }
 
 // Puts next into the other row, and its codes among those seen.
+#[tactic(auto, using(crate::proofs::Passes::pass_end))]
 fn pass_on(other: &mut [u64], seen: &mut [u64], next: &[u64], words: usize)
     requires { (words ≤ length other.old) × (words ≤ length seen.old) × (words ≤ length next.now) }
     ensures { passed other.new seen.new ≡ pass_on words next.now (passed other.old seen.old) }
@@ -58,6 +61,7 @@ fn pass_on(other: &mut [u64], seen: &mut [u64], next: &[u64], words: usize)
 // ---- rows of four words
 
 // The codes of got that are not among the first four words seen.
+#[tactic(auto, using(crate::proofs::Straight::four_kept))]
 fn keep_four(seen: &[u64], got: Four) -> Four
     requires { (4 ≤ length seen.now) × AreWords got }
     ensures { unseen (not (eqb (union_of result) 0)) (four_list result) ≡ unseen_of 4 seen.now (four_list got) }
@@ -71,6 +75,7 @@ fn keep_four(seen: &[u64], got: Four) -> Four
 }
 
 // The first four words of a row, and the codes of next besides.
+#[tactic(auto, using(crate::proofs::Straight::four_both))]
 fn with_four(row: &[u64], next: Four) -> Four
     requires { (4 ≤ length row.now) × AreWords next }
     ensures { four_list result ≡ encode_row 4 (λ v. row_bit 4 row.now v || row_bit 4 (four_list next) v) }
@@ -84,6 +89,7 @@ fn with_four(row: &[u64], next: Four) -> Four
 }
 
 // Makes the first four words of a row these.
+#[tactic(auto, using(crate::proofs::Straight::four_put))]
 fn put_four(row: &mut [u64], next: Four)
     requires { 4 ≤ length row.old }
     ensures { row.new ≡ overwrite (four_list next) row.old }
@@ -99,6 +105,7 @@ fn put_four(row: &mut [u64], next: Four)
 // The word x with the members of word j of a table's row besides, the row of bit b of word w. Past the row there is none.
 // Where word w begins and where bit b stands are added last, so that the first is a constant in a loop over the bits.
 // No method of `Visit`: that the words of a slice fit 64 bits is known of a parameter, and of a field it is not.
+#[tactic(auto, using(crate::proofs::Links::with_bit_lem))]
 fn with_word(links: &[u64], x: u64, words: usize, w: usize, b: usize, j: usize) -> u64
     requires { (words * (64 * w) + (words * b + words) ≤ length links.now) × (words < 513) × (w < words) × (b < 64) }
     ensures { result ≡ word_of 64 (λ i. bit x i || table_bit words links.now (64 * w + b) (64 * j + i)) }
@@ -142,7 +149,7 @@ impl Visit<'_> {
     // Visits the members that word w of a layer holds: each gets the hop k, and the codes linked to it come into the four words from word j on.
     // The word is a copy, from which each member leaves as it is visited. Two members a turn: what is left after one stands beside what was there, so
     // that no word is copied.
-    #[tactic(auto, using(crate::proofs::Visits::bits_start, crate::proofs::Visits::bits_next, crate::proofs::Visits::bits_end))]
+    #[tactic(auto, using(crate::proofs::Visits::bits_start))]
     fn reach_word(&mut self, from: Four, w: usize, word: u64, j: usize) -> Four
         requires { AreWords from × (w < self.old.words) × (j < self.old.words) }
         ensures { Goes j (in_word w word) self.old from self.new result }
@@ -165,7 +172,7 @@ impl Visit<'_> {
     }
 
     // Visits the members of a layer, word by word: each gets the hop k, and the codes linked to it are the four words from word j on.
-    #[tactic(auto, using(crate::proofs::Visits::words_start, crate::proofs::Visits::words_fit, crate::proofs::Visits::words_next, crate::proofs::Visits::words_end))]
+    #[tactic(auto, using(crate::proofs::Visits::words_start))]
     fn reach_layer(&mut self, layer: &[u64], j: usize) -> Four
         requires { (self.old.words ≤ length layer.now) × (j < self.old.words) }
         ensures { Goes j (row_bit self.old.words layer.now) self.old no_words self.new result }
@@ -184,7 +191,7 @@ impl Visit<'_> {
 
     // Visits the members of a layer: each gets the hop k, and the codes linked to it are next. Four words of next at a time, so that a row of
     // four is visited once; a longer one gets its hops again with each four.
-    #[tactic(auto, using(crate::proofs::Visits::next_start, crate::proofs::Visits::next_next, crate::proofs::Visits::next_end))]
+    #[tactic(auto, using(crate::proofs::Visits::next_start))]
     fn reach_next(&mut self, layer: &[u64], next: &mut [u64])
         requires { (self.old.words ≤ length next.old) × (self.old.words ≤ length layer.now) }
         ensures same { IsSameVisit self.old self.new }
@@ -228,7 +235,7 @@ impl Visit<'_> {
     }
 
     // The step for rows of four words: what is next stays in registers, and is looked at once.
-    #[tactic(auto, using(crate::proofs::Straight::straight_none, crate::proofs::Straight::straight_fits, crate::proofs::Straight::straight_more, crate::proofs::Goes::same_visit))]
+    #[tactic(auto, using(crate::proofs::Straight::straight_none, crate::proofs::Straight::straight_fits))]
     fn step_four(&mut self, layer: &[u64], other: &mut [u64], seen: &mut [u64]) -> bool
         requires { (self.old.words ≡ 4)
             × (4 ≤ length layer.now)
