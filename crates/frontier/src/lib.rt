@@ -7,7 +7,7 @@ ghost use Rattle.std.specs.Prelude.{◌≡◌, not, ◌||◌, ◌+◌, ◌*◌, 
 ghost use Rattle.lists.specs.Lists.{overwrite};
 ghost use Rattle.words.specs.Bits.{bit, word_of};
 ghost use Rattle.rows.specs.Rows.{row_bit, table_bit, encode_row, in_word};
-ghost use Rattle.frontier.specs.Steps.{SearchRoom, AreWords, no_words, reached, reach_set, put_word, visited, visit_of, unseen, unseen_of, passed};
+ghost use Rattle.frontier.specs.Steps.{SearchRoom, AreWords, no_words, put_word, visited, visit_of, unseen, unseen_of, passed};
 ghost use Rattle.frontier.specs.Steps.{pass_on, stepped, step_of, four_list, union_of};
 
 // Four words side by side. They are passed by value, so that a walk keeps them in registers whatever tables lie beside them.
