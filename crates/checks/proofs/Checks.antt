@@ -42,6 +42,9 @@ module _ (W : ℕ) (members yards links : List ℕ) {r number : ℕ} (e : r ≡ 
         let q : eqb number (countb (row_bit W members) (range (64 * W))) ≡ true = eq-eqb number _ (sym p ∙ members_count W members e) in
         rw (q, test_passed are ok) h
 
+-- each test that fails is the answer, and the last is
+pub ruleset link_answers = (links_miscounted, links_closed_yard, links_scanned)
+
 -- ---- figures, whatever the links are
 
 module _ (W : ℕ) (members links pairs : List ℕ) (chain count : ℕ) where
@@ -66,3 +69,6 @@ module _ (W : ℕ) (members links pairs : List ℕ) (chain count : ℕ) where
       let q : eqb count (count_pairs (range (64 * W)) (table_bit W pairs)) ≡ true = eq-eqb count _ (sym p ∙ e) in
       let s : ltb chain (64 * W) ≡ true = lt-ltb chain (64 * W) l in
       rw (q, s) (h ∙ sym (and-true _ ∙ and-true _))
+
+-- as with the links
+pub ruleset figure_answers = (figures_miscounted, figures_too_long, figures_scanned)

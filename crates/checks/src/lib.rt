@@ -14,6 +14,7 @@ ghost use Rattle.checks.specs.Sound.{all_set, sound_links, sound_figures};
 // ---- the walk
 
 // Whether every set bit of a table passes the test, a function of row and column. Only set bits are walked, and the walk ends at the first that does not.
+#[tactic(auto, using(crate::proofs::Scans::bits_start, crate::proofs::Scans::rows_start, crate::proofs::Scans::rows_next))]
 fn all_set<F: Fn(usize, usize) -> bool>(table: &[u64], words: usize, passes: F) -> bool
     requires room { (words < 513) × (words * (64 * words) ≤ length table.now) }
     requires asked { (u v : ℕ) → u < 64 * words → v < 64 * words → F.pre passes u v }
@@ -41,6 +42,7 @@ fn all_set<F: Fn(usize, usize) -> bool>(table: &[u64], words: usize, passes: F) 
 // ---- sound links
 
 // Whether number open, yards and links are sound. Only set bits are walked, and the walk ends at the first faulty one.
+#[tactic(auto, using(crate::proofs::Checks::link_answers))]
 pub fn links_are_sound(
     members: &[u64],
     yards: &[u64],
@@ -68,6 +70,7 @@ pub fn links_are_sound(
 // ---- sound figures
 
 // The ones of the pair table, row by row.
+#[tactic(auto, using(crate::proofs::Sums::counted_start, crate::proofs::Sums::counted_whole, rows::proofs::Places::row_fits))]
 fn count_pairs(pairs: &[u64], words: usize) -> usize
     requires { (words < 513) × (words * (64 * words) ≤ length pairs.now) }
     ensures { result ≡ count_pairs (range (64 * words)) (table_bit words pairs.now) }
@@ -80,6 +83,7 @@ fn count_pairs(pairs: &[u64], words: usize) -> usize
 }
 
 // Whether the figures are sound. They ask only which depots deliver, so that these are lent as a row, and no link.
+#[tactic(auto, using(crate::proofs::Checks::figure_answers))]
 pub fn figures_are_sound(
     delivering: &[u64],
     pairs: &[u64],

@@ -18,7 +18,6 @@ use Rattle.lists.proofs.Buffers.{fill_whole, fill_put}
 use Rattle.words.specs.Bits.{bit, word_of}
 use Rattle.words.proofs.Bits.{bit-word_of, word_of_ext, word_of_lt, word_is, word_or}
 use Rattle.rows.specs.Rows.{table_bit}
-use Rattle.rows.proofs.Places.{row_fits}
 use Rattle.rows.proofs.Written.{table_word}
 use Rattle.frontier.specs.declared.Four.{Four}
 use Rattle.frontier.specs.Steps.{hop_set, link_word, Reached, reached, reach_set, AreWords, put_word}
@@ -63,12 +62,6 @@ module _ (W w b : ℕ) (h : w < W) (l : b < 64) where
   place_sum : (j : ℕ) → W * (64 * w) + (W * b + j) ≡ W * (64 * w + b) + j
   place_sum j =
       let e = mul-add W (64 * w) b in
-      omega arith
-
-  pub place_fits : (n : ℕ) → W * (64 * W) ≤ n → W * (64 * w) + (W * b + W) ≤ n
-  place_fits n m =
-      let e = place_sum W in
-      let f = row_fits W (64 * w + b) n (omega arith) m in
       omega arith
 
   pub with_bit_lem : (links : List ℕ) (x j : ℕ) → x < 2 ^ 64 → j < W → get_or links (W * (64 * w) + (W * b + j)) 0 < 2 ^ 64

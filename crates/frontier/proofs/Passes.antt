@@ -117,6 +117,9 @@ module _ (W : ℕ) (seen next₀ : List ℕ) where
             let e : all ≡ 0 = omega arith in
             rw (eq-eqb all 0 e) (sym (any_none new (range (64 * W)) (λ v n. I.none e v (under v (range_out (64 * W) n)))))
 
+-- the start and the end of the walk
+pub ruleset keeping = (keep-start, keep_end)
+
 -- ---- next passed on
 
 module _ (W : ℕ) (next other₀ seen₀ : List ℕ) where

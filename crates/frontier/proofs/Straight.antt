@@ -7,7 +7,7 @@ use Prim.Native.Nat.{ℕ, ◌+◌, ◌-◌, ◌*◌, ◌^◌, ◌≤◌, ◌<◌
 use native.Mathlib.Omega.{arith}
 use lib.Bits.{bit_and, bit_or, or_add_and, and_le_l}
 use lib.Dec.{eqb}
-use lib.ListN.{length, get_or, set, length-set}
+use lib.ListN.{length, get_or, set}
 use borrow.Author.Tests.{eq-eqb, ne_eqb}
 use Rattle.lists.specs.Lists.{range, mapl, overwrite}
 use Rattle.words.specs.Bits.{bit, word_of}
@@ -16,7 +16,9 @@ use Rattle.rows.specs.Rows.{row_bit, encode_row}
 use Rattle.rows.proofs.Written.{row_word}
 use Rattle.rows.proofs.Wholes.{row_word_is}
 use Rattle.frontier.specs.declared.Four.{Four}
-use Rattle.frontier.specs.Steps.{AreWords, four_list, union_of, no_words, reached, reach_set, put_word, visited, visit_of, is_unseen, Unseen, unseen, unseen_of, passed, pass_on, Stepped, stepped, step_of, SearchRoom}
+use Rattle.frontier.specs.declared.Visit.{Visit}
+use Rattle.frontier.specs.Steps.{AreWords, four_list, union_of, no_words, reached, reach_set, put_word, visited, visit_of, is_unseen, Unseen, unseen, unseen_of, passed, pass_on, stepped, step_of}
+use Rattle.frontier.specs.Visits.{Goes}
 use Rattle.frontier.proofs.Links.{four}
 use Rattle.frontier.proofs.Visits.{fours_start, fours_next, fours_end}
 use Rattle.frontier.proofs.Passes.{Keeping, keep-start, keep_next, keep_end}
@@ -73,10 +75,6 @@ module _ (row : List ℕ) (n : Four) (N : AreWords n) (s₀ : get_or row 0 0 < 2
 
 -- ---- four words stored
 
--- a place of a row stays one where another is stored
-pub still : (l : List ℕ) (i j x : ℕ) → j < length l → j < length (set l i x)
-still l i j x h = subst (λ (n : ℕ). j < n) (sym (length-set l i x)) h
-
 pub four_put : (row : List ℕ) (n : Four) → 4 ≤ length row → set (set (set (set row 0 n.a) 1 n.b) 2 n.c) 3 n.d ≡ overwrite (four_list n) row
 unfolding overwrite
 four_put (x ∷ y ∷ z ∷ t ∷ r) n h = refl
@@ -98,7 +96,7 @@ module _ (links layer seen : List ℕ) (k : ℕ) (g n : Four) (hops₀ hops₁ o
       (g.a ∷ 0 ∷ 0 ∷ 0 ∷ []) (g.a ∷ g.b ∷ 0 ∷ 0 ∷ []) (g.a ∷ g.b ∷ g.c ∷ 0 ∷ []) (four_list g) (omega arith) refl refl refl refl)
       (omega arith) (omega arith)
 
-  pub four_none : union_of n ≡ 0 → stepped false hops₁ other seen ≡ step_of 4 links layer k hops₀ other seen
+  four_none : union_of n ≡ 0 → stepped false hops₁ other seen ≡ step_of 4 links layer k hops₀ other seen
   four_none e = step_none 4 links layer seen (four_list no_words) (four_list g) (four_list n) k hops₀ hops₁ (not (eqb (union_of n) 0)) put_all keep other (ap not (ap not (eq-eqb (union_of n) 0 e)))
 
   -- what is kept are words
@@ -126,14 +124,24 @@ module _ (links layer seen : List ℕ) (k : ℕ) (g n : Four) (hops₀ hops₁ o
     unfolding pass_on
     pass = ap₂ passed (p ∙ ap (λ (l : List ℕ). overwrite l other) as_row) (r ∙ ap (λ (l : List ℕ). overwrite l seen) q)
 
-    pub four_more : union_of n ≢ 0 → stepped true hops₁ other' seen' ≡ step_of 4 links layer k hops₀ other seen
+    four_more : union_of n ≢ 0 → stepped true hops₁ other' seen' ≡ step_of 4 links layer k hops₀ other seen
     four_more e = step_more 4 links layer seen (four_list no_words) (four_list g) (four_list n) k hops₀ hops₁ (not (eqb (union_of n) 0)) put_all keep other other' seen' (ap not (ap not (ne_eqb (union_of n) 0 e))) pass
 
--- ---- the step that is told its words
+-- ---- the step in its struct, whose rows are of four words
 
-pub room_at : (W : ℕ) (links hops : List ℕ) → W ≡ 4 → SearchRoom W links hops → SearchRoom 4 links hops
-room_at W links hops e r = subst (λ (w : ℕ). SearchRoom w links hops) e r
+module _ (v w : Visit) (e : v.words ≡ 4) (layer seen : List ℕ) (g n : Four) (other : List ℕ) (went : Goes 0 (row_bit v.words layer) v no_words w g)
+    (keep : unseen (not (eqb (union_of n) 0)) (four_list n) ≡ unseen_of 4 seen (four_list g)) where
+  reach : reached g w.hops.now ≡ reach_set 4 v.links.now v.k 0 (row_bit 4 layer) (reached no_words v.hops.now)
+  reach = subst (λ (W : ℕ). reached g w.hops.now ≡ reach_set W v.links.now v.k 0 (row_bit W layer) (reached no_words v.hops.now)) e went.visited
 
-pub step_at : (W : ℕ) (links layer : List ℕ) (k : ℕ) (hops other seen : List ℕ) (s : Stepped) → W ≡ 4 → s ≡ step_of 4 links layer k hops other seen
-    → s ≡ step_of W links layer k hops other seen
-step_at W links layer k hops other seen s e q = rw e q
+  pub straight_none : union_of n ≡ 0 → stepped false w.hops.now other seen ≡ step_of v.words v.links.now layer v.k v.hops.now other seen
+  straight_none z = rw e (four_none v.links.now layer seen v.k g n v.hops.now w.hops.now other reach keep z)
+
+  pub straight_fits : AreWords n
+  straight_fits = fits v.links.now layer seen v.k g n v.hops.now w.hops.now other reach keep
+
+  pub straight_more : (m : Four) (other' seen' : List ℕ) → other' ≡ overwrite (four_list n) other
+      → four_list m ≡ encode_row 4 (λ v. row_bit 4 seen v || row_bit 4 (four_list n) v) → seen' ≡ overwrite (four_list m) seen → union_of n ≢ 0
+      → stepped true w.hops.now other' seen' ≡ step_of v.words v.links.now layer v.k v.hops.now other seen
+  straight_more m other' seen' p q r z =
+      rw e (four_more v.links.now layer seen v.k g n v.hops.now w.hops.now other reach keep m other' seen' p q r z)

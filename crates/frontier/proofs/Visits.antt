@@ -15,163 +15,143 @@ use Rattle.lists.proofs.Fills.{fill_more}
 use Rattle.words.specs.Bits.{bit, word_of}
 use Rattle.words.specs.Least.{IsLeast, WithoutLeast}
 use Rattle.words.proofs.Bits.{bit_of_zero, bit-word_of, word_of_ext}
-use Rattle.rows.specs.Rows.{row_bit, table_bit, encode_row, in_word}
+use Rattle.rows.specs.Rows.{row_bit, encode_row, in_word}
 use Rattle.rows.proofs.Written.{row_in}
 use Rattle.rows.proofs.Turns.{turn_none}
 use Rattle.frontier.specs.declared.Four.{Four}
+use Rattle.frontier.specs.declared.Visit.{Visit}
 use Rattle.frontier.specs.Steps.{reaches, hop_set, link_word, Reached, reached, reach_set, AreWords, no_words, put_word, visited, visit_of}
-use Rattle.frontier.proofs.Links.{or_false, side, side_ext, put_here, put_past, linked_to, word_one, hop_ext, hop_one, hop_both, visit_ext, visit_none, visit_both, visit_fits}
+use Rattle.frontier.specs.Visits.{IsSameVisit, Goes}
+use Rattle.frontier.proofs.Links.{or_false, put_here, put_past, linked_to, hop_ext, hop_both}
+use Rattle.frontier.proofs.Goes.{same_visit, same_after, goes_none, goes_ext, goes_both, goes_fits, goes_as}
+
+module _ (j : ℕ) where
+  -- ---- the set bits of a word
+
+  module _ (w word : ℕ) where
+    -- the members that have left the word are visited; what is left was in it
+    pub record BitsVisited (v : Visit) (from : Four) (now : Visit) (got : Four) (x : ℕ) : Type 0 where
+      pub inside : (b : ℕ) → b < 64 → bit x b ≡ true → bit word b ≡ true
+      pub went : Goes j (λ u. in_word w word u && not (in_word w x u)) v from now got
+
+    pub bits_start : (v : Visit) (from : Four) → AreWords from → BitsVisited v from v from word
+    bits_start v from i = record {
+      inside = λ b h e. e;
+      went = goes_ext j (λ u. false) (λ u. in_word w word u && not (in_word w word u)) (goes_none j v from i) (λ u h. sym (and_not (in_word w word u)));
+    }
+      where
+        and_not : (b : Bool) → (b && not b) ≡ false
+        and_not true = refl
+        and_not false = refl
+
+    -- the least bit is visited, and leaves
+    module _ (x y b : ℕ) (l : IsLeast x b) (d : WithoutLeast x y) where
+      left : (c : ℕ) → c < 64 → bit y c ≡ (bit x c && not (eqb c b))
+      left c m = ap (λ (r : ℕ). bit r c) (d.rest b l) ∙ bit-word_of 64 (λ c. bit x c && not (eqb c b)) c m
+
+      same_member : (u : ℕ) → eqb (u / 64) w ≡ true → eqb u (64 * w + b) ≡ eqb (u % 64) b
+      same_member u e = go (eqb-true (u / 64) w e) (eq_or_ne (u % 64) b)
+        where
+          go : u / 64 ≡ w → (u % 64 ≡ b) ⊎ (u % 64 ≢ b) → eqb u (64 * w + b) ≡ eqb (u % 64) b
+          go h (inl q) = eq-eqb u (64 * w + b) (omega arith) ∙ sym (eq-eqb (u % 64) b q)
+          go h (inr q) = ne_eqb u (64 * w + b) (λ p. q (omega arith)) ∙ sym (ne_eqb (u % 64) b q)
+
+      other_word : (u : ℕ) → eqb (u / 64) w ≡ false → eqb u (64 * w + b) ≡ false
+      other_word u e = ne_eqb u (64 * w + b) (λ p. eqb-false (u / 64) w e (omega (arith, l.below)))
+
+      bits_one : ((c : ℕ) → c < 64 → bit x c ≡ true → bit word c ≡ true) → (u : ℕ)
+          → ((in_word w word u && not (in_word w x u)) || eqb u (64 * w + b)) ≡ (in_word w word u && not (in_word w y u))
+      unfolding in_word
+      bits_one inside u = go (look (eqb (u / 64) w))
+        where
+          small : u % 64 < 64
+          small = omega arith
+
+          tests : (a p e : Bool) → (p ≡ true → a ≡ true) → (e ≡ true → p ≡ true) → ((a && not p) || e) ≡ (a && not (p && not e))
+          tests true true true f g = refl
+          tests true true false f g = refl
+          tests true false true f g = refl
+          tests true false false f g = refl
+          tests false true e f g = absurd (clash refl (sym (f refl)))
+          tests false false true f g = sym (g refl)
+          tests false false false f g = refl
+
+          go : (eqb (u / 64) w ≡ true) ⊎ (eqb (u / 64) w ≡ false)
+              → ((in_word w word u && not (in_word w x u)) || eqb u (64 * w + b)) ≡ (in_word w word u && not (in_word w y u))
+          go (inl e) =
+              rw (e, same_member u e, left (u % 64) small)
+              (tests (bit word (u % 64)) (bit x (u % 64)) (eqb (u % 64) b) (inside (u % 64) small) (λ q. rw (eqb-true (u % 64) b q) l.here))
+          go (inr e) = rw (e, other_word u e)
+
+      pub bits_next : {v : Visit} {from : Four} {now : Visit} {got : Four} (now' : Visit) (got' : Four) → BitsVisited v from now got x
+          → Goes j (λ u. eqb u (64 * w + b)) now got now' got' → BitsVisited v from now' got' y
+      bits_next now' got' I e = record {
+        inside = λ c n t. I.inside c n (and-true (bit x c) (not (eqb c b)) (sym (left c n) ∙ t)).0;
+        went =
+            goes_ext j (λ u. (in_word w word u && not (in_word w x u)) || eqb u (64 * w + b)) (λ u. in_word w word u && not (in_word w y u))
+            (goes_both j (λ u. in_word w word u && not (in_word w x u)) (λ u. eqb u (64 * w + b)) I.went e) (λ u n. bits_one I.inside u);
+      }
+
+    -- no bit is left
+    pub bits_end : {v : Visit} {from : Four} {now : Visit} {got : Four} (x : ℕ) → BitsVisited v from now got x → x ≡ 0 → Goes j (in_word w word) v from now got
+    unfolding in_word
+    bits_end x I z =
+        goes_ext j (λ u. in_word w word u && not (in_word w x u)) (in_word w word) I.went
+        (λ u h. all (in_word w word u) (eqb (u / 64) w) (bit x (u % 64)) (rw z (bit_of_zero (u % 64))))
+      where
+        all : (a p q : Bool) → q ≡ false → (a && not (p && q)) ≡ a
+        all true true q e = rw e
+        all true false q e = refl
+        all false p q e = refl
+
+  -- ---- the words of a layer
+
+  module _ (layer : List ℕ) where
+    -- the members in the first w words are visited
+    pub record WordsVisited (v now : Visit) (got : Four) (w : ℕ) : Type 0 where
+      pub within : w ≤ v.words
+      pub went : Goes j (λ u. ltb u (64 * w) && row_bit v.words layer u) v no_words now got
+
+    pub words_start : (v : Visit) → WordsVisited v v no_words 0
+    words_start v = record {
+      within = omega arith;
+      went =
+          goes_ext j (λ u. false) (λ u. ltb u (64 * 0) && row_bit v.words layer u)
+          (goes_none j v no_words (record { a_fits = omega arith; b_fits = omega arith; c_fits = omega arith; d_fits = omega arith }))
+          (λ u h. rw (le-ltb u (64 * 0) (omega arith)));
+    }
+
+    -- one word more
+    words_one : (W w : ℕ) → w < W → (u : ℕ) → u < 64 * W → ((ltb u (64 * w) && row_bit W layer u) || in_word w (get_or layer w 0) u) ≡ (ltb u (64 * (w + 1)) && row_bit W layer u)
+    unfolding in_word
+    words_one W w h u l = go (lt_or_ge u (64 * w)) (lt_or_ge u (64 * (w + 1)))
+      where
+        go : (u < 64 * w) ⊎ (64 * w ≤ u) → (u < 64 * (w + 1)) ⊎ (64 * (w + 1) ≤ u)
+            → ((ltb u (64 * w) && row_bit W layer u) || in_word w (get_or layer w 0) u) ≡ (ltb u (64 * (w + 1)) && row_bit W layer u)
+        go (inl a) c = rw (lt-ltb u (64 * w) a, lt-ltb u (64 * (w + 1)) (omega arith), ne_eqb (u / 64) w (λ q. lt_irrefl u (omega arith))) (or_false (row_bit W layer u))
+        go (inr a) (inl c) =
+            let q : u / 64 ≡ w = omega arith in
+            rw (le-ltb u (64 * w) a, lt-ltb u (64 * (w + 1)) c, eq-eqb (u / 64) w q)
+            (sym (row_in W layer u l ∙ ap (λ (i : ℕ). bit (get_or layer i 0) (u % 64)) q))
+        go (inr a) (inr c) = rw (le-ltb u (64 * w) a, le-ltb u (64 * (w + 1)) c, ne_eqb (u / 64) w (λ q. lt_irrefl u (omega arith)))
+
+    pub words_fit : {v now : Visit} (got : Four) (w : ℕ) → WordsVisited v now got w → AreWords got
+    words_fit {v} got w I = goes_fits j (λ u. ltb u (64 * w) && row_bit v.words layer u) I.went
+
+    pub words_next : {v now : Visit} {got : Four} (w : ℕ) (now' : Visit) (got' : Four) → WordsVisited v now got w → w < v.words
+        → Goes j (in_word w (get_or layer w 0)) now got now' got' → WordsVisited v now' got' (w + 1)
+    words_next {v} w now' got' I h e = record {
+      within = omega arith;
+      went =
+          goes_ext j (λ u. (ltb u (64 * w) && row_bit v.words layer u) || in_word w (get_or layer w 0) u) (λ u. ltb u (64 * (w + 1)) && row_bit v.words layer u)
+          (goes_both j (λ u. ltb u (64 * w) && row_bit v.words layer u) (in_word w (get_or layer w 0)) I.went e) (words_one v.words w h);
+    }
+
+    -- no word is left
+    pub words_end : {v now : Visit} {got : Four} (w : ℕ) → WordsVisited v now got w → v.words ≤ w → Goes j (row_bit v.words layer) v no_words now got
+    words_end {v} w I h = goes_ext j (λ u. ltb u (64 * w) && row_bit v.words layer u) (row_bit v.words layer) I.went (λ u m. rw (lt-ltb u (64 * w) (omega arith)))
 
 module _ (W : ℕ) (links : List ℕ) (k : ℕ) where
-  module _ (j : ℕ) where
-    abbrev visit : (ℕ → Bool) → Reached → Reached
-    visit S B = reach_set W links k j S B
-
-    -- ---- one member
-
-    module _ (w b : ℕ) (within : w < W) (below : b < 64) where
-      -- a word with the links of the member besides, as the code has it
-      abbrev Joins : ℕ → ℕ → ℕ → Type 0
-      Joins i p q = q ≡ word_of 64 (λ c. bit p c || table_bit W links (64 * w + b) (64 * i + c))
-
-      pub one_visit : (f : Four) (hops : List ℕ) (p' q' r' s' : ℕ) → 64 * W ≤ length hops → Joins j f.a p' → Joins (j + 1) f.b q' → Joins (j + 2) f.c r'
-          → Joins (j + 3) f.d s' → side p' q' r' s' (set hops (64 * w + b) k) ≡ visit (λ u. eqb u (64 * w + b)) (reached f hops)
-      unfolding reach_set
-      one_visit f hops p' q' r' s' m e g h i =
-          let n : 64 * w + b < 64 * W = omega arith in
-          side_ext (word_one W links k j f.a p' (64 * w + b) n e) (word_one W links k (j + 1) f.b q' (64 * w + b) n g) (word_one W links k (j + 2) f.c r' (64 * w + b) n h)
-          (word_one W links k (j + 3) f.d s' (64 * w + b) n i) (hop_one W links k (64 * w + b) hops n m)
-
-    -- ---- the set bits of a word
-
-    module _ (w word : ℕ) where
-      -- the members that have left the word are visited; what is left was in it
-      pub record BitsVisited (from : Four) (hops₀ : List ℕ) (now : Reached) (x : ℕ) : Type 0 where
-        pub inside : (b : ℕ) → b < 64 → bit x b ≡ true → bit word b ≡ true
-        pub now_is : now ≡ visit (λ u. in_word w word u && not (in_word w x u)) (reached from hops₀)
-        pub hops-length : length now.hops ≡ length hops₀
-
-      pub bits_start : (from : Four) (hops : List ℕ) → AreWords from → 64 * W ≤ length hops → BitsVisited from hops (reached from hops) word
-      bits_start from hops i m = record {
-        inside = λ b h e. e;
-        now_is = visit_none W links k j from hops i m ∙ visit_ext W links k j (λ u. false) (λ u. in_word w word u && not (in_word w word u)) (reached from hops) (λ u h. sym (and_not (in_word w word u)));
-        hops-length = refl;
-      }
-        where
-          and_not : (b : Bool) → (b && not b) ≡ false
-          and_not true = refl
-          and_not false = refl
-
-      -- the least bit is visited, and leaves
-      module _ (x y b : ℕ) (within : w < W) (l : IsLeast x b) (d : WithoutLeast x y) where
-        left : (c : ℕ) → c < 64 → bit y c ≡ (bit x c && not (eqb c b))
-        left c m = ap (λ (r : ℕ). bit r c) (d.rest b l) ∙ bit-word_of 64 (λ c. bit x c && not (eqb c b)) c m
-
-        same_member : (u : ℕ) → eqb (u / 64) w ≡ true → eqb u (64 * w + b) ≡ eqb (u % 64) b
-        same_member u e = go (eqb-true (u / 64) w e) (eq_or_ne (u % 64) b)
-          where
-            go : u / 64 ≡ w → (u % 64 ≡ b) ⊎ (u % 64 ≢ b) → eqb u (64 * w + b) ≡ eqb (u % 64) b
-            go h (inl q) = eq-eqb u (64 * w + b) (omega arith) ∙ sym (eq-eqb (u % 64) b q)
-            go h (inr q) = ne_eqb u (64 * w + b) (λ p. q (omega arith)) ∙ sym (ne_eqb (u % 64) b q)
-
-        other_word : (u : ℕ) → eqb (u / 64) w ≡ false → eqb u (64 * w + b) ≡ false
-        other_word u e = ne_eqb u (64 * w + b) (λ p. eqb-false (u / 64) w e (omega (arith, l.below)))
-
-        bits_one : ((c : ℕ) → c < 64 → bit x c ≡ true → bit word c ≡ true) → (u : ℕ)
-            → ((in_word w word u && not (in_word w x u)) || eqb u (64 * w + b)) ≡ (in_word w word u && not (in_word w y u))
-        unfolding in_word
-        bits_one inside u = go (look (eqb (u / 64) w))
-          where
-            small : u % 64 < 64
-            small = omega arith
-
-            tests : (a p e : Bool) → (p ≡ true → a ≡ true) → (e ≡ true → p ≡ true) → ((a && not p) || e) ≡ (a && not (p && not e))
-            tests true true true f g = refl
-            tests true true false f g = refl
-            tests true false true f g = refl
-            tests true false false f g = refl
-            tests false true e f g = absurd (clash refl (sym (f refl)))
-            tests false false true f g = sym (g refl)
-            tests false false false f g = refl
-
-            go : (eqb (u / 64) w ≡ true) ⊎ (eqb (u / 64) w ≡ false)
-                → ((in_word w word u && not (in_word w x u)) || eqb u (64 * w + b)) ≡ (in_word w word u && not (in_word w y u))
-            go (inl e) =
-                rw (e, same_member u e, left (u % 64) small)
-                (tests (bit word (u % 64)) (bit x (u % 64)) (eqb (u % 64) b) (inside (u % 64) small) (λ q. rw (eqb-true (u % 64) b q) l.here))
-            go (inr e) = rw (e, other_word u e)
-
-        pub bits_next : {from : Four} {hops₀ : List ℕ} {now : Reached} (now' : Reached) → BitsVisited from hops₀ now x → now' ≡ visit (λ u. eqb u (64 * w + b)) now
-            → length now'.hops ≡ length now.hops → BitsVisited from hops₀ now' y
-        bits_next {from} {hops₀} now' I e m = record {
-          inside = λ c n t. I.inside c n (and-true (bit x c) (not (eqb c b)) (sym (left c n) ∙ t)).0;
-          now_is =
-              e ∙ ap (visit (λ u. eqb u (64 * w + b))) I.now_is
-              ∙ visit_both W links k j (λ u. in_word w word u && not (in_word w x u)) (λ u. eqb u (64 * w + b)) (reached from hops₀)
-              ∙ visit_ext W links k j (λ u. (in_word w word u && not (in_word w x u)) || eqb u (64 * w + b)) (λ u. in_word w word u && not (in_word w y u)) (reached from hops₀) (λ u n. bits_one I.inside u);
-          hops-length = m ∙ I.hops-length;
-        }
-
-      -- no bit is left
-      pub bits_end : {from : Four} {hops₀ : List ℕ} {now : Reached} (x : ℕ) → BitsVisited from hops₀ now x → x ≡ 0 → now ≡ visit (in_word w word) (reached from hops₀)
-      unfolding in_word
-      bits_end {from} {hops₀} x I z =
-          I.now_is ∙ visit_ext W links k j (λ u. in_word w word u && not (in_word w x u)) (in_word w word) (reached from hops₀) (λ u h. all (in_word w word u) (eqb (u / 64) w) (bit x (u % 64)) (rw z (bit_of_zero (u % 64))))
-        where
-          all : (a p q : Bool) → q ≡ false → (a && not (p && q)) ≡ a
-          all true true q e = rw e
-          all true false q e = refl
-          all false p q e = refl
-
-    -- ---- the words of a layer
-
-    module _ (layer : List ℕ) where
-      -- the members in the first w words are visited
-      pub record WordsVisited (hops₀ : List ℕ) (now : Reached) (w : ℕ) : Type 0 where
-        pub within : w ≤ W
-        pub now_is : now ≡ visit (λ u. ltb u (64 * w) && row_bit W layer u) (reached no_words hops₀)
-        pub hops-length : length now.hops ≡ length hops₀
-
-      pub words_start : (hops : List ℕ) → 64 * W ≤ length hops → WordsVisited hops (reached no_words hops) 0
-      words_start hops m = record {
-        within = omega arith;
-        now_is = visit_none W links k j no_words hops (record { a_fits = omega arith; b_fits = omega arith; c_fits = omega arith; d_fits = omega arith }) m ∙ visit_ext W links k j (λ u. false) (λ u. ltb u (64 * 0) && row_bit W layer u) (reached no_words hops) (λ u h. rw (le-ltb u (64 * 0) (omega arith)));
-        hops-length = refl;
-      }
-
-      -- one word more
-      words_one : (w : ℕ) → w < W → (u : ℕ) → u < 64 * W → ((ltb u (64 * w) && row_bit W layer u) || in_word w (get_or layer w 0) u) ≡ (ltb u (64 * (w + 1)) && row_bit W layer u)
-      unfolding in_word
-      words_one w h u l = go (lt_or_ge u (64 * w)) (lt_or_ge u (64 * (w + 1)))
-        where
-          go : (u < 64 * w) ⊎ (64 * w ≤ u) → (u < 64 * (w + 1)) ⊎ (64 * (w + 1) ≤ u)
-              → ((ltb u (64 * w) && row_bit W layer u) || in_word w (get_or layer w 0) u) ≡ (ltb u (64 * (w + 1)) && row_bit W layer u)
-          go (inl a) c = rw (lt-ltb u (64 * w) a, lt-ltb u (64 * (w + 1)) (omega arith), ne_eqb (u / 64) w (λ q. lt_irrefl u (omega arith))) (or_false (row_bit W layer u))
-          go (inr a) (inl c) =
-              let q : u / 64 ≡ w = omega arith in
-              rw (le-ltb u (64 * w) a, lt-ltb u (64 * (w + 1)) c, eq-eqb (u / 64) w q)
-              (sym (row_in W layer u l ∙ ap (λ (i : ℕ). bit (get_or layer i 0) (u % 64)) q))
-          go (inr a) (inr c) = rw (le-ltb u (64 * w) a, le-ltb u (64 * (w + 1)) c, ne_eqb (u / 64) w (λ q. lt_irrefl u (omega arith)))
-
-      pub words_fit : {hops₀ : List ℕ} (f : Four) (hops : List ℕ) (w : ℕ) → WordsVisited hops₀ (reached f hops) w → AreWords f
-      words_fit {hops₀} f hops w I = visit_fits W links k j (λ u. ltb u (64 * w) && row_bit W layer u) (reached no_words hops₀) f hops I.now_is
-
-      pub words_next : {hops₀ : List ℕ} {now : Reached} (w : ℕ) (now' : Reached) → WordsVisited hops₀ now w → w < W
-          → now' ≡ visit (in_word w (get_or layer w 0)) now → length now'.hops ≡ length now.hops → WordsVisited hops₀ now' (w + 1)
-      words_next {hops₀} w now' I h e m = record {
-        within = omega arith;
-        now_is =
-            e ∙ ap (visit (in_word w (get_or layer w 0))) I.now_is
-            ∙ visit_both W links k j (λ u. ltb u (64 * w) && row_bit W layer u) (in_word w (get_or layer w 0)) (reached no_words hops₀)
-            ∙ visit_ext W links k j (λ u. (ltb u (64 * w) && row_bit W layer u) || in_word w (get_or layer w 0) u) (λ u. ltb u (64 * (w + 1)) && row_bit W layer u) (reached no_words hops₀) (words_one w h);
-        hops-length = m ∙ I.hops-length;
-      }
-
-      -- no word is left
-      pub words_end : {hops₀ : List ℕ} {now : Reached} (w : ℕ) → WordsVisited hops₀ now w → W ≤ w → now ≡ visit (row_bit W layer) (reached no_words hops₀)
-      words_end {hops₀} w I h =
-          I.now_is ∙ visit_ext W links k j (λ u. ltb u (64 * w) && row_bit W layer u) (row_bit W layer) (reached no_words hops₀) (λ u m. rw (lt-ltb u (64 * w) (omega arith)))
-
   -- ---- the fours of a row
 
   -- so many words of a row are done after j
@@ -275,3 +255,32 @@ module _ (W : ℕ) (links : List ℕ) (k : ℕ) where
       where
         whole : ltb j W ≡ false → up_to j ≡ W
         whole e = rw e
+
+-- ---- the fours of a row, in the struct
+
+module _ (layer : List ℕ) where
+  -- the words before j are next's, and what the visit goes over is as it was
+  pub record NextVisited (v : Visit) (next₀ : List ℕ) (now : Visit) (next : List ℕ) (j : ℕ) : Type 0 where
+    pub same : IsSameVisit v now
+    pub fours : FoursVisited v.words v.links.now v.k layer next₀ v.hops.now next now.hops.now j
+
+  pub next_start : (v : Visit) (next : List ℕ) → NextVisited v next v next 0
+  next_start v next = record {
+    same = same_visit v;
+    fours = fours_start v.words v.links.now v.k layer next v.hops.now v.room.positive;
+  }
+
+  pub next_next : {v : Visit} {next₀ : List ℕ} {now : Visit} {next : List ℕ} (j : ℕ) (got : Four) (now' : Visit) → NextVisited v next₀ now next j
+      → Goes j (row_bit now.words layer) now no_words now' got → (n₁ n₂ n₃ n₄ : List ℕ) → v.words ≤ length next₀ → n₁ ≡ put_word v.words j got.a next
+      → n₂ ≡ put_word v.words (j + 1) got.b n₁ → n₃ ≡ put_word v.words (j + 2) got.c n₂ → n₄ ≡ put_word v.words (j + 3) got.d n₃
+      → NextVisited v next₀ now' n₄ (j + 4)
+  next_next {v} {next₀} {now} {next} j got now' I e n₁ n₂ n₃ n₄ m p q r s = record {
+    same = same_after I.same e.same;
+    fours =
+        fours_next v.words v.links.now v.k layer j got now'.hops.now I.fours (goes_as j (λ W. row_bit W layer) I.same e) n₁ n₂ n₃ n₄ m p q r s;
+  }
+
+  -- no word is left
+  pub next_end : {v : Visit} {next₀ : List ℕ} {now : Visit} {next : List ℕ} (j : ℕ) → NextVisited v next₀ now next j → v.words ≤ j
+      → visited next now.hops.now ≡ visit_of v.words v.links.now layer v.k (visited next₀ v.hops.now)
+  next_end {v} j I l = fours_end v.words v.links.now v.k layer j I.fours v.room.positive l

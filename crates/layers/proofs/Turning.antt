@@ -1,6 +1,6 @@
 -- The turns of `search_table` by parity, its end, and buffers that were written before. Assumes nothing.
 use mathlib.Core.Path.{◌≡◌, refl, sym, ap, ap₂, ◌∙◌, subst}
-use mathlib.Core.Logic.{◌⊎◌, inl, inr}
+use mathlib.Core.Logic.{◌≢◌, ◌⊎◌, inl, inr}
 use mathlib.Core.Bool.{Bool, true, false, cond, not, ◌&&◌}
 use mathlib.Core.List.{List}
 use Prim.Native.Nat.{ℕ, ◌+◌, ◌-◌, ◌*◌, ◌%◌, ◌≤◌, ◌<◌, zero-le}
@@ -103,8 +103,9 @@ module _ (W : ℕ) (links : List ℕ) (s : ℕ) where
         (other_next W links s most k I.few B.hops B.even seen₀ hops even seen I.hops_is l I.seen_now odd odd' hops' seen' b e q))
         (seen_next W links s most k I.few B.hops B.even seen₀ hops even seen I.hops_is l I.seen_now odd odd' hops' seen' b e q)
 
-    pub turn_odd : (hops' even' seen' : List ℕ) (b : Bool) → stepped b hops' even' seen' ≡ step_of W links odd k hops even seen → b ≡ true → k % 2 ≡ 1 → AtLayer W links s B seen₀ (k + 1) hops' even' odd seen'
-    turn_odd hops' even' seen' b e q p =
+    pub turn_odd : (hops' even' seen' : List ℕ) (b : Bool) → stepped b hops' even' seen' ≡ step_of W links odd k hops even seen → b ≡ true → k % 2 ≢ 0 → AtLayer W links s B seen₀ (k + 1) hops' even' odd seen'
+    turn_odd hops' even' seen' b e q ne =
+        let p : k % 2 ≡ 1 = omega (arith, ne) in
         let l = row_now 1 odd B.odd p I.odd_is in
         go_on hops' even' odd seen'
         (sym (more_is W links s most k I.few B.hops B.odd seen₀ hops odd seen I.hops_is l I.seen_now even even' hops' seen' b e) ∙ q)
@@ -159,7 +160,7 @@ module _ (W : ℕ) (links : List ℕ) (s : ℕ) where
           h ∙ ap (λ (r : List ℕ). overwrite r B.hops) (fill_ext (H W links s k) (dist (table_network W links) s) (64 * W) (λ v m. sym (dist_now v m))) in
           ap₂ searched (sym depth_now) (rw (a, row_end 0 even B.even I.even_is, row_end 1 odd B.odd I.odd_is))
 
-    pub end_even : (hops' odd' seen' : List ℕ) (b : Bool) → stepped b hops' odd' seen' ≡ step_of W links even k hops odd seen → b ≡ false → k % 2 ≡ 0
+    end_even : (hops' odd' seen' : List ℕ) (b : Bool) → stepped b hops' odd' seen' ≡ step_of W links even k hops odd seen → b ≡ false → k % 2 ≡ 0
         → searched k (tables hops' even odd') ≡ search_table W links s B
     end_even hops' odd' seen' b e q p =
         let l = row_now 0 even B.even p I.even_is in
@@ -168,9 +169,10 @@ module _ (W : ℕ) (links : List ℕ) (s : ℕ) where
         (finish (sym (more_is W links s most k I.few B.hops B.even seen₀ hops even seen I.hops_is l I.seen_now odd odd' hops' seen' b e) ∙ q) hops'
         (hops_now W links s most k I.few B.hops B.even seen₀ hops even seen I.hops_is l I.seen_now odd odd' hops' seen' b e))
 
-    pub end_odd : (hops' even' seen' : List ℕ) (b : Bool) → stepped b hops' even' seen' ≡ step_of W links odd k hops even seen → b ≡ false → k % 2 ≡ 1
+    end_odd : (hops' even' seen' : List ℕ) (b : Bool) → stepped b hops' even' seen' ≡ step_of W links odd k hops even seen → b ≡ false → k % 2 ≢ 0
         → searched k (tables hops' even' odd) ≡ search_table W links s B
-    end_odd hops' even' seen' b e q p =
+    end_odd hops' even' seen' b e q ne =
+        let p : k % 2 ≡ 1 = omega (arith, ne) in
         let l = row_now 1 odd B.odd p I.odd_is in
         subst (λ (o : List ℕ). searched k (tables hops' o odd) ≡ search_table W links s B)
         (sym (other_stays W links s most k I.few B.hops B.odd seen₀ hops odd seen I.hops_is l I.seen_now even even' hops' seen' b e q))
@@ -211,6 +213,15 @@ module _ (W : ℕ) (links : List ℕ) (s : ℕ) (B : Tables) (seen₀ hops even 
         seen_now = I.seen_now ∙ sym (over_seen (λ v. ltb (H W links s 0 v) unreached));
       }
 
-  pub from_loop : search_table W links s (tables hops even odd) ≡ search_table W links s B
+  from_loop : search_table W links s (tables hops even odd) ≡ search_table W links s B
   unfolding search_table search_leaves
   from_loop = rw (over_hops (dist (table_network W links) s), over_even (layer_bit (dist (table_network W links) s) (depth_from (table_network W links) s) 0), over_odd (layer_bit (dist (table_network W links) s) (depth_from (table_network W links) s) 1))
+
+  module _ (most : W < 513) (k : ℕ) (hops₁ even₁ odd₁ seen₁ : List ℕ) (I : AtLayer W links s (tables hops even odd) seen k hops₁ even₁ odd₁ seen₁) where
+    pub even_answered : (hops' odd' seen' : List ℕ) (b : Bool) → stepped b hops' odd' seen' ≡ step_of W links even₁ k hops₁ odd₁ seen₁ → b ≡ false → k % 2 ≡ 0
+        → searched k (tables hops' even₁ odd') ≡ search_table W links s B
+    even_answered hops' odd' seen' b d q p = end_even W links s most (tables hops even odd) seen k hops₁ even₁ odd₁ seen₁ I hops' odd' seen' b d q p ∙ from_loop
+
+    pub odd_answered : (hops' even' seen' : List ℕ) (b : Bool) → stepped b hops' even' seen' ≡ step_of W links odd₁ k hops₁ even₁ seen₁ → b ≡ false → k % 2 ≢ 0
+        → searched k (tables hops' even' odd₁) ≡ search_table W links s B
+    odd_answered hops' even' seen' b d q ne = end_odd W links s most (tables hops even odd) seen k hops₁ even₁ odd₁ seen₁ I hops' even' seen' b d q ne ∙ from_loop

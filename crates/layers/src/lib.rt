@@ -11,6 +11,7 @@ ghost use Rattle.layers.specs.Begin.{search_begun, search_begin_of};
 use map::Scratch;
 
 // The start of a search: no hop, the start alone in the even row and seen.
+#[tactic(auto, using(crate::proofs::Searching::alone, crate::proofs::Searching::begin_is))]
 fn begin(scratch: &mut Scratch<'_>, seen: &mut [u64], words: usize, start: usize)
     requires { (0 < words)
         × (words < 513)

@@ -66,3 +66,6 @@ module _ (K : Shape) (rec : Record) (links pairs : List ℕ) where
       → record { answer = Done; after = none; links = l; pairs = p } ≡ empty_call K rec links pairs
   unfolding empty_call empty_given empty_refusal first_of
   both_cleared h k n e f = rw (le-leb (table_words K) (length links) h, le-leb (table_words K) (length pairs) k, n, e, f, none-zeros (table_words K))
+
+-- what the code answers: where the one or the other table is short, and where both are cleared
+pub ruleset emptyings = (short_links, short_pairs, both_cleared)

@@ -74,6 +74,9 @@ module _ (K : Shape) (l p h b s e o : ℕ) where
             unfolding long_enough
             long_odd x = rw (le-leb (table_words K) l a, le-leb (table_words K) p c, le-leb (places K) h d, le-leb (places K) b f, le-leb (places K) s g, le-leb K.words e x)
 
+-- the tests in the code's order: each that fails is the answer, and the last is
+pub ruleset size_tests = (short_links, short_pairs, short_hops, short_bounds, short_skips, short_even, long_odd)
+
 -- the code's test of the sizes, and the condition's
 pub long_is : (K : Shape) (links : List ℕ) (B : Lent) → long_enough K (sizes_of links B) ≡ all_fit (rounds_buffers K links B)
 unfolding long_enough sizes_of allb

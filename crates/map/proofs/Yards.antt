@@ -122,3 +122,6 @@ module _ (W : ℕ) (members yards : List ℕ) (j : ℕ) where
       at : (not (row_bit W yards v) ≡ true) ⊎ (row_bit W members v ≡ true) → ⊥
       at (inl n) = clash (row_word W yards j b l p.below ∙ both.0) (not-true (row_bit W yards v) n)
       at (inr t) = clash t (row_word W members j b l p.below ∙ not-true (bit (get_or members j 0) b) both.1)
+
+-- the walk over the words, but for its turns
+pub ruleset yard_walk = (yards_start, yards_end, yards_fault)

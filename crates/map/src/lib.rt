@@ -37,6 +37,7 @@ pub const UNREACHED: u16 = 65535;
 // ---- the open set
 
 // Whether v is open. The open set is lent as row 0 of a table.
+#[tactic(auto, using(rows::proofs::Written::table_zero))]
 pub fn is_open(members: &[u64], words: usize, v: usize) -> bool
     requires { (words ≤ length members.now) × (v < 64 * words) }
     ensures { result ≡ row_bit words members.now v }
@@ -45,6 +46,7 @@ pub fn is_open(members: &[u64], words: usize, v: usize) -> bool
 }
 
 // The open depot with the lowest code at or past `from`. Whatever goes through the depots in rising code asks here.
+#[tactic(auto, using(crate::proofs::Depots::next_depot))]
 pub fn next_open(members: &[u64], words: usize, from: usize) -> Option<usize>
     requires { (words ≤ length members.now) × (words < 2 ^ 32) }
     ensures { NextOpen (network_of words members.now []) from result }
@@ -55,6 +57,7 @@ pub fn next_open(members: &[u64], words: usize, from: usize) -> Option<usize>
 // ---- the yards
 
 // Takes the yards out of a row that holds the open set: the depots that deliver are left.
+#[tactic(auto, using(crate::proofs::Yards::delivering_start, crate::proofs::Yards::delivering_end))]
 pub fn keep_delivering(members: &mut [u64], yards: &[u64], words: usize)
     requires { (words ≤ length members.old) × (words ≤ length yards.now) }
     ensures { let G = yard_network words members.old yards.now [] in
@@ -66,6 +69,7 @@ pub fn keep_delivering(members: &mut [u64], yards: &[u64], words: usize)
 }
 
 // Whether every yard is open.
+#[tactic(auto, using(crate::proofs::Yards::yard_walk))]
 pub fn yards_are_open(members: &[u64], yards: &[u64], words: usize) -> bool
     requires { (words ≤ length members.now) × (words ≤ length yards.now) }
     ensures { result ≡ sound_yards (64 * words) (yard_network words members.now yards.now []) }
@@ -81,6 +85,7 @@ pub fn yards_are_open(members: &[u64], yards: &[u64], words: usize) -> bool
 // ---- whether a bit may stand
 
 // Whether a bit v of row u may stand: u and v are open and differ, and row v has bit u.
+#[tactic(auto, using(rows::proofs::Places::row_fits), unfolding(crate::specs::Bits::sound_link, crate::specs::Memory::network_of))]
 pub fn link_is_sound(members: &[u64], links: &[u64], words: usize, u: usize, v: usize) -> bool
     requires { IsLent words members.now links.now × (u < 64 * words) × (v < 64 * words) }
     ensures { result ≡ sound_link (network_of words members.now links.now) u v }
@@ -98,6 +103,7 @@ pub fn link_is_sound(members: &[u64], links: &[u64], words: usize, u: usize, v: 
 }
 
 // Whether bit `high` of row `low` of the pair table may stand: low < high, and both are of the row that is lent, the depots that deliver.
+#[tactic(auto, unfolding(crate::specs::Bits::sound_pair, graph::specs::Network::delivers, crate::specs::Memory::network_of))]
 pub fn pair_is_sound(delivering: &[u64], words: usize, low: usize, high: usize) -> bool
     requires { (words ≤ length delivering.now) × (low < 64 * words) × (high < 64 * words) }
     ensures { result ≡ sound_pair (network_of words delivering.now []) low high }
@@ -115,6 +121,7 @@ pub fn pair_is_sound(delivering: &[u64], words: usize, low: usize, high: usize) 
 
 // Whether the seven buffers of a reckoning or an opening have their named sizes. It takes lengths, since a search asks it too, for which what it is not lent
 // counts as whole.
+#[tactic(auto, using(crate::proofs::Longs::size_tests))]
 pub fn are_long(
     links: usize,
     pairs: usize,
@@ -213,6 +220,7 @@ pub struct Record {
 }
 
 // The record of an empty map.
+#[tactic(auto, using(crate::proofs::Empties::none_record))]
 pub fn empty_record() -> Record
     ensures { result ≡ empty_record base.words }
 {
@@ -228,6 +236,7 @@ pub fn empty_record() -> Record
 // Empties a map: both tables become zero, and the record handed out is the empty map's. Refused only with 1, where a table is short: then the record
 // that was passed stands.
 // A table is cleared as one row of 1,024 words.
+#[tactic(auto, using(crate::proofs::Empties::emptyings))]
 pub fn empty_map(rec: Record, links: &mut [u64], pairs: &mut [u64]) -> Result<Record, Refusal>
     ensures { empty_left rec result links.new pairs.new ≡ empty_call base rec links.old pairs.old }
 {

@@ -2,18 +2,12 @@
 -- that refutes the test. The measure is what is left of the word.
 use mathlib.Core.Path.{◌∙◌}
 use native.Mathlib.Omega.{arith}
-use Rattle.checks.proofs.Scans.{bits_start, bits_next, words_start, words_next, rows_start, rows_next, scan_whole, scan_fault}
+use Rattle.checks.proofs.Scans.{bits_next, words_start, words_next, scan_whole, scan_fault}
 use Rattle.checks.proofs.all_set.Goals as goal
 use Rattle.checks.proofs.all_set.Goals.{else-rows-test, then-rows-test+then-loop-w-test+then-loop-x-test+then-not-passes}
 
-pub rows-init : goal.rows-init
-rows-init g c = λ test h. rows_start
-
 pub loop-w-init : goal.loop-w-init
 loop-w-init g c = λ test h. words_start (c.rows.invariant test h).fine c.rows-test.true
-
-pub loop-x-init : goal.loop-x-init
-loop-x-init g c = λ test h. bits_start (c.loop-w.invariant test h).fine
 
 pub loop-x-preserved : goal.loop-x-preserved
 loop-x-preserved g c =
@@ -23,9 +17,6 @@ loop-x-preserved g c =
 pub loop-w-preserved : goal.loop-w-preserved
 loop-w-preserved g c =
     λ test h. words_next (c.loop-w.invariant test h) (c.loop-x.invariant test h) (omega arith) c.rows-test.true c.loop-w-test.true
-
-pub rows-preserved : goal.rows-preserved
-rows-preserved g c = λ test h. rows_next (c.rows.invariant test h) (c.loop-w.invariant test h) c.loop-w-test.false c.rows-test.true
 
 pub returns : goal.returns
 returns g c =
