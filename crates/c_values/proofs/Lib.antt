@@ -2,8 +2,6 @@
 pub mod Words
 -- Figures that are too large for the record's fields.
 pub mod Clamps
--- The outcome of an answer's number.
-pub mod Outcomes
 -- The refusal of a stream's step.
 pub mod Refusals
 -- The theorems: words written are words read, and an answer's number names its outcome.

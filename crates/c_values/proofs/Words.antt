@@ -1,14 +1,14 @@
 -- THE RECORD IN ELEVEN WORDS, read and written word by word. Assumes nothing.
 use mathlib.Core.Path.{◌≡◌, refl, sym, ap, ap₂, ◌∙◌}
 use mathlib.Core.List.{List, [], ◌∷◌, ◌++◌}
-use Prim.Native.Nat.{ℕ, suc, ◌+◌, ◌≤◌, ◌<◌, min}
+use Prim.Native.Nat.{ℕ, suc, ◌+◌, ◌≤◌, ◌<◌}
 use native.Mathlib.Omega.{arith}
 use lib.ListN.{length, get_or, set, take, drop, take-append-drop, length-append}
 use lib.Seq.{append_snoc, length-take-le, take_all, take_at, drop-cons, drop-append-add, drop-drop}
 use Rattle.lists.specs.Lists.{overwrite}
 use Rattle.lists.proofs.Copies.{overwrite_snoc}
 use Rattle.map.specs.declared.Record.{Record}
-use Rattle.c_values.specs.Words.{record_words, words_of, clamped_of}
+use Rattle.c_values.specs.Words.{record_words, words_of}
 
 -- ---- read
 
@@ -28,15 +28,6 @@ row_of l at h = sym (ap (take 4) (one_more l at (at + 1) (omega arith) (omega (a
     second : drop (at + 1) l ≡ get_or l (at + 1) 0 ∷ get_or l (at + 2) 0 ∷ get_or l (at + 3) 0 ∷ drop (at + 4) l
     second = one_more l (at + 1) (at + 2) (omega arith) (omega (arith, h)) ∙ ap (λ (r : List ℕ). get_or l (at + 1) 0 ∷ r) third
 
--- each figure at its width
-pub read_record : (l : List ℕ) {members yards : List ℕ} {n c k : ℕ} → members ≡ take 4 (drop 0 l) → yards ≡ take 4 (drop 7 l)
-    → n ≡ min (get_or l 4 0) 65535
-    → c ≡ min (get_or l 5 0) 65535
-    → k ≡ min (get_or l 6 0) 4294967295
-    → ◌≡◌ {A = Record} (record { members = members; number = n; chain = c; count = k; yards = yards }) (clamped_of l)
-unfolding clamped_of
-read_record l m y p q r = rw (m, y, p, q, r)
-
 -- ---- written: the stores are one overwriting
 
 put_one : (w l : List ℕ) (i x : ℕ) {m r : List ℕ} → m ≡ overwrite w l → length w ≡ i → i < length l → r ≡ set m i x → r ≡ overwrite (w ++ (x ∷ [])) l
@@ -46,17 +37,14 @@ put_one w l i x e n h s = s ∙ ap₂ (λ (m : List ℕ) (j : ℕ). set m j x) e
 length_more : (w : List ℕ) (x : ℕ) {i j : ℕ} → length w ≡ i → j ≡ i + 1 → length (w ++ (x ∷ [])) ≡ j
 length_more w x e s = omega (arith, length-append w (x ∷ []), e, s)
 
-pub write_row : (l row : List ℕ) (at : ℕ) {l₁ l₂ l₃ l₄ : List ℕ} → at + 4 ≤ length l → length row ≡ 4
-    → l₁ ≡ set l at (get_or row 0 0)
-    → l₂ ≡ set l₁ (at + 1) (get_or row 1 0)
-    → l₃ ≡ set l₂ (at + 2) (get_or row 2 0)
-    → l₄ ≡ set l₃ (at + 3) (get_or row 3 0)
-    → l₄ ≡ overwrite (take at l ++ row) l
+pub write_row : (l row : List ℕ) (at : ℕ) → at + 4 ≤ length l → length row ≡ 4
+    → overwrite (take at l ++ row) l ≡ set (set (set (set l at (get_or row 0 0)) (at + 1) (get_or row 1 0)) (at + 2) (get_or row 2 0)) (at + 3) (get_or row 3 0)
 unfolding overwrite
-write_row l row at {l₁} {l₂} h len e₁ e₂ e₃ e₄ =
-    put_one (w₂ ++ (get_or row 2 0 ∷ [])) l (at + 3) (get_or row 3 0) (put_one w₂ l (at + 2) (get_or row 2 0) two n₂ (omega (arith, h)) e₃)
-    (length_more w₂ (get_or row 2 0) n₂ (omega arith)) (omega (arith, h)) e₄
-    ∙ ap (λ (w : List ℕ). overwrite w l) joined
+write_row l row at h len =
+    sym
+    (put_one (w₂ ++ (get_or row 2 0 ∷ [])) l (at + 3) (get_or row 3 0) (put_one w₂ l (at + 2) (get_or row 2 0) two n₂ (omega (arith, h)) refl)
+    (length_more w₂ (get_or row 2 0) n₂ (omega arith)) (omega (arith, h)) refl
+    ∙ ap (λ (w : List ℕ). overwrite w l) joined)
   where
     w : List ℕ
     w = take at l
@@ -73,10 +61,10 @@ write_row l row at {l₁} {l₂} h len e₁ e₂ e₃ e₄ =
     n₂ : length w₂ ≡ at + 2
     n₂ = length_more (w ++ (get_or row 0 0 ∷ [])) (get_or row 1 0) (length_more w (get_or row 0 0) n refl) (omega arith)
 
-    two : l₂ ≡ overwrite w₂ l
+    two : set (set l at (get_or row 0 0)) (at + 1) (get_or row 1 0) ≡ overwrite w₂ l
     two =
-        put_one (w ++ (get_or row 0 0 ∷ [])) l (at + 1) (get_or row 1 0) (put_one w l at (get_or row 0 0) none n (omega (arith, h)) e₁)
-        (length_more w (get_or row 0 0) n refl) (omega (arith, h)) e₂
+        put_one (w ++ (get_or row 0 0 ∷ [])) l (at + 1) (get_or row 1 0) (put_one w l at (get_or row 0 0) none n (omega (arith, h)) refl)
+        (length_more w (get_or row 0 0) n refl) (omega (arith, h)) refl
 
     whole : get_or row 0 0 ∷ get_or row 1 0 ∷ get_or row 2 0 ∷ get_or row 3 0 ∷ [] ≡ row
     whole = row_of row 0 (omega (arith, len)) ∙ take_all 4 row (omega (arith, len))
@@ -98,20 +86,16 @@ over_again w y l =
     ∙ drop-drop (length y) (length w) l
     ∙ ap (λ (k : ℕ). drop k l) (sym (length-append w y)))
 
-pub write_record : (l : List ℕ) (rec : Record) {l₁ l₂ l₃ l₄ l₅ : List ℕ} → record_words ≤ length l → length rec.members ≡ 4
-    → l₁ ≡ overwrite (take 0 l ++ rec.members) l
-    → l₂ ≡ set l₁ 4 rec.number
-    → l₃ ≡ set l₂ 5 rec.chain
-    → l₄ ≡ set l₃ 6 rec.count
-    → l₅ ≡ overwrite (take 7 l₄ ++ rec.yards) l₄
-    → l₅ ≡ overwrite (words_of rec) l
+pub write_record : (l : List ℕ) (rec : Record) → record_words ≤ length l → length rec.members ≡ 4
+    → let m : List ℕ = set (set (set (overwrite (take 0 l ++ rec.members) l) 4 rec.number) 5 rec.chain) 6 rec.count in
+    overwrite (words_of rec) l ≡ overwrite (take 7 m ++ rec.yards) m
 unfolding words_of overwrite
-write_record l rec {l₁} {l₂} {l₃} {l₄} h len e₁ e₂ e₃ e₄ e₅ =
-    e₅
-    ∙ ap (λ (m : List ℕ). overwrite (take 7 m ++ rec.yards) m) put
+write_record l rec h len =
+    sym
+    (ap (λ (m : List ℕ). overwrite (take 7 m ++ rec.yards) m) put
     ∙ ap (λ (r : List ℕ). overwrite (r ++ rec.yards) (overwrite w l)) front
     ∙ over_again w rec.yards l
-    ∙ ap (λ (r : List ℕ). overwrite r l) joined
+    ∙ ap (λ (r : List ℕ). overwrite r l) joined)
   where
     w₁ : List ℕ
     w₁ = rec.members ++ (rec.number ∷ [])
@@ -131,11 +115,11 @@ write_record l rec {l₁} {l₂} {l₃} {l₄} h len e₁ e₂ e₃ e₄ e₅ =
     n : length w ≡ 7
     n = length_more w₂ rec.count n₂ refl
 
-    put : l₄ ≡ overwrite w l
+    put : set (set (set (overwrite rec.members l) 4 rec.number) 5 rec.chain) 6 rec.count ≡ overwrite w l
     put =
         put_one w₂ l 6 rec.count
-        (put_one w₁ l 5 rec.chain (put_one rec.members l 4 rec.number e₁ len (omega (arith, h)) e₂) n₁ (omega (arith, h)) e₃)
-        n₂ (omega (arith, h)) e₄
+        (put_one w₁ l 5 rec.chain (put_one rec.members l 4 rec.number refl len (omega (arith, h)) refl) n₁ (omega (arith, h)) refl)
+        n₂ (omega (arith, h)) refl
 
     front : take 7 (overwrite w l) ≡ w
     front = take_at w (drop (length w) l) 7 n

@@ -43,6 +43,7 @@ fn at_32_bits(x: u64) -> u32
 }
 
 // The row of four words from a place on.
+#[tactic(auto, using(crate::proofs::Words::row_of))]
 fn row_at(words: &[u64], at: usize) -> [u64; map::WORDS]
     requires { at + base.words ≤ length words.now }
     ensures { result ≡ take base.words (drop at words.now) }
@@ -51,6 +52,7 @@ fn row_at(words: &[u64], at: usize) -> [u64; map::WORDS]
 }
 
 // The record in eleven lent words. Figures that are too large for it stay too large for any map, so that they are found spoilt.
+#[tactic(auto, unfolding(crate::specs::Words::clamped_of))]
 pub fn record_of(words: &[u64]) -> Record
     requires { record_words ≤ length words.now }
     ensures { result ≡ clamped_of words.now }
@@ -75,6 +77,7 @@ fn put_word(words: &mut [u64], i: usize, x: u64)
 }
 
 // Puts a row into the four words from a place on; the others stay.
+#[tactic(auto, using(crate::proofs::Words::write_row))]
 fn put_row(words: &mut [u64], at: usize, row: &[u64])
     requires { (at + base.words ≤ length words.old) × (length row.now ≡ base.words) }
     ensures { let before = words.old in words.new ≡ overwrite (take at before ++ row.now) before }
@@ -86,6 +89,7 @@ fn put_row(words: &mut [u64], at: usize, row: &[u64])
 }
 
 // Puts a record into eleven lent words; words past them stay.
+#[tactic(auto, using(crate::proofs::Words::write_record))]
 pub fn put_record(words: &mut [u64], rec: Record)
     requires { record_words ≤ length words.old }
     ensures { words.new ≡ overwrite (words_of rec) words.old }
@@ -102,6 +106,7 @@ pub fn put_record(words: &mut [u64], rec: Record)
 // ---- an answer's number
 
 // The outcome that an answer's number stands for: a letter of an accepted opening, or a refusal's number.
+#[tactic(auto, unfolding(crate::specs::Outcomes::outcome_of))]
 pub fn outcome_of(answer: u8) -> Outcome
     ensures { result ≡ outcome_of answer }
 {
@@ -120,6 +125,7 @@ pub fn outcome_of(answer: u8) -> Outcome
 // ---- the step of a stream
 
 // The first refusal of a step that holds. It only reads.
+#[tactic(auto, using(crate::proofs::Clamps::map_clamp), unfolding(crate::specs::Refusal::step_refusal))]
 pub fn step_refusal(
     words: &[u64],
     links: &[u64],

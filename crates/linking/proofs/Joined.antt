@@ -19,7 +19,7 @@ use Rattle.graph.specs.Updates.{joins, update_faults, applied, steps}
 use Rattle.graph.proofs.Linked.{IsLinkable, linkable_of}
 use Rattle.rows.specs.Rows.{row_bit, table_bit, encode_row, encode_table}
 use Rattle.rows.proofs.Written.{table_within}
-use Rattle.map.specs.Room.{tables, Lent, lent, Sizes, sizes}
+use Rattle.map.specs.Room.{tables, Lent, lent, Sizes, sizes, sizes_of}
 use Rattle.map.specs.Memory.{Shape, IsShape, places, network_of, map_network}
 use Rattle.map.specs.declared.Record.{Record}
 use Rattle.map.proofs.Theorems.{network_linked_below}
@@ -32,16 +32,24 @@ use Rattle.outcome.specs.declared.Outcome.TheVariants.{Accepted}
 use Rattle.admission.proofs.Links.{link_faults_any, link_is}
 use Rattle.insertion.specs.Figured.{Figured, figured}
 use Rattle.relink.specs.Relinked.{relinked_by, IsRelinkable}
-use Rattle.update.specs.UpdateCall.{update_refusal, network_after, updated_by, UpdateLeft, update_given}
+use Rattle.update.specs.UpdateCall.{update_refusal, network_after, updated_by, UpdateLeft, update_given, update_call}
 use Rattle.update.specs.Steps.{map_refusal}
 use Rattle.update.proofs.Refuses.{refused_by_link}
 use Rattle.update.proofs.Memories.{IsHeld, network_path, number_is, open_below}
 use Rattle.update.proofs.Grants.{granted_links, granted_figures, granted_notice, held_after}
 
--- of a memory that nothing refuses, what refuses the codes refuses the call, whatever yards there are
-pub refused_codes : (K : Shape) (rec : Record) (links pairs : List ℕ) (z : Sizes) (a d : ℕ) → 0 ≡ map_refusal K rec links pairs z
-    → first_of (link_faults (network_of K.words rec.members links) a d) ≡ update_refusal K rec links pairs z (joins a d)
-refused_codes K rec links pairs z a d e = ap first_of (link_faults_any K.words rec.members rec.yards links a d) ∙ refused_by_link K rec links pairs z a d e
+-- of a memory that nothing refuses, what refuses the codes refuses the call, whatever yards there are; and what the call leaves goes by it
+module _ (K : Shape) (rec : Record) (links p : List ℕ) (a d : ℕ) where
+  abbrev first : ℕ
+  first = first_of (link_faults (network_of K.words rec.members links) a d)
+
+  pub judged : (z : Sizes) → map_refusal K rec links p z ≡ 0 → update_refusal K rec links p z (joins a d) ≡ first
+  judged z e = sym (ap first_of (link_faults_any K.words rec.members rec.yards links a d) ∙ refused_by_link K rec links p z a d (sym e))
+
+  pub called : (h b s even odd : List ℕ) → map_refusal K rec links p (sizes (length links) (length p) (length h) (length b) (length s) (length even) (length odd)) ≡ 0
+      → update_call K rec links (lent p (tables h even odd) b s) (joins a d) ≡ update_given first K rec links (lent p (tables h even odd) b s) (joins a d)
+  unfolding update_call sizes_of
+  called h b s even odd e = ap (λ (k : ℕ). update_given k K rec links (lent p (tables h even odd) b s) (joins a d)) (judged _ e)
 
 -- what is left, of a number open, an outcome, a yard set and a state
 abbrev left_by : ℕ → Outcome → List ℕ → List ℕ → List ℕ → Ran → UpdateLeft
@@ -170,12 +178,3 @@ module _ (K : Shape) (shape : IsShape K) (rec : Record) (links p h b s x y : Lis
           ∙ ap (λ (ys : List ℕ). left_by (length (vertices H)) (Accepted xo.change) (row_by H.is_open rec.members) ys left R)
           (yards ∙ ap (λ (f : ℕ → Bool). row_by f rec.yards) (sym yards_are))
           ∙ ap (λ (ls : List ℕ). left_by (length (vertices H)) (Accepted xo.change) (row_by H.is_open rec.members) (row_by H.is_yard rec.yards) ls R) written
-
--- ---- the step's contract, of the codes that the code has found to be the lower and the higher
-
-pub relinkable_at : (K : Shape) (members targets links : List ℕ) (B : Lent) {lo hi low high : ℕ} → low ≡ lo → high ≡ hi
-    → IsRelinkable K members targets links B lo hi → IsRelinkable K members targets links B low high
-relinkable_at K members targets links B e f is = rw (e, f) is
-
-pub relinked_at : (K : Shape) (H : Network) (D : ℕ) (B : Lent) {lo hi low high : ℕ} {x : Figured} → low ≡ lo → high ≡ hi → x ≡ relinked_by K H low high D B → x ≡ relinked_by K H lo hi D B
-relinked_at K H D B e f is = rw (← e, ← f) is

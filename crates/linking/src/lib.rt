@@ -25,6 +25,7 @@ use update::{Report, Returned};
 
 // The targets: the yards are taken out of the row, which has the open set. Of both sets it says that they are what their bits encode, their words being of
 // 64 bits each: so the call's definition writes them.
+#[tactic(auto, using(rows::proofs::Wholes::row_whole))]
 fn keep_targets(targets: &mut [u64], yards: &[u64])
     requires { (base.words ≤ length targets.old) × (base.words ≤ length yards.now) }
     ensures kept { let G = yard_network base.words targets.old yards.now [] in
@@ -79,6 +80,7 @@ fn link_map(rec: Record, links: &mut [u64], room: &mut Room<'_>, first: u8, seco
 }
 
 // The link for callers that hold a proved map, whose memory nothing refuses: the same answer without checking it again.
+#[tactic(auto, using(crate::proofs::Joined::judged, crate::proofs::Joined::called))]
 pub fn link_sound(
     rec: Record,
     links: &mut [u64],

@@ -4,34 +4,38 @@ use mathlib.Core.Path.{◌≡◌, refl, sym, ap, ◌∙◌, subst}
 use mathlib.Core.Bool.{Bool, true, false, cond, ◌&&◌, ◌||◌}
 use mathlib.Core.List.{List, []}
 use Prim.Native.Nat.{ℕ, ◌+◌, ◌*◌, ◌^◌, ◌≤◌, ◌<◌}
+use mir.Syntax.{w8}
+use mir.Val.{Fits}
 use native.Mathlib.Omega.{arith}
 use lib.Dec.{T, eqb}
 use lib.ListN.{length, get_or}
 use borrow.Author.Tests.{eq-eqb}
-use Rattle.lists.specs.Lists.{memb, overwrite}
+use Rattle.lists.specs.Lists.{memb, overwrite, first_of}
 use Rattle.lists.proofs.Tests.{or_left, true→t}
 use Rattle.graph.specs.Network.{Network, IsSound, delivers}
 use Rattle.graph.specs.Chart.{chart}
-use Rattle.graph.specs.Opening.{Notice, by_code, with_depot, opening}
+use Rattle.graph.specs.Opening.{Notice, by_code, with_depot, opening, open_faults}
 use Rattle.graph.specs.Correct.{IsNet}
 use Rattle.rows.specs.Rows.{row_bit, table_bit, encode_row, encode_table, put_bit}
 use Rattle.rows.proofs.Puts.{put_row_lem}
 use Rattle.rows.proofs.Wholes.{row_whole, encode_row_ext}
 use Rattle.rows.proofs.Written.{row_within}
-use Rattle.map.specs.Room.{tables, Lent, lent, Sizes, sizes}
-use Rattle.map.specs.Memory.{Shape, IsShape, places, network_of, yard_network, map_network}
+use Rattle.map.specs.Room.{tables, Lent, lent, Sizes, sizes, sizes_of}
+use Rattle.map.specs.Memory.{Shape, IsShape, base, places, network_of, yard_network, map_network}
 use Rattle.checks.specs.Sound.{AreFiguresSound}
 use Rattle.map.specs.declared.Record.{Record}
-use Rattle.map.proofs.Theorems.{network_linked_below}
+use Rattle.map.proofs.Theorems.{base_shape, network_linked_below}
 use Rattle.rounds.specs.Leaves.{Ran, ran_by}
 use Rattle.rounds.specs.Targets.{target_network}
 use Rattle.rounds.proofs.Targets.{delivering_targets, delivering_network}
 use Rattle.outcome.specs.declared.Change.{Change}
 use Rattle.outcome.specs.declared.Outcome.{Outcome}
 use Rattle.outcome.specs.declared.Outcome.TheVariants.{Accepted}
-use Rattle.admission.proofs.Theorems.{linked_after, linked_is}
+use Rattle.admission.proofs.Theorems.{linked_after, linked_is, faults_any}
 use Rattle.insertion.specs.Figured.{Figured, figured, figured_by, IsFigurable}
-use Rattle.update.specs.UpdateCall.{update_refusal, network_after, updated_by, UpdateLeft, update_given}
+use Rattle.update.specs.UpdateCall.{update_refusal, network_after, updated_by, UpdateLeft, update_given, update_call}
+use Rattle.update.specs.Steps.{map_refusal}
+use Rattle.update.proofs.Refuses.{refused_by_notice}
 use Rattle.graph.specs.Opening.{notice_of}
 use Rattle.update.proofs.Memories.{IsHeld, open_below, depots_few}
 use Rattle.update.proofs.Grants.{granted_net, granted_figures, admitted, held_after, number_after}
@@ -52,15 +56,20 @@ code_put W code members l n fits =
     ∙ put_row_lem W code true (row_bit W members) members l
     ∙ ap (λ (r : List ℕ). overwrite r members) (encode_row_ext W (λ v. cond (eqb v code) true (row_bit W members v)) (λ v. eqb v code || row_bit W members v) (λ v h. or_cond (eqb v code) (row_bit W members v)))
 
--- ---- the yard set: a yard's code is put, any other leaves the row, which is what its bits encode
+-- ---- the notice of a map that nothing refuses: its own refusal is the call's, and what the call leaves goes by it
 
-pub yard_put : (W code : ℕ) (yards : List ℕ) (yard : Bool) → yard ≡ true → code < 64 * W → W ≤ length yards → ((i : ℕ) → i < W → get_or yards i 0 < 2 ^ 64)
-    → put_bit W 0 code true yards ≡ overwrite (encode_row W (λ v. (yard && eqb v code) || row_bit W yards v)) yards
-yard_put W code yards yard e l n fits = rw e (code_put W code yards l n fits)
+module _ (K : Shape) (rec : Record) (links p : List ℕ) (y : Bool) (code : ℕ) (ns : List ℕ) where
+  abbrev first : ℕ
+  first = first_of (open_faults (network_of K.words rec.members []) (notice_of false code ns))
 
-pub yard_left : (W code : ℕ) (yards : List ℕ) (yard : Bool) → yard ≡ false → W ≤ length yards → ((i : ℕ) → i < W → get_or yards i 0 < 2 ^ 64)
-    → yards ≡ overwrite (encode_row W (λ v. (yard && eqb v code) || row_bit W yards v)) yards
-yard_left W code yards yard e n fits = rw e (row_whole W yards n fits)
+  pub judged : (z : Sizes) → map_refusal K rec links p z ≡ 0 → update_refusal K rec links p z (opens (notice_of y code ns)) ≡ first
+  judged z e = sym (ap first_of (faults_any _ _ _ _ _ _ _) ∙ refused_by_notice K rec links p z (notice_of y code ns) (sym e))
+
+  pub called : (h b s even odd : List ℕ) → map_refusal K rec links p (sizes (length links) (length p) (length h) (length b) (length s) (length even) (length odd)) ≡ 0
+      → update_call K rec links (lent p (tables h even odd) b s) (opens (notice_of y code ns))
+      ≡ update_given first K rec links (lent p (tables h even odd) b s) (opens (notice_of y code ns))
+  unfolding update_call sizes_of
+  called h b s even odd e = ap (λ (k : ℕ). update_given k K rec links (lent p (tables h even odd) b s) (opens (notice_of y code ns))) (judged _ e)
 
 -- ---- the parts, put together
 
@@ -83,7 +92,7 @@ module _ (K : Shape) (shape : IsShape K) (rec : Record) (links p h b s x y : Lis
   H = network_after K rec links (opens o)
 
   -- the number open has room for one more
-  pub number_small : rec.number + 1 ≤ places K
+  number_small : rec.number + 1 ≤ places K
   number_small = omega (arith, number_after K shape rec links p z o ok low, depots_few K H (held_after K shape rec links p z (opens o) ok low))
 
   open_is : H.is_open ≡ (λ v. eqb v code || row_bit K.words rec.members v)
@@ -186,3 +195,12 @@ module _ (K : Shape) (shape : IsShape K) (rec : Record) (links p h b s x y : Lis
           (yarded ∙ ap (λ (f : ℕ → Bool). row_by f rec.yards) (sym yards_are))
           ∙ ap (λ (ls : List ℕ). left_with opened (Accepted xo.change) (row_by H.is_open rec.members) (row_by H.is_yard rec.yards) ls R)
           (linked ∙ ap (λ (f : ℕ → ℕ → Bool). overwrite (encode_table K.words f) links) (sym links_are_lem))
+
+-- ---- the number open has room for one more. It is said with the refusal, which is 0 and shows the law's arguments, so that the check finds them
+
+pub room_for_one : (rec : Record) (links p h b s x y : List ℕ) (yard : Bool) (code : ℕ) (ns : List ℕ)
+    → update_refusal base rec links p (sizes (length links) (length p) (length h) (length b) (length s) (length x) (length y)) (opens (notice_of yard code ns)) ≡ 0
+    → Fits w8 code → ((k : ℕ) → Fits w8 (get_or ns k 0))
+    → update_refusal base rec links p (sizes (length links) (length p) (length h) (length b) (length s) (length x) (length y)) (opens (notice_of yard code ns)) + rec.number < places base
+room_for_one rec links p h b s x y yard code ns ok low lows =
+    omega (arith, ok, number_small base base_shape rec links p h b s x y yard code ns ok low.fits (λ k l. (lows k).fits))

@@ -20,6 +20,7 @@ use update::{Report, Returned};
 // ---- the opening
 
 // Puts the new code into the open set.
+#[tactic(auto, using(crate::proofs::Placed::code_put))]
 fn put_code(members: &mut [u64], code: u8)
     requires { base.words ≤ length members.old }
     ensures { let before = members.old in
@@ -40,6 +41,7 @@ fn put_yard(yards: &mut [u64], yard: bool, code: u8)
 }
 
 // The opening of a notice that nothing refuses: its links in place, then the figures.
+#[tactic(auto, using(crate::proofs::Placed::room_for_one))]
 fn open_map(
     rec: Record,
     links: &mut [u64],
@@ -81,6 +83,7 @@ fn open_map(
 }
 
 // The opening for callers that hold a proved map, whose memory nothing refuses: the same answer without checking it again.
+#[tactic(auto, using(crate::proofs::Placed::judged, crate::proofs::Placed::called))]
 pub fn open_sound(
     rec: Record,
     links: &mut [u64],

@@ -47,6 +47,7 @@ pub fn files_read(arguments: usize) -> u32
 // ---- a line
 
 // Puts the four numbers of a report and the line's end at a place.
+#[tactic(auto, using(crate::proofs::Lines::widths))]
 fn put_numbers(out: &mut [u8], at: usize, numbers: Summary) -> usize
     requires { at + room ≤ length out.old }
     ensures { Placed (summing_text (answered (Ok numbers))) at out.old result out.new }
@@ -60,6 +61,7 @@ fn put_numbers(out: &mut [u8], at: usize, numbers: Summary) -> usize
 }
 
 // Puts R, a refusal's number and the line's end at a place.
+#[tactic(auto, using(crate::proofs::Lines::widths))]
 fn put_refusal(out: &mut [u8], at: usize, n: u8) -> usize
     requires { at + room ≤ length out.old }
     ensures { Placed (summing_text (Refused n)) at out.old result out.new }
@@ -84,6 +86,7 @@ fn put_answer(out: &mut [u8], at: usize, answer: Result<Summary, u8>) -> usize
 // ---- the totals
 
 // The totals with one file more. A refused map adds nothing.
+#[tactic(auto, unfolding(crate::specs::Run::with_file, crate::specs::Calls::IsOfFile))]
 fn with_file(totals: Totals, answer: Result<Summary, u8>) -> Totals
     requires { AreOfFiles totals × IsOfFile (answered answer) × (totals.files < files_limit) }
     ensures { result ≡ with_file (answered answer) totals }
@@ -103,6 +106,7 @@ fn with_file(totals: Totals, answer: Result<Summary, u8>) -> Totals
 }
 
 // The totals as the numbers of a report: the mean of all pairs, 0 and 0 where there are none.
+#[tactic(auto, unfolding(crate::specs::Run::total_of))]
 fn total_of(totals: Totals) -> Summary
     ensures { answered (Ok result) ≡ total_of totals }
 {
@@ -126,6 +130,7 @@ fn total_of(totals: Totals) -> Summary
 
 // Writes the line of a file's answer behind what is written, and adds the file to the totals. The answer is a report, or any number of eight bits, not one
 // of a `Refusal` alone: a line shows any.
+#[tactic(auto, using(crate::proofs::Lines::pasted_text), unfolding(crate::specs::Calls::file_call))]
 pub fn put_file(out: &mut [u8], at: usize, totals: Totals, answer: Result<Summary, u8>) -> FilePut
     requires { (at + room ≤ length out.old) × AreOfFiles totals × IsOfFile (answered answer) × (totals.files < files_limit) }
     ensures { file_left result out.new ≡ file_call totals (answered answer) at out.old }
@@ -139,6 +144,7 @@ pub fn put_file(out: &mut [u8], at: usize, totals: Totals, answer: Result<Summar
 }
 
 // Writes the last line behind what is written, and answers the place behind it.
+#[tactic(auto, using(crate::proofs::Lines::pasted_text), unfolding(crate::specs::Calls::total_call, crate::specs::Run::total_line))]
 pub fn put_total(out: &mut [u8], at: usize, totals: Totals) -> usize
     requires { at + room ≤ length out.old }
     ensures { total_left result out.new ≡ total_call totals at out.old }

@@ -15,13 +15,6 @@ link_codes-requires c = (
   (are_long_lem base _ (granted_long base base_shape _ _ _ _ _ c.requires)).links,
 )
 
-pub slice_bounds-keep_targets-end-2 : goal.slice_bounds-keep_targets-end-2
-slice_bounds-keep_targets-end-2 c = search rules
-
-pub keep_targets-requires : goal.keep_targets-requires
-keep_targets-requires c =
-    (omega arith, omega (arith, slice_bounds-keep_targets-end-2 c))
-
 pub relink_codes-got-requires : goal.relink_codes-got-requires
 relink_codes-got-requires c =
     let lent = are_long_lem base _ (granted_long base base_shape _ _ _ _ _ c.requires) in (

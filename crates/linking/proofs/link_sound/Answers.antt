@@ -3,9 +3,9 @@ use mathlib.Core.Path.{sym, ◌∙◌}
 use native.Mathlib.Omega.{arith}
 use Rattle.map.specs.Memory.{base}
 use Rattle.map.proofs.Longs.{are_long_lem}
-use Rattle.update.proofs.Refuses.{map_long, refused_call, accepted_call}
+use Rattle.update.proofs.Refuses.{map_long, refused_call}
 use Rattle.outcome.proofs.Numbering.{refuses}
-use Rattle.linking.proofs.Joined.{refused_codes}
+use Rattle.linking.proofs.Joined.{judged}
 use Rattle.linking.proofs.link_sound.Goals as goal
 
 pub link_refusal-requires : goal.link_refusal-requires
@@ -15,14 +15,4 @@ link_refusal-requires c =
 pub returns-in-Err-clause-left : goal.returns-in-Err-clause-left
 returns-in-Err-clause-left c =
     refused_call base _ _ _ _ _ _ _ _ _ _ _ c.refused.ensures
-    (c.number.ensures ∙ c.in-Err.ensures ∙ refused_codes base _ _ _ _ _ _ (sym c.requires)) (λ z. refuses _ (sym c.number.ensures ∙ z))
-
-pub link_map-requires : goal.link_map-requires
-link_map-requires c =
-    sym (c.in-Ok.ensures ∙ refused_codes base _ _ _ _ _ _ (sym c.requires))
-
-pub returns-in-Ok-clause-left : goal.returns-in-Ok-clause-left
-returns-in-Ok-clause-left c =
-    accepted_call base _ _ _ _ _ _ _ _ _ _
-    (c.in-Ok.ensures ∙ refused_codes base _ _ _ _ _ _ (sym c.requires))
-    c.link_map.ensures.left
+    (c.number.ensures ∙ c.in-Err.ensures ∙ sym (judged base _ _ _ _ _ _ c.requires)) (λ z. refuses _ (sym c.number.ensures ∙ z))

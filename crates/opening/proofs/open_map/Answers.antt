@@ -5,59 +5,28 @@ use Rattle.map.specs.Memory.{base}
 use Rattle.map.proofs.Theorems.{base_shape}
 use Rattle.map.proofs.Longs.{are_long_lem}
 use Rattle.update.proofs.Grants.{granted_long}
-use Rattle.opening.proofs.Placed.{number_small, figurable, opened_is}
+use Rattle.opening.proofs.Placed.{figurable, opened_is}
 use borrow.Author.Rules.{rules}
 use Rattle.opening.proofs.open_map.Goals as goal
 
-pub slice_bounds-put_code-end : goal.slice_bounds-put_code-end
-slice_bounds-put_code-end c = search rules
-
-pub slice_bounds-put_yard-end : goal.slice_bounds-put_yard-end
-slice_bounds-put_yard-end c = search rules
-
-pub slice_bounds-keep_delivering-end-2 : goal.slice_bounds-keep_delivering-end-2
-slice_bounds-keep_delivering-end-2 c = search rules
-
 pub link_depot-requires : goal.link_depot-requires
-link_depot-requires c = (
-  search rules,
-  search rules,
-  (are_long_lem base _ (granted_long base base_shape _ _ _ _ _ c.requires)).links,
-)
-
-pub put_code-requires : goal.put_code-requires
-put_code-requires c = omega (arith, slice_bounds-put_code-end c)
-
-pub put_yard-requires : goal.put_yard-requires
-put_yard-requires c = omega (arith, slice_bounds-put_yard-end c)
-
-pub keep_delivering-requires : goal.keep_delivering-requires
-keep_delivering-requires c =
-    (omega arith, omega (arith, slice_bounds-keep_delivering-end-2 c))
+link_depot-requires c =
+    (search rules, search rules, (are_long_lem base _ (granted_long base base_shape _ _ _ _ _ c.requires)).links)
 
 pub refigure-got-requires : goal.refigure-got-requires
 refigure-got-requires c =
     let long = are_long_lem base _ (granted_long base base_shape _ _ _ _ _ c.requires) in (
       search rules,
       figurable base base_shape _ _ _ _ _ _ _ _ _ _ _ c.requires c.ranges.code.fits
-          (λ k l. (c.shared_slice_known-1.given k).fits) _ _ _ c.put_code.ensures
+          (λ k l. (c.type_inv.neighbours k).fits) _ _ _ c.put_code.ensures
           c.put_yard.ensures c.link_depot.ensures _ (omega arith)
           (omega arith) c.keep_delivering.ensures,
       search rules,
     )
 
-pub overflow_add-after : goal.overflow_add-after
-overflow_add-after c =
-    let room = c.args.room.now in
-    let small =
-    number_small base base_shape c.args.rec c.args.links.now room.pairs.now room.hops.now room.bounds.now
-    room.skips.now room.even.now room.odd.now c.args.yard c.args.code c.args.neighbours.now
-    c.requires c.ranges.code.fits (λ k l. (c.shared_slice_known-1.given k).fits) in
-    omega arith
-
 pub returns-clause-left : goal.returns-clause-left
 returns-clause-left c =
     opened_is base base_shape _ _ _ _ _ _ _ _ _ _ _ c.requires c.ranges.code.fits
-    (λ k l. (c.shared_slice_known-1.given k).fits) _ _ _ c.put_code.ensures
+    (λ k l. (c.type_inv.neighbours k).fits) _ _ _ c.put_code.ensures
     c.put_yard.ensures c.link_depot.ensures _ (omega arith)
     (omega arith) c.keep_delivering.ensures _ _ c.refigure-got.ensures.left
