@@ -53,7 +53,7 @@ module _ (h : ℕ → ℕ) (c v : ℕ) where
   nearer_high a b l = rw (le-ltb (h v) (h c) a, eq-eqb (h v) (h c) (omega arith), le-ltb v c l)
 
   -- it is one of the two
-  nearer_below : (n : ℕ) → c < n → v < n → nearer_of h c v < n
+  pub nearer_below : (n : ℕ) → c < n → v < n → nearer_of h c v < n
   unfolding nearer_of
   nearer_below n a b = go (ltb (h v) (h c) || (eqb (h v) (h c) && ltb v c))
     where
@@ -75,22 +75,16 @@ module _ (h : ℕ → ℕ) (p : ℕ → Bool) (s : List ℕ) (first : ℕ) where
 
   module _ {found i : ℕ} (w : IsChoosing found i) where
     -- one code more: it counts where it passes
-    pub choosing_more : i < length s → IsChoosing (cond (p (get_or s i 0)) (nearer_of h found (get_or s i 0)) found) (i + 1)
+    pub choosing_took : {next : ℕ} → i < length s → p (get_or s i 0) ≡ true → next ≡ nearer_of h found (get_or s i 0) → IsChoosing next (i + 1)
     unfolding nearest_from
-    choosing_more l = go (look (p (get_or s i 0)))
-      where
-        go : (p (get_or s i 0) ≡ true) ⊎ (p (get_or s i 0) ≡ false) → IsChoosing (cond (p (get_or s i 0)) (nearer_of h found (get_or s i 0)) found) (i + 1)
-        go (inl t) = rw t (record { within = omega arith; same = w.same ∙ ap (nearest_from h found) (filter-took p s i 0 l t) })
-        go (inr f) = rw f (record { within = omega arith; same = w.same ∙ ap (nearest_from h found) (filter-passed p s i 0 l f) })
+    choosing_took l t e = rw e (record { within = omega arith; same = w.same ∙ ap (nearest_from h found) (filter-took p s i 0 l t) })
+
+    pub choosing_passed : {next : ℕ} → i < length s → p (get_or s i 0) ≡ false → next ≡ found → IsChoosing next (i + 1)
+    choosing_passed l f e = rw e (record { within = omega arith; same = w.same ∙ ap (nearest_from h found) (filter-passed p s i 0 l f) })
 
     pub choosing_all : length s ≤ i → found ≡ nearest_from h first (filterb p s)
     unfolding nearest_from
     choosing_all l = sym (w.same ∙ ap (nearest_from h found) (filter-done p s i l))
-
--- what counts stays below n
-pub choosing_below : (h : ℕ → ℕ) (t : Bool) (c v n : ℕ) → c < n → v < n → cond t (nearer_of h c v) c < n
-choosing_below h true c v n a b = nearer_below h c v n a b
-choosing_below h false c v n a b = a
 
 -- ---- by another measure that is the same on what is listed
 

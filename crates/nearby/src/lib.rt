@@ -2,7 +2,7 @@
 
 #![tactic(auto)]
 
-ghost use Rattle.std.specs.Prelude.{[], ◌≡◌, cond, ◌<◌, ◌≤◌, leb, length, get_or};
+ghost use Rattle.std.specs.Prelude.{[], ◌≡◌, ◌<◌, ◌≤◌, leb, length, get_or};
 ghost use Rattle.lists.specs.Lists.{filterb};
 ghost use Rattle.graph.specs.Distance.{vertices};
 ghost use Rattle.graph.specs.Nearby.{nearer_of, nearest_from};
@@ -31,8 +31,8 @@ fn put_near(codes: &mut [u8], count: usize, v: usize, hop: u16, k: u32) -> usize
 }
 
 // Writes the open codes whose hop is at most k over the first places of `codes`, rising, and answers how many.
-fn list_within(members: &[u64], scratch: &Scratch<'_>, codes: &mut [u8], k: u32) -> u16
-    requires { (base.words ≤ length members.now) × (places base ≤ length scratch.now.hops.now) × (places base ≤ length codes.old) }
+fn list_within(members: &[u64; map::WORDS], scratch: &Scratch<'_>, codes: &mut [u8], k: u32) -> u16
+    requires { (places base ≤ length scratch.now.hops.now) × (places base ≤ length codes.old) }
     ensures { let depots = vertices (network_of base.words members.now []) in
         codes_listed result codes.new ≡ list_over (filterb (λ v. leb (get_or scratch.now.hops.now v 0) k) depots) codes.old }
 {
@@ -78,8 +78,7 @@ pub struct NearestDepot {
 }
 
 // The first code of a list that is open.
-fn first_listed(members: &[u64], listed: &[u8]) -> Option<usize>
-    requires { base.words ≤ length members.now }
+fn first_listed(members: &[u64; map::WORDS], listed: &[u8]) -> Option<usize>
     ensures { FirstListed (filterb (row_bit base.words members.now) listed.now) result }
 {
     listed
@@ -102,26 +101,23 @@ fn nearer(hops: &[u16], c: usize, v: usize) -> usize
     if v < c { v } else { c }
 }
 
-// What is nearest with the code v: where it is open, the nearer of it and what was.
-fn nearer_open(members: &[u64], hops: &[u16], found: usize, v: usize) -> usize
-    requires { (base.words ≤ length members.now) × (places base ≤ length hops.now) × (found < places base) × (v < places base) }
-    ensures { result ≡ cond (row_bit base.words members.now v) (nearer_of (λ u. get_or hops.now u 0) found v) found }
-{
-    if map::is_open(members, map::WORDS, v) {
-        return nearer(hops, found, v);
-    }
-    found
-}
-
 // The nearest of `first` and the open codes of a list.
-fn nearest_listed(members: &[u64], scratch: &Scratch<'_>, listed: &[u8], first: usize) -> usize
-    requires { (base.words ≤ length members.now) × (places base ≤ length scratch.now.hops.now) × (first < places base) }
+fn nearest_listed(
+    members: &[u64; map::WORDS],
+    scratch: &Scratch<'_>,
+    listed: &[u8],
+    first: usize,
+) -> usize
+    requires { (places base ≤ length scratch.now.hops.now) × (first < places base) }
     ensures { let depots = filterb (row_bit base.words members.now) listed.now in
         (result ≡ nearest_from (λ u. get_or scratch.now.hops.now u 0) first depots) × (result < places base) }
 {
     let mut found = first;
     for v in listed {
-        found = nearer_open(members, &*scratch.hops, found, *v as usize);
+        let code = *v as usize;
+        if map::is_open(members, map::WORDS, code) {
+            found = nearer(&*scratch.hops, found, code);
+        }
     }
     found
 }

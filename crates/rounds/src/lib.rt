@@ -13,7 +13,7 @@ ghost use Rattle.rounds.specs.Slices.{workspace_in, MarksFitIn, RoomFits, IsSame
 
 use bounds::Marks;
 use map::{Room, Scratch};
-use targets::Span;
+use targets::{Searched, Span, TargetHops};
 
 // ---- what a round is told and lent
 
@@ -55,26 +55,17 @@ pub fn reach_by(
     ensures { reached result.ecc result.own partners.new
         ≡ reach_in words targets.now r depth (tables_in scratch.now) partners.old }
 {
-    if depth % 2 == 0 {
-        return targets::reach(
-            targets,
-            &*scratch.hops,
-            &*scratch.even,
-            partners,
-            words,
-            r,
-            depth,
-        );
-    }
-    targets::reach(
+    let last = if depth % 2 == 0 {
+        &*scratch.even
+    } else {
+        &*scratch.odd
+    };
+    let seen = TargetHops {
         targets,
-        &*scratch.hops,
-        &*scratch.odd,
-        partners,
+        hops: &*scratch.hops,
         words,
-        r,
-        depth,
-    )
+    };
+    Searched { seen, last, depth }.reach(partners, r)
 }
 
 // The candidate after a search whose own eccentricity is e: by the test of the definition, so that no law of `max` is needed.

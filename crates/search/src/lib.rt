@@ -7,23 +7,21 @@ ghost use Rattle.lists.specs.Lists.{max_of};
 ghost use Rattle.graph.specs.Distance.{vertices, unreached, dist};
 ghost use Rattle.layers.specs.Layers.{searched, search_table};
 ghost use Rattle.outcome.specs.Refusals.{refused_by};
-ghost use Rattle.map.specs.Slices.{tables_at, tables_in, IsSameScratch};
-ghost use Rattle.map.specs.Memory.{base, places, table_words, network_of, table_network};
+ghost use Rattle.map.specs.Room.{AreLong};
+ghost use Rattle.map.specs.Slices.{tables_at, tables_in, scratch_sizes, IsSameScratch};
+ghost use Rattle.map.specs.Memory.{base, places, network_of, table_network};
 ghost use Rattle.targets.specs.Hops.{IsLastLayer};
 ghost use Rattle.search.specs.SearchCall.{search_refusal, found_of, search_left, search_call, last_layer, last_of, rows_left, rows_of};
 
 use map::{Record, Scratch};
 use outcome::Refusal;
+use targets::{Searched, TargetHops};
 
 // ---- the search itself
 
 // The search on a table that nothing refuses, on local memory for the codes seen and the next layer.
 pub fn search_sound(links: &[u64], scratch: &mut Scratch<'_>, start: usize) -> u16
-    requires { (table_words base ≤ length links.now)
-        × (places base ≤ length scratch.old.hops.now)
-        × (base.words ≤ length scratch.old.even.now)
-        × (base.words ≤ length scratch.old.odd.now)
-        × (start < places base) }
+    requires { AreLong base (scratch_sizes (length links.now) scratch.old) × (start < places base) }
     ensures same { IsSameScratch scratch.old scratch.new }
     ensures left { searched result (tables_in scratch.new) ≡ search_table base.words links.now start (tables_in scratch.old) }
 {
@@ -50,7 +48,12 @@ fn greatest(targets: &[u64], scratch: &Scratch<'_>, depth: u16) -> u16
     ensures { result ≡ max_of (λ v. get_or scratch.now.hops.now v 0) (vertices (network_of base.words targets.now [])) }
 {
     let last = last_layer(&*scratch.even, &*scratch.odd, depth);
-    targets::greatest_hop(targets, &*scratch.hops, last, map::WORDS, depth)
+    let seen = TargetHops {
+        targets,
+        hops: &*scratch.hops,
+        words: map::WORDS,
+    };
+    Searched { seen, last, depth }.greatest_hop()
 }
 
 // The same search, with its eccentricity to the targets, a row of the depots that count. All of them must be reached.
@@ -58,10 +61,7 @@ pub fn search_to(targets: &[u64], links: &[u64], scratch: &mut Scratch<'_>, star
     requires { let N = table_network base.words links.now in
         let depots = vertices (network_of base.words targets.now []) in
         (base.words ≤ length targets.now)
-        × (table_words base ≤ length links.now)
-        × (places base ≤ length scratch.old.hops.now)
-        × (base.words ≤ length scratch.old.even.now)
-        × (base.words ≤ length scratch.old.odd.now)
+        × AreLong base (scratch_sizes (length links.now) scratch.old)
         × (start < places base)
         × (max_of (dist N start) depots < unreached) }
     ensures same { IsSameScratch scratch.old scratch.new }

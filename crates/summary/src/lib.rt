@@ -7,15 +7,16 @@ ghost use Rattle.std.specs.Prelude.{[], ◌≡◌, ◌<◌, ◌≤◌, ltb, leng
 ghost use Rattle.lists.specs.Lists.{filterb, sum_of, max_of};
 ghost use Rattle.graph.specs.Distance.{vertices, unreached, dist};
 ghost use Rattle.outcome.specs.Refusals.{refused_by};
-ghost use Rattle.map.specs.Slices.{tables_in, IsSameScratch};
-ghost use Rattle.map.specs.Memory.{base, places, table_words, network_of, table_network};
+ghost use Rattle.map.specs.Room.{AreLong};
+ghost use Rattle.map.specs.Slices.{tables_in, scratch_sizes, IsSameScratch};
+ghost use Rattle.map.specs.Memory.{base, places, network_of, table_network};
 ghost use Rattle.layers.specs.Layers.{search_leaves};
 ghost use Rattle.summary.specs.Steps.{tally_of, count_one, AreNear, totalled, total_over};
 ghost use Rattle.summary.specs.SummaryCall.{summary_refusal, summing_of, summary_left, summary_call};
 
 use map::{Record, Scratch};
 use outcome::Refusal;
-use targets::Later;
+use targets::{Later, TargetHops};
 
 // ---- one destination
 
@@ -28,17 +29,22 @@ struct Tally {
 }
 
 // The hops of the targets above u added, and how many these are, after a search from u.
-fn sum_later(targets: &[u64], scratch: &Scratch<'_>, u: usize) -> Later
-    requires { (base.words ≤ length targets.now) × (places base ≤ length scratch.now.hops.now) × (u < places base) }
+fn sum_later(targets: &[u64; map::WORDS], scratch: &Scratch<'_>, u: usize) -> Later
+    requires { (places base ≤ length scratch.now.hops.now) × (u < places base) }
     ensures { let later = filterb (λ v. ltb u v) (vertices (network_of base.words targets.now [])) in
         (result.sum ≡ sum_of (λ v. get_or scratch.now.hops.now v 0) later) × (result.pairs ≡ length later) }
 {
-    targets::sum_above(targets, &*scratch.hops, map::WORDS, u)
+    let seen = TargetHops {
+        targets,
+        hops: &*scratch.hops,
+        words: map::WORDS,
+    };
+    seen.sum_above(u)
 }
 
 // Searches from u, tallies the targets, and counts one destination of its eccentricity.
 fn search_target(
-    targets: &[u64],
+    targets: &[u64; map::WORDS],
     links: &[u64],
     scratch: &mut Scratch<'_>,
     counts: &mut [u16],
@@ -46,11 +52,7 @@ fn search_target(
 ) -> Tally
     requires { let depots = vertices (network_of base.words targets.now []) in
         let ecc = max_of (dist (table_network base.words links.now) u) depots in
-        (base.words ≤ length targets.now)
-        × (table_words base ≤ length links.now)
-        × (places base ≤ length scratch.old.hops.now)
-        × (base.words ≤ length scratch.old.even.now)
-        × (base.words ≤ length scratch.old.odd.now)
+        AreLong base (scratch_sizes (length links.now) scratch.old)
         × (ecc < length counts.old)
         × (ecc < unreached)
         × (get_or counts.old ecc 0 ≤ places base)
@@ -84,16 +86,12 @@ struct Totals {
 
 // Searches from every target in rising code, adds the tallies up, and counts the eccentricities afresh.
 fn total_over(
-    targets: &[u64],
+    targets: &[u64; map::WORDS],
     links: &[u64],
     scratch: &mut Scratch<'_>,
     counts: &mut [u16],
 ) -> Totals
-    requires { (base.words ≤ length targets.now)
-        × (table_words base ≤ length links.now)
-        × (places base ≤ length scratch.old.hops.now)
-        × (base.words ≤ length scratch.old.even.now)
-        × (base.words ≤ length scratch.old.odd.now)
+    requires { AreLong base (scratch_sizes (length links.now) scratch.old)
         × (places base ≤ length counts.old)
         × AreNear base.words targets.now links.now }
     ensures same { IsSameScratch scratch.old scratch.new }

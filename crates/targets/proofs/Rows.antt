@@ -15,7 +15,7 @@ use Rattle.lists.proofs.Tests.{and-true, lt_or_ge}
 use Rattle.lists.proofs.Members.{any_elim, filter_in, filter_out, filter-twice, length-range, range_out}
 use Rattle.lists.proofs.Counts.{count_le_length, count_none, length_count, max_ge, max_le_of}
 use Rattle.lists.proofs.RangeCounts.{count_same, count_split}
-use Rattle.lists.proofs.Ranges.{sum_nothing, sum_more, sum_skip, sum_same, sum_few, max-nothing, max_same, max-split}
+use Rattle.lists.proofs.Ranges.{sum_nothing, sum_more, sum_skip, sum_same, max-nothing, max_same, max-split}
 use Rattle.words.specs.Bits.{bit, word_of}
 use Rattle.words.proofs.Bits.{bit-word_of}
 use Rattle.graph.specs.Distance.{vertices}
@@ -23,7 +23,6 @@ use Rattle.rows.specs.Rows.{row_bit}
 use Rattle.rows.proofs.Written.{row_word}
 use Rattle.map.specs.Memory.{network_of}
 use Rattle.targets.specs.Hops.{hop_in, IsLastLayer}
-use Rattle.targets.proofs.Words.{one_small}
 
 -- a part at a time
 sum_split : (f : ℕ → ℕ) (m n : ℕ) → sum_of f (range (m + n)) ≡ sum_of f (range m) + sum_of (λ k. f (m + k)) (range n)
@@ -62,10 +61,6 @@ module _ (p : ℕ → Bool) (hops : List ℕ) where
           → max (cond b (get_or hops v 0) 0) (max_of (hop_of p hops) vs) ≡ max_of (λ v. get_or hops v 0) (cond b (v ∷ filterb p vs) (filterb p vs))
       go true ih = omega arith
       go false ih = omega arith
-
-  hops_small : (n : ℕ) → ((v : ℕ) → get_or hops v 0 < 65536) → sum_of (hop_of p hops) (range n) ≤ 65535 * n
-  unfolding hop_of
-  hops_small n small = sum_few (hop_of p hops) 65535 n (λ v m. one_small (p v) (get_or hops v 0) (small v))
 
   -- ---- one word more
 
@@ -143,16 +138,18 @@ module _ (W : ℕ) (targets hops : List ℕ) where
       pub past : u < 64 * w
       pub sum_is : sum ≡ sum_of (hop_of later hops) (range (64 * w))
       pub pairs_are : pairs ≡ countb later (range (64 * w))
+      pub few : sum ≤ 65535 * (64 * w)
 
     -- none below u's word, and in that word those above its bit
     pub summed_first : {x s p : ℕ} → u < 64 * W → x ≡ word_of 64 (λ k. bit (get_or targets (u / 64) 0) k && ltb (u % 64) k)
-        → s ≡ sum_of (hop_in hops (u / 64) x) (range 64) → p ≡ countb (bit x) (range 64) → WordsSummed s p (u / 64 + 1)
+        → s ≡ sum_of (hop_in hops (u / 64) x) (range 64) → s ≤ 65535 * 64 → p ≡ countb (bit x) (range 64) → WordsSummed s p (u / 64 + 1)
     unfolding hop_of
-    summed_first {x} {s} {p} l e a b = record {
+    summed_first {x} {s} {p} l e a q b = record {
       within = omega arith;
       past = omega arith;
       sum_is = omega (arith, a, word_sum later hops (u / 64) x is, none_sum);
       pairs_are = omega (arith, b, word_count later hops (u / 64) x is, none_count);
+      few = omega arith;
     }
       where
         beside : (b : ℕ) → b < 64 → ltb u (64 * (u / 64) + b) ≡ ltb (u % 64) b
@@ -178,12 +175,13 @@ module _ (W : ℕ) (targets hops : List ℕ) where
 
     -- a word further on whole
     pub summed_more : {sum pairs w s p : ℕ} → WordsSummed sum pairs w → w < W → s ≡ sum_of (hop_in hops w (get_or targets w 0)) (range 64)
-        → p ≡ countb (bit (get_or targets w 0)) (range 64) → WordsSummed (sum + s) (pairs + p) (w + 1)
-    summed_more {sum} {pairs} {w} {s} {p} g l a b = record {
+        → s ≤ 65535 * 64 → p ≡ countb (bit (get_or targets w 0)) (range 64) → WordsSummed (sum + s) (pairs + p) (w + 1)
+    summed_more {sum} {pairs} {w} {s} {p} g l a q b = record {
       within = omega arith;
       past = omega (arith, g.past);
       sum_is = omega (arith, g.sum_is, a, word_sum later hops w (get_or targets w 0) is);
       pairs_are = omega (arith, g.pairs_are, b, word_count later hops w (get_or targets w 0) is);
+      few = omega (arith, g.few);
     }
       where
         is : (b : ℕ) → b < 64 → later (64 * w + b) ≡ bit (get_or targets w 0) b
@@ -204,9 +202,6 @@ module _ (W : ℕ) (targets hops : List ℕ) where
           g.pairs_are ∙ ap (λ (w : ℕ). countb later (range (64 * w))) e ∙ sym (length_count later (range (64 * W)))
           ∙ ap length (sym (filter-twice (λ v. ltb u v) (row_bit W targets) (range (64 * W))))
 
-      -- neither is too large
-      pub summed_small : ((v : ℕ) → get_or hops v 0 < 65536) → sum ≤ 65535 * (64 * w)
-      summed_small small = omega (arith, g.sum_is, hops_small later hops (64 * w) small)
-
+      -- nor are they too many
       pub summed_few : pairs ≤ 64 * w
       summed_few = omega (arith, g.pairs_are, count_le_length later (range (64 * w)), length-range (64 * w))

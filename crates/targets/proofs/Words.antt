@@ -76,6 +76,12 @@ module _ (hops : List ℕ) (w : ℕ) where
       s ∙ sum_same (λ k. get_or hops (64 * w + k) 0) (hop_in hops w word) 64
       (λ b l. sym (in_member word b (ap (λ (x : ℕ). bit x b) e ∙ all_elim (bit 18446744073709551615) (range 64) full_bits (range_in 64 l))))
 
+  -- what a word's hops come to at most
+  pub word_few : (word : ℕ) {sum : ℕ} → sum ≡ sum_of (hop_in hops w word) (range 64) → ((v : ℕ) → get_or hops v 0 < 65536) → sum ≤ 65535 * 64
+  unfolding hop_in
+  word_few word e small =
+      omega (arith, e, sum_few (hop_in hops w word) 65535 64 (λ b m. one_small (bit word b) (get_or hops (64 * w + b) 0) (small (64 * w + b))))
+
   module _ (word : ℕ) where
     -- ---- the sum: with the hops of the members that are left it is that of the word
 
@@ -103,15 +109,8 @@ module _ (hops : List ℕ) (w : ℕ) where
 
     -- it is small
     pub summing_most : {sum x b : ℕ} → BitsSummed sum x → IsLeast x b → ((v : ℕ) → get_or hops v 0 < 65536) → sum + get_or hops (64 * w + b) 0 ≤ 65535 * 64
-    unfolding hop_in
     summing_most {sum} {x} {b} g l small =
-        omega (
-          arith,
-          g.is,
-          in_member x b l.here,
-          sum_has (hop_in hops w x) 64 b l.below,
-          sum_few (hop_in hops w word) 65535 64 (λ b m. one_small (bit word b) (get_or hops (64 * w + b) 0) (small (64 * w + b))),
-        )
+        omega (arith, g.is, in_member x b l.here, sum_has (hop_in hops w x) 64 b l.below, word_few word refl small)
 
     -- ---- the greatest: with those of the members that are left it is that of the word
 

@@ -38,7 +38,7 @@ offset_bounds-scratch-v c =
 
 pub bounds-scratch-v : goal.bounds-scratch-v
 bounds-scratch-v c =
-    omega (arith, is_code (goal.at.bounds-scratch-v c).In-Some, c.requires.1)
+    omega (arith, is_code (goal.at.bounds-scratch-v c).In-Some, c.requires.0)
 
 pub put_near-count-requires : goal.put_near-count-requires
 put_near-count-requires c =
@@ -47,7 +47,7 @@ put_near-count-requires c =
         arith,
         writing_room _ _ _ w (is-next (goal.at.put_near-count-requires c).In-Some) (le-leb _ _ l),
         network_most 4 c.args.members.now [],
-        c.requires.2,
+        c.requires.1,
         w.size,
       ),
       is_code (goal.at.put_near-count-requires c).In-Some,
@@ -64,7 +64,7 @@ loop-v-smaller c =
 pub loop-v-preserved : goal.loop-v-preserved
 loop-v-preserved c =
     let w = c.loop-v.invariant.0 in (
-      writing_more _ _ _ w (is-next (goal.at.loop-v-preserved c).In-Some) (omega (arith, network_most 4 c.args.members.now [], c.requires.2))
+      writing_more _ _ _ w (is-next (goal.at.loop-v-preserved c).In-Some) (omega (arith, network_most 4 c.args.members.now [], c.requires.1))
           c.put_near-count.ensures,
       omega (arith, is_code (goal.at.loop-v-preserved c).In-Some),
     )

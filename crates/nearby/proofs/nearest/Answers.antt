@@ -31,7 +31,7 @@ returns-in_err-first-clause-left c =
 pub search_sound-distance-requires : goal.search_sound-distance-requires
 search_sound-distance-requires c =
     let g = granted base _ _ _ _ _ _ base_shape (sym c.in_ok-search_refusal.ensures) in
-    (g.long.links, g.long.hops, g.long.even, g.long.odd, omega (arith, c.ranges.code.fits))
+    (g.long, omega (arith, c.ranges.code.fits))
 
 -- the first listed code that is open
 is-first : (c : In_ok-first) → (rest : List ℕ) × (filterb (row_bit 4 c.args.rec.members) c.args.listed.now ≡ c.in_ok-first.first ∷ rest)
@@ -42,7 +42,7 @@ pub nearest_listed-found-requires : goal.nearest_listed-found-requires
 nearest_listed-found-requires c =
     let f = is-first (goal.at.nearest_listed-found-requires c).In_ok-first in
     let g = granted base _ _ _ _ _ _ base_shape (sym c.in_ok-search_refusal.ensures) in
-    (omega arith, omega (arith, c.search_sound-distance.ensures.same.hops.long, g.long.hops), listed_below 4 _ _ _ f.0 f.1)
+    (omega (arith, c.search_sound-distance.ensures.same.hops.long, g.long.hops), listed_below 4 _ _ _ f.0 f.1)
 
 pub bounds-scratch-found : goal.bounds-scratch-found
 bounds-scratch-found c =

@@ -22,12 +22,12 @@ returns-in_err-search_refusal-clause-left c =
 pub search_sound-requires : goal.search_sound-requires
 search_sound-requires c =
     let g = granted base _ _ _ _ _ _ base_shape (sym c.in_ok-search_refusal.ensures) in
-    (g.long.links, g.long.hops, g.long.even, g.long.odd, omega (arith, c.ranges.code.fits))
+    (g.long, omega (arith, c.ranges.code.fits))
 
 pub list_within-requires : goal.list_within-requires
 list_within-requires c =
     let g = granted base _ _ _ _ _ _ base_shape (sym c.in_ok-search_refusal.ensures) in
-    (omega arith, omega (arith, c.search_sound.ensures.same.hops.long, g.long.hops), omega arith)
+    (omega (arith, c.search_sound.ensures.same.hops.long, g.long.hops), omega arith)
 
 pub returns-clause-left : goal.returns-clause-left
 returns-clause-left c =

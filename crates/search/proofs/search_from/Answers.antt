@@ -21,10 +21,7 @@ pub search_to-requires : goal.search_to-requires
 search_to-requires c =
     let g = granted base _ _ _ _ _ _ base_shape (sym c.in_ok-search_refusal.ensures) in (
       omega arith,
-      g.long.links,
-      g.long.hops,
-      g.long.even,
-      g.long.odd,
+      g.long,
       omega (arith, c.ranges.code.fits),
       granted_reached base base_shape g c.keep_delivering.ensures,
     )

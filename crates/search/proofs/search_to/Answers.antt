@@ -11,7 +11,7 @@ greatest-ecc-requires c =
       omega (arith, S.hops.long),
       omega (arith, S.even.long),
       omega (arith, S.odd.long),
-      last_is 4 _ _ _ _ c.search_sound-depth.ensures.left c.requires.6 refl,
+      last_is 4 _ _ _ _ c.search_sound-depth.ensures.left c.requires.3 refl,
     )
 
 pub returns-clause-ecc : goal.returns-clause-ecc

@@ -19,11 +19,7 @@ returns-in_err-summary_refusal-clause-left c =
 pub total_over-t-requires : goal.total_over-t-requires
 total_over-t-requires c =
     let g = granted base _ _ _ _ _ _ base_shape (sym c.in_ok-summary_refusal.ensures) in (
-      omega arith,
-      g.long.links,
-      g.long.hops,
-      g.long.even,
-      g.long.odd,
+      g.long,
       g.room,
       are_near 4 _ _ _ c.keep_delivering.ensures base_shape.most g.net,
     )

@@ -49,17 +49,13 @@ is-target c =
 
 has-place : (c : In-Some) → let a = c.args in max_of (dist (table_network 4 a.links.now) c.in-Some.u) (vertices (network_of 4 a.targets.now [])) < 256
 has-place c =
-    ecc_small 4 _ _ c.requires.6 _ (is-target c)
+    ecc_small 4 _ _ c.requires.2 _ (is-target c)
 
 pub search_target-t-requires : goal.search_target-t-requires
 search_target-t-requires c =
     let w = c.loop-u.invariant in (
       search rules,
-      search rules,
-      search rules,
-      search rules,
-      search rules,
-      omega (arith, w.3, c.fill.auto, c.requires.5, has-place (goal.at.search_target-t-requires c).In-Some),
+      omega (arith, w.3, c.fill.auto, c.requires.1, has-place (goal.at.search_target-t-requires c).In-Some),
       omega (arith, has-place (goal.at.search_target-t-requires c).In-Some),
       totalling_room _ 4 _ _ _ _ w.0 (is-next (goal.at.search_target-t-requires c).In-Some) _ (has-place (goal.at.search_target-t-requires c).In-Some),
       is_code (goal.at.search_target-t-requires c).In-Some,
@@ -68,12 +64,12 @@ search_target-t-requires c =
 pub overflow_add-sum : goal.overflow_add-sum
 overflow_add-sum c =
     let e = ap (λ (t : Tally). t.sum) c.search_target-t.ensures.left.0 in
-    omega (arith, e, totalling_sum _ 4 _ _ _ _ c.loop-u.invariant.0 (is-next (goal.at.overflow_add-sum c).In-Some), sum_small 4 _ _ c.requires.6)
+    omega (arith, e, totalling_sum _ 4 _ _ _ _ c.loop-u.invariant.0 (is-next (goal.at.overflow_add-sum c).In-Some), sum_small 4 _ _ c.requires.2)
 
 pub overflow_add-pairs : goal.overflow_add-pairs
 overflow_add-pairs c =
     let e = ap (λ (t : Tally). t.pairs) c.search_target-t.ensures.left.0 in
-    omega (arith, e, totalling_pairs _ 4 _ _ _ _ c.loop-u.invariant.0 (is-next (goal.at.overflow_add-pairs c).In-Some), pairs_small 4 _ _ c.requires.6)
+    omega (arith, e, totalling_pairs _ 4 _ _ _ _ c.loop-u.invariant.0 (is-next (goal.at.overflow_add-pairs c).In-Some), pairs_small 4 _ _ c.requires.2)
 
 pub overflow_add-from : goal.overflow_add-from
 overflow_add-from c =
@@ -90,7 +86,7 @@ loop-u-preserved c =
     let left = c.search_target-t.ensures.left in
     let kept = c.search_target-t.auto in (
       totalling_more _ 4 _ _ _ _ w.0 (is-next (goal.at.loop-u-preserved c).In-Some)
-          (omega (arith, w.3, c.fill.auto, c.requires.5, has-place (goal.at.loop-u-preserved c).In-Some)) left.0 left.1 left.2,
+          (omega (arith, w.3, c.fill.auto, c.requires.1, has-place (goal.at.loop-u-preserved c).In-Some)) left.0 left.1 left.2,
       omega (arith, is_code (goal.at.loop-u-preserved c).In-Some),
       search rules,
       omega (arith, w.3, kept),

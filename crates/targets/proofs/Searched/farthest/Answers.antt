@@ -1,6 +1,6 @@
--- `targets::farthest` meets its contract: by the one test.
+-- `targets::Searched::farthest` meets its contract: by the one test.
 use Rattle.targets.proofs.Partners.{farthest_last, farthest_pass}
-use Rattle.targets.proofs.farthest.Goals as goal
+use Rattle.targets.proofs.Searched.farthest.Goals as goal
 
 pub returns-then-meet : goal.returns-then-meet
 returns-then-meet c = search farthest_last

@@ -1,6 +1,0 @@
--- `targets::sum_above` meets its contract. The loop's invariant (Rows.antt): the targets above u in the first w words.
-use Rattle.targets.proofs.Rows.{WordsSummed}
-use Rattle.targets.proofs.sum_above.Given as goal
-
-abbrev pub invariant-loop-w : goal.invariant-loop-w
-invariant-loop-w l = WordsSummed l.words l.targets l.hops l.u l.sum l.pairs l.w
