@@ -13,6 +13,7 @@ ghost use Rattle.targets.specs.Reach.{reached};
 ghost use Rattle.pairs.specs.Pairs.{tally, Counted};
 ghost use Rattle.rounds.specs.Leaves.{ran, ran_by};
 ghost use Rattle.rounds.specs.Targets.{plan_network, AreTargets};
+ghost use Rattle.rounds.specs.Slices.{said_of, FinishedFits};
 ghost use Rattle.map.specs.Slices.{lent_in, room_sizes, IsSameRoom};
 ghost use Rattle.insertion.specs.Figured.{figured, figured_by, IsFigurable};
 ghost use Rattle.bounds.specs.Once.{marking};
@@ -21,7 +22,7 @@ ghost use Rattle.insertion.specs.Steps.{joined, join_of, HoldsSearch, AreOpen};
 use bounds::Marks;
 use map::{Room, Scratch};
 use outcome::Change;
-use rounds::{Desk, Plan, RoundFigures};
+use rounds::{Desk, Finished, Plan, RoundFigures};
 use targets::Span;
 
 // The figures after an opening: how the chain moved, chain, pair count, number of searches.
@@ -40,23 +41,21 @@ fn join(
     pairs: &mut [u64],
     bounds: &mut [u16],
     skips: &mut [u16],
-    partners: &[u64],
-    a: usize,
-    span: Span,
+    found: Finished<'_>,
     chain: u16,
     count: u32,
 ) -> u32
     requires { Counted base.words pairs.old count
         × (places base ≤ length bounds.old)
         × (places base ≤ length skips.old)
-        × (base.words ≤ length partners.now)
-        × (a < places base) }
-    ensures { let R = reached span.ecc span.own partners.now in
-        let before = joined (tally pairs.old count) (marking bounds.old skips.old) in
+        × FinishedFits base.words found }
+    ensures { let before = joined (tally pairs.old count) (marking bounds.old skips.old) in
         let after = joined (tally pairs.new result) (marking bounds.new skips.new) in
-        after ≡ join_of base a R chain before }
+        after ≡ join_of base found.entry.code (said_of found.entry) chain before }
 {
-    let sum = pairs::settle(pairs, partners, map::WORDS, a, span.own, chain, count);
+    let a = found.code;
+    let span = found.span;
+    let sum = pairs::settle(pairs, found.partners, map::WORDS, a, span.own, chain, count);
     bounds::mark_once(
         bounds,
         skips,
@@ -109,18 +108,20 @@ fn shrink(
         map::WORDS,
         map::OTHER,
     );
+    let found = Finished {
+        code: a,
+        span,
+        partners: &*partners,
+    };
     let first = rounds::absorb(
         pairs,
         &*hops,
         &mut marks,
-        &*partners,
         map::WORDS,
         map::SEARCHED,
-        a,
-        span,
+        found,
         way,
         0,
-        true,
     );
     let mut desk = Desk {
         seen: &mut seen,
@@ -173,13 +174,16 @@ fn settle_low(
     let hops = &mut *room.hops;
     let left = stale_pairs::drop_stale(pairs, &*hops, map::WORDS, chain, count);
     if span.own == chain {
+        let found = Finished {
+            code: a,
+            span,
+            partners: &*partners,
+        };
         let sum = join(
             room.pairs,
             room.bounds,
             room.skips,
-            &*partners,
-            a,
-            span,
+            found,
             chain,
             left.count,
         );
@@ -235,16 +239,12 @@ pub fn refigure(plan: Plan<'_>, room: &mut Room<'_>, a: usize, chain: u16, count
     let depth = search::search_sound(plan.links, &mut scratch, a);
     let span = rounds::reach_by(plan.targets, &scratch, &mut partners, map::WORDS, a, depth);
     if chain < span.own {
-        let own = join(
-            room.pairs,
-            room.bounds,
-            room.skips,
-            &partners,
-            a,
+        let found = Finished {
+            code: a,
             span,
-            chain,
-            count,
-        );
+            partners: &partners,
+        };
+        let own = join(room.pairs, room.bounds, room.skips, found, chain, count);
         return Figures {
             change: Change::Grew,
             chain: span.own,

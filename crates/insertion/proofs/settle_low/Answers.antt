@@ -11,7 +11,6 @@ join-sum-requires c = (
   search rules,
   search rules,
   search rules,
-  search rules,
 )
 
 pub returns-then-span-chain-clause-left : goal.returns-then-span-chain-clause-left

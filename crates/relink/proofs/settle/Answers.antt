@@ -8,7 +8,7 @@ pub returns-then-is_kept-clause-left : goal.returns-then-is_kept-clause-left
 returns-then-is_kept-clause-left c =
     let pre = c.requires in
     kept_is base _ _ _ _ _ _ _ _ _ _ pre.6 pre.2.ends _ _ _ c.drop_stale_either-left.ensures _ c.is_kept.ensures
-    c.if-is_kept.true _ c.mark_both.ensures
+    c.if-is_kept.true _ c.mark_twice.ensures
 
 pub shrink-got-requires : goal.shrink-got-requires
 shrink-got-requires c =
@@ -20,7 +20,6 @@ shrink-got-requires c =
       pre.5,
       pre.6,
       pre.7,
-      pre.8,
     )
 
 pub returns-clause-left : goal.returns-clause-left

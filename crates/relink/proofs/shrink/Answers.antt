@@ -17,9 +17,7 @@ take_both-before-requires c =
       pre.2,
       pre.0.hops,
       pre.3,
-      pre.4,
-      pre.6,
-      pre.7,
+      record { inside = pre.6; partners = pre.4 },
     )
 
 pub run_rounds-requires : goal.run_rounds-requires
