@@ -12,8 +12,7 @@ ghost use Rattle.map.specs.Memory.{base, places};
 ghost use Rattle.targets.specs.Reach.{reached};
 ghost use Rattle.pairs.specs.Pairs.{tally, Counted};
 ghost use Rattle.rounds.specs.Leaves.{ran, ran_by};
-ghost use Rattle.rounds.specs.Targets.{plan_network, AreTargets};
-ghost use Rattle.rounds.specs.Slices.{said_of, FinishedFits};
+ghost use Rattle.rounds.specs.Slices.{plan_network, said_of, FinishedFits};
 ghost use Rattle.map.specs.Slices.{lent_in, room_sizes, IsSameRoom};
 ghost use Rattle.insertion.specs.Figured.{figured, figured_by, IsFigurable};
 ghost use Rattle.bounds.specs.Once.{marking};
@@ -81,7 +80,6 @@ fn shrink(
 ) -> RoundFigures
     requires { let G = plan_network base.words plan in
         AreLong base (room_sizes (length plan.links.now) room.old)
-        × AreTargets base.words plan.members.now plan.targets.now
         × (base.words ≤ length partners.old)
         × HoldsSearch base G (lent_in room.old) a (reached span.ecc span.own partners.old)
         × (a < places base) }
@@ -159,7 +157,6 @@ fn settle_low(
 ) -> Figures
     requires { let G = plan_network base.words plan in
         AreLong base (room_sizes (length plan.links.now) room.old)
-        × AreTargets base.words plan.members.now plan.targets.now
         × (base.words ≤ length partners.old)
         × AreOpen base G room.old.pairs.now
         × HoldsSearch base G (lent_in room.old) a (reached span.ecc span.own partners.old)

@@ -14,9 +14,8 @@ ghost use Rattle.pairs.specs.Pairs.{tally, Counted};
 ghost use Rattle.ranks.specs.Ranks.{AreRanks};
 ghost use Rattle.bounds.specs.Slices.{marks_in, MarksFit, IsSameMarks};
 ghost use Rattle.rounds.specs.Leaves.{ran, ran_by};
-ghost use Rattle.rounds.specs.Targets.{plan_network, AreTargets};
 ghost use Rattle.rounds.specs.Workspace.{absorbed, rounds_begun};
-ghost use Rattle.rounds.specs.Slices.{said_of, FinishedFits};
+ghost use Rattle.rounds.specs.Slices.{plan_network, said_of, FinishedFits};
 ghost use Rattle.insertion.specs.Figured.{figured};
 ghost use Rattle.insertion.specs.Steps.{AreOpen};
 ghost use Rattle.relink.specs.Relinked.{relinked_by, IsRelinkable};
@@ -142,7 +141,6 @@ fn shrink(
     requires { let G = plan_network base.words plan in
         let Q = reached f.ecc f.own fars.old in
         AreLong base (room_sizes (length plan.links.now) room.old)
-        × AreTargets base.words plan.members.now plan.targets.now
         × (places base ≤ length near.now)
         × FinishedFits base.words low
         × (base.words ≤ length fars.old)
@@ -203,7 +201,6 @@ fn settle(
     requires { let G = plan_network base.words plan in
         let Q = reached f.ecc f.own fars.old in
         AreLong base (room_sizes (length plan.links.now) room.old)
-        × AreTargets base.words plan.members.now plan.targets.now
         × AreOpen base G room.old.pairs.now
         × (places base ≤ length near.now)
         × FinishedFits base.words low

@@ -12,19 +12,14 @@ ghost use Rattle.map.specs.Slices.{tables_in, IsSameRoom};
 ghost use Rattle.bounds.specs.Slices.{marks_in, MarksFit, IsSameMarks};
 ghost use Rattle.rounds.specs.Slices.{workspace_in, MarksFitIn, RoomFits, IsSameDesk, said_of, FinishedFits};
 
+mod plan;
+
 use bounds::Marks;
 use map::{Room, Scratch};
+pub use plan::Plan;
 use targets::Span;
 
 // ---- what a round is told and lent
-
-// What rounds read of a map: its open set, the row of the targets, which are the depots that deliver, and its links.
-#[derive(Clone, Copy)]
-pub struct Plan<'a> {
-    pub members: &'a [u64],
-    pub targets: &'a [u64],
-    pub links: &'a [u64],
-}
 
 // What rounds keep beside the lent room: the codes seen and the next layer of a search, a row for partners, and the ranks of the depots that remain.
 #[derive(Drop)]

@@ -31,7 +31,6 @@ pub settle_low-requires : goal.settle_low-requires
 settle_low-requires c =
     let pre = c.requires.1 in (
       search rules,
-      pre.are,
       search rules,
       record { ends = pre.ends },
       search_stands base base_shape _ _ _ pre.are _ _ _ _ _ pre.net pre.present c.search_sound-depth.ensures.left _ c.reach_by-span.ensures

@@ -29,6 +29,6 @@ run_rounds-requires c =
 
 pub returns-clause-left : goal.returns-clause-left
 returns-clause-left c =
-    shrink_is base base_shape _ _ _ c.requires.1 _ _ _ _ _ c.requires.3 (omega (arith, c.ranges.way.fits)) _ _ _ _
+    shrink_is base base_shape _ _ _ c.args.plan.are _ _ _ _ _ c.requires.2 (omega (arith, c.ranges.way.fits)) _ _ _ _
     c.begin.ensures.begun _ _ _ c.absorb-first.ensures.taken _ _ _ _ _ _ c.run_rounds.ensures.left
     (same_marks _ _ _ _ _ _ _ (search rules) (search rules) (search rules))

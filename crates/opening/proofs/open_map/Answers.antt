@@ -35,6 +35,15 @@ pub keep_delivering-requires : goal.keep_delivering-requires
 keep_delivering-requires c =
     (omega arith, omega (arith, slice_bounds-keep_delivering-end-2 c))
 
+pub invariant_of-plan : goal.invariant_of-plan
+invariant_of-plan c =
+    let kept =
+    figurable base base_shape _ _ _ _ _ _ _ _ _ _ _ c.requires c.ranges.code.fits
+    (λ k l. (c.shared_slice_known-1.given k).fits) _ _ _ c.put_code.ensures
+    c.put_yard.ensures c.link_depot.ensures _ (omega arith)
+    (omega arith) c.keep_delivering.ensures in
+    record { are = kept.are }
+
 pub refigure-got-requires : goal.refigure-got-requires
 refigure-got-requires c =
     let long = are_long_lem base _ (granted_long base base_shape _ _ _ _ _ c.requires) in (

@@ -10,7 +10,6 @@ pub settle-requires : goal.settle-requires
 settle-requires c =
     let pre = c.requires in (
       search rules,
-      pre.1.are,
       record { ends = pre.1.ends },
       search rules,
       search rules,
