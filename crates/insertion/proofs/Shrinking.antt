@@ -26,21 +26,9 @@ use Rattle.rounds.specs.Targets.{target_network, AreTargets}
 use Rattle.rounds.proofs.Holding.{Origin, Holds, leaves_over, after_snoc}
 use Rattle.rounds.proofs.Simulation.{Running, running_round, absorb_over}
 use Rattle.rounds.proofs.Finish.{start_holds, start_running, run_is}
-use Rattle.pairs.proofs.Settling.{settle_counted}
 use Rattle.pairs.proofs.Tallies.{table_over}
 use Rattle.insertion.specs.Figured.{figured, figured_by}
 use Rattle.insertion.specs.Steps.{HoldsSearch}
-
--- ---- the pairs are counted at each call
-
--- whether it skips or not
-pub absorbed_counted : (skipping : Bool) (W mark r : ℕ) (R : Reached) (h : List ℕ) (A : Absorbed) (p : List ℕ) (n : ℕ) (m : Marks) (c : ℕ) → Counted W A.paired.pairs A.paired.count
-    → absorbed (tally p n) m c ≡ cond skipping (absorbing W mark r R h A) (holding W mark r R h A) → Counted W p n
-unfolding absorbing holding
-absorbed_counted true W mark r R h A p n m c k q =
-    settle_counted W _ r R.own A.candidate A.paired.pairs p A.paired.count n k (ap (λ (X : Absorbed). X.paired) q)
-absorbed_counted false W mark r R h A p n m c k q =
-    settle_counted W _ r R.own A.candidate A.paired.pairs p A.paired.count n k (ap (λ (X : Absorbed). X.paired) q)
 
 -- the hop table of a search that stands in tables
 pub hop_stands : (K : Shape) (G : Network) (T : Tables) (a : ℕ) → T ≡ search_leaves K.words G a T → (v : ℕ) → v < places K → get_or T.hops v 0 ≡ dist G a v

@@ -12,7 +12,7 @@ ghost use Rattle.map.specs.Memory.{base, places};
 ghost use Rattle.targets.specs.Reach.{reached};
 ghost use Rattle.pairs.specs.Pairs.{tally, Counted};
 ghost use Rattle.rounds.specs.Leaves.{ran, ran_by};
-ghost use Rattle.rounds.specs.Targets.{plan_network, AreTargets};
+ghost use Rattle.rounds.specs.Slices.{plan_network, said_of, FinishedFits};
 ghost use Rattle.map.specs.Slices.{lent_in, room_sizes, IsSameRoom};
 ghost use Rattle.insertion.specs.Figured.{figured, figured_by, IsFigurable};
 ghost use Rattle.bounds.specs.Once.{marking};
@@ -21,7 +21,7 @@ ghost use Rattle.insertion.specs.Steps.{joined, join_of, HoldsSearch, AreOpen};
 use bounds::Marks;
 use map::{Room, Scratch};
 use outcome::Change;
-use rounds::{Desk, Plan, RoundFigures};
+use rounds::{Desk, Finished, Plan, RoundFigures};
 use targets::Span;
 
 // The figures after an opening: how the chain moved, chain, pair count, number of searches.
@@ -40,23 +40,21 @@ fn join(
     pairs: &mut [u64],
     bounds: &mut [u16],
     skips: &mut [u16],
-    partners: &[u64],
-    a: usize,
-    span: Span,
+    found: Finished<'_>,
     chain: u16,
     count: u32,
 ) -> u32
     requires { Counted base.words pairs.old count
         × (places base ≤ length bounds.old)
         × (places base ≤ length skips.old)
-        × (base.words ≤ length partners.now)
-        × (a < places base) }
-    ensures { let R = reached span.ecc span.own partners.now in
-        let before = joined (tally pairs.old count) (marking bounds.old skips.old) in
+        × FinishedFits base.words found }
+    ensures { let before = joined (tally pairs.old count) (marking bounds.old skips.old) in
         let after = joined (tally pairs.new result) (marking bounds.new skips.new) in
-        after ≡ join_of base a R chain before }
+        after ≡ join_of base found.entry.code (said_of found.entry) chain before }
 {
-    let sum = pairs::settle(pairs, partners, map::WORDS, a, span.own, chain, count);
+    let a = found.code;
+    let span = found.span;
+    let sum = pairs::settle(pairs, found.partners, map::WORDS, a, span.own, chain, count);
     bounds::mark_once(
         bounds,
         skips,
@@ -82,7 +80,6 @@ fn shrink(
 ) -> RoundFigures
     requires { let G = plan_network base.words plan in
         AreLong base (room_sizes (length plan.links.now) room.old)
-        × AreTargets base.words plan.members.now plan.targets.now
         × (base.words ≤ length partners.old)
         × HoldsSearch base G (lent_in room.old) a (reached span.ecc span.own partners.old)
         × (a < places base) }
@@ -109,18 +106,20 @@ fn shrink(
         map::WORDS,
         map::OTHER,
     );
+    let found = Finished {
+        code: a,
+        span,
+        partners: &*partners,
+    };
     let first = rounds::absorb(
         pairs,
         &*hops,
         &mut marks,
-        &*partners,
         map::WORDS,
         map::SEARCHED,
-        a,
-        span,
+        found,
         way,
         0,
-        true,
     );
     let mut desk = Desk {
         seen: &mut seen,
@@ -158,7 +157,6 @@ fn settle_low(
 ) -> Figures
     requires { let G = plan_network base.words plan in
         AreLong base (room_sizes (length plan.links.now) room.old)
-        × AreTargets base.words plan.members.now plan.targets.now
         × (base.words ≤ length partners.old)
         × AreOpen base G room.old.pairs.now
         × HoldsSearch base G (lent_in room.old) a (reached span.ecc span.own partners.old)
@@ -173,13 +171,16 @@ fn settle_low(
     let hops = &mut *room.hops;
     let left = stale_pairs::drop_stale(pairs, &*hops, map::WORDS, chain, count);
     if span.own == chain {
+        let found = Finished {
+            code: a,
+            span,
+            partners: &*partners,
+        };
         let sum = join(
             room.pairs,
             room.bounds,
             room.skips,
-            &*partners,
-            a,
-            span,
+            found,
             chain,
             left.count,
         );
@@ -235,16 +236,12 @@ pub fn refigure(plan: Plan<'_>, room: &mut Room<'_>, a: usize, chain: u16, count
     let depth = search::search_sound(plan.links, &mut scratch, a);
     let span = rounds::reach_by(plan.targets, &scratch, &mut partners, map::WORDS, a, depth);
     if chain < span.own {
-        let own = join(
-            room.pairs,
-            room.bounds,
-            room.skips,
-            &partners,
-            a,
+        let found = Finished {
+            code: a,
             span,
-            chain,
-            count,
-        );
+            partners: &partners,
+        };
+        let own = join(room.pairs, room.bounds, room.skips, found, chain, count);
         return Figures {
             change: Change::Grew,
             chain: span.own,

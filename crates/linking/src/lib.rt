@@ -11,7 +11,7 @@ ghost use Rattle.map.specs.Room.{AreLong};
 ghost use Rattle.map.specs.Memory.{base, yard_network};
 ghost use Rattle.map.specs.Slices.{lent_in, room_sizes, IsSameRoom};
 ghost use Rattle.rounds.specs.Leaves.{ran};
-ghost use Rattle.rounds.specs.Targets.{plan_network};
+ghost use Rattle.rounds.specs.Slices.{plan_network};
 ghost use Rattle.insertion.specs.Figured.{figured};
 ghost use Rattle.relink.specs.Relinked.{relinked_by, IsRelinkable};
 ghost use Rattle.update.specs.UpdateCall.{update_refusal, update_left, update_given, update_call};

@@ -9,7 +9,7 @@ ghost use Rattle.graph.specs.Correct.{IsNet};
 ghost use Rattle.map.specs.Memory.{base};
 ghost use Rattle.outcome.specs.Refusals.{refused_by};
 ghost use Rattle.rounds.specs.Leaves.{ran, ran_by};
-ghost use Rattle.rounds.specs.Targets.{plan_network, AreTargets};
+ghost use Rattle.rounds.specs.Slices.{plan_network};
 ghost use Rattle.map.specs.Room.{AreLong};
 ghost use Rattle.map.specs.Slices.{lent_in, room_sizes, IsSameRoom};
 ghost use Rattle.reckon.specs.ReckonCall.{reckon_refusal, reckoned_of, reckon_left, reckon_call};
@@ -33,10 +33,9 @@ fn reckon_refusal(rec: Record, links: &[u64], room: &Room<'_>) -> Result<(), Ref
     lent_map::map_refusal(rec, links, None, room.is_long(links.len()))
 }
 
-// The whole reckoning of a sound, connected map, whose targets are the depots that deliver.
+// The whole reckoning of a sound, connected map.
 fn reckon_map(plan: Plan<'_>, room: &mut Room<'_>) -> RoundFigures
     requires { AreLong base (room_sizes (length plan.links.now) room.old)
-        × AreTargets base.words plan.members.now plan.targets.now
         × IsNet (plan_network base.words plan) }
     ensures same { IsSameRoom room.old room.new }
     ensures left { let G = plan_network base.words plan.entry in

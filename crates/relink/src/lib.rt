@@ -12,11 +12,10 @@ ghost use Rattle.targets.specs.Reach.{reached};
 ghost use Rattle.map.specs.Slices.{lent_in, room_sizes, IsSameRoom};
 ghost use Rattle.pairs.specs.Pairs.{tally, Counted};
 ghost use Rattle.ranks.specs.Ranks.{AreRanks};
-ghost use Rattle.bounds.specs.Once.{marking, mark_twice};
 ghost use Rattle.bounds.specs.Slices.{marks_in, MarksFit, IsSameMarks};
 ghost use Rattle.rounds.specs.Leaves.{ran, ran_by};
-ghost use Rattle.rounds.specs.Targets.{plan_network, AreTargets};
 ghost use Rattle.rounds.specs.Workspace.{absorbed, rounds_begun};
+ghost use Rattle.rounds.specs.Slices.{plan_network, said_of, FinishedFits};
 ghost use Rattle.insertion.specs.Figured.{figured};
 ghost use Rattle.insertion.specs.Steps.{AreOpen};
 ghost use Rattle.relink.specs.Relinked.{relinked_by, IsRelinkable};
@@ -26,7 +25,7 @@ use bounds::Marks;
 use insertion::Figures;
 use map::{Room, Scratch};
 use outcome::Change;
-use rounds::{Desk, Plan, RoundFigures};
+use rounds::{Desk, Finished, Plan, RoundFigures};
 use targets::Span;
 
 // ---- the chain is kept
@@ -44,41 +43,15 @@ fn is_kept(count: u32, chain: u16) -> bool
     false
 }
 
-// The marks of a call that searched from low and from high alone.
-fn mark_both(bounds: &mut [u16], skips: &mut [u16], low: usize, e: u16, high: usize, f: u16)
-    requires { (places base ≤ length bounds.old)
-        × (places base ≤ length skips.old)
-        × (low < places base)
-        × (high < places base) }
-    ensures { let before = marking bounds.old skips.old in
-        let after = marking bounds.new skips.new in
-        after ≡ mark_twice base.words base.searched_mark base.other_mark low e high f before }
-{
-    bounds::mark_twice(
-        bounds,
-        skips,
-        map::WORDS,
-        low,
-        e,
-        high,
-        f,
-        map::SEARCHED,
-        map::OTHER,
-    );
-}
-
 // ---- the chain shrank
 
-// The start of rounds with the candidate way, and the search from low, whose hops stand in near and whose partners in nears, taken in. Nobody is skipped
-// yet.
+// The start of rounds with the candidate way, and the search from the lower end, whose hops stand in near, taken in. Nobody is skipped yet.
 fn take_low(
     plan: Plan<'_>,
     pairs: &mut [u64],
     marks: &mut Marks<'_>,
     near: &[u16],
-    nears: &[u64],
-    low: usize,
-    e: Span,
+    low: Finished<'_>,
     way: u16,
 ) -> RoundFigures
     requires { MarksFit base.words marks.old
@@ -86,13 +59,12 @@ fn take_low(
         × (table_words base ≤ length plan.links.now)
         × (table_words base ≤ length pairs.old)
         × (places base ≤ length near.now)
-        × (base.words ≤ length nears.now)
-        × (low < places base) }
+        × FinishedFits base.words low }
     ensures same { IsSameMarks marks.old marks.new }
-    ensures taken { let R = reached e.ecc e.own nears.now in
+    ensures taken { let l = low.entry in
         let before = rounds_begun pairs.old (marks_in base.words marks.old) in
         let after = absorbed (tally pairs.new result.count) (marks_in base.words marks.new) result.candidate in
-        after ≡ low_taken base plan.entry.members.now near.now low R way before }
+        after ≡ low_taken base plan.entry.members.now near.now l.code (said_of l) way before }
     ensures counted { Counted base.words pairs.new result.count }
     ensures ranked { AreRanks base.words plan.entry.links.now marks.new.ranks.now }
 {
@@ -104,34 +76,18 @@ fn take_low(
         map::WORDS,
         map::OTHER,
     );
-    rounds::absorb(
-        pairs,
-        near,
-        marks,
-        nears,
-        map::WORDS,
-        map::SEARCHED,
-        low,
-        e,
-        way,
-        0,
-        false,
-    )
+    rounds::hold(pairs, near, marks, map::WORDS, map::SEARCHED, low, way, 0)
 }
 
-// Then the search from high, which stands in the lent tables; after it depots are skipped.
+// Then the search from the higher end, whose hops stand in far; after it depots are skipped.
 fn take_both(
     plan: Plan<'_>,
     pairs: &mut [u64],
     marks: &mut Marks<'_>,
-    hops: &[u16],
-    fars: &[u64],
     near: &[u16],
-    nears: &[u64],
-    low: usize,
-    e: Span,
-    high: usize,
-    f: Span,
+    low: Finished<'_>,
+    far: &[u16],
+    high: Finished<'_>,
     way: u16,
 ) -> RoundFigures
     requires { MarksFit base.words marks.old
@@ -139,36 +95,29 @@ fn take_both(
         × (table_words base ≤ length plan.links.now)
         × (table_words base ≤ length pairs.old)
         × (places base ≤ length near.now)
-        × (places base ≤ length hops.now)
-        × (base.words ≤ length nears.now)
-        × (base.words ≤ length fars.now)
-        × (low < places base)
-        × (high < places base) }
+        × (places base ≤ length far.now)
+        × FinishedFits base.words low
+        × FinishedFits base.words high }
     ensures same { IsSameMarks marks.old marks.new }
-    ensures taken { let N = near.now in
-        let H = hops.now in
-        let R = reached e.ecc e.own nears.now in
-        let Q = reached f.ecc f.own fars.now in
+    ensures taken { let l = low.entry in
+        let h = high.entry in
         let before = rounds_begun pairs.old (marks_in base.words marks.old) in
         let after = absorbed (tally pairs.new result.count) (marks_in base.words marks.new) result.candidate in
-        after ≡ both_taken base plan.entry.members.now N H low R high Q way before }
+        after ≡ both_taken base plan.entry.members.now near.now far.now l.code (said_of l) h.code (said_of h) way before }
     ensures counted { Counted base.words pairs.new result.count }
     ensures ranked { AreRanks base.words plan.entry.links.now marks.new.ranks.now }
     ensures searches { result.searches ≡ 2 }
 {
-    let first = take_low(plan, pairs, marks, near, nears, low, e, way);
+    let first = take_low(plan, pairs, marks, near, low, way);
     let second = rounds::absorb(
         pairs,
-        hops,
+        far,
         marks,
-        fars,
         map::WORDS,
         map::SEARCHED,
         high,
-        f,
         first.candidate,
         first.count,
-        true,
     );
     RoundFigures {
         candidate: second.candidate,
@@ -177,35 +126,31 @@ fn take_both(
     }
 }
 
-// Rounds with the candidate way, whose first two references are the searches from low and from high.
+// Rounds with the candidate way, whose first two references are the searches from the lower end and from high. The tables of the second stand in the
+// room, and its partners in a row that the rounds then use.
 fn shrink(
     plan: Plan<'_>,
     room: &mut Room<'_>,
     near: &[u16],
-    nears: &[u64],
+    low: Finished<'_>,
     fars: &mut [u64],
-    low: usize,
-    e: Span,
     high: usize,
     f: Span,
     way: u16,
 ) -> RoundFigures
     requires { let G = plan_network base.words plan in
-        let R = reached e.ecc e.own nears.now in
         let Q = reached f.ecc f.own fars.old in
         AreLong base (room_sizes (length plan.links.now) room.old)
-        × AreTargets base.words plan.members.now plan.targets.now
         × (places base ≤ length near.now)
-        × (base.words ≤ length nears.now)
+        × FinishedFits base.words low
         × (base.words ≤ length fars.old)
-        × StandBoth base G near.now (lent_in room.old).searched low R high Q
-        × (low < places base)
+        × StandBoth base G near.now (lent_in room.old).searched low.code (said_of low) high Q
         × (high < places base) }
     ensures same { IsSameRoom room.old room.new }
     ensures left { let G = plan_network base.words plan.entry in
         let M = chart G in
         ran (lent_in room.new) result.candidate result.count result.searches
-        ≡ ran_by base G (rounds M (length M.depots) (first_two M low high way)) (lent_in room.old) }
+        ≡ ran_by base G (rounds M (length M.depots) (first_two M low.entry.code high way)) (lent_in room.old) }
 {
     let mut ranks = [0u16; map::PLACES];
     let mut seen = [0u64; map::WORDS];
@@ -217,9 +162,12 @@ fn shrink(
         skips: &mut *room.skips,
         ranks: &mut ranks,
     };
-    let before = take_both(
-        plan, pairs, &mut marks, &*hops, &*fars, near, nears, low, e, high, f, way,
-    );
+    let found = Finished {
+        code: high,
+        span: f,
+        partners: &*fars,
+    };
+    let before = take_both(plan, pairs, &mut marks, near, low, &*hops, found, way);
     let mut desk = Desk {
         seen: &mut seen,
         next: &mut next,
@@ -244,36 +192,41 @@ fn settle(
     plan: Plan<'_>,
     room: &mut Room<'_>,
     near: &[u16],
-    nears: &[u64],
+    low: Finished<'_>,
     fars: &mut [u64],
-    low: usize,
-    e: Span,
     high: usize,
     f: Span,
     chain: u16,
 ) -> Figures
     requires { let G = plan_network base.words plan in
-        let R = reached e.ecc e.own nears.now in
         let Q = reached f.ecc f.own fars.old in
         AreLong base (room_sizes (length plan.links.now) room.old)
-        × AreTargets base.words plan.members.now plan.targets.now
         × AreOpen base G room.old.pairs.now
         × (places base ≤ length near.now)
-        × (base.words ≤ length nears.now)
+        × FinishedFits base.words low
         × (base.words ≤ length fars.old)
-        × StandBoth base G near.now (lent_in room.old).searched low R high Q
-        × (low < places base)
+        × StandBoth base G near.now (lent_in room.old).searched low.code (said_of low) high Q
         × (high < places base) }
     ensures same { IsSameRoom room.old room.new }
     ensures left { let G = plan_network base.words plan.entry in
         figured result.change (ran (lent_in room.new) result.chain result.count result.searches)
-        ≡ relinked_by base G low high chain (lent_in room.old) }
+        ≡ relinked_by base G low.entry.code high chain (lent_in room.old) }
 {
     let pairs = &mut *room.pairs;
     let hops = &mut *room.hops;
     let left = stale_pairs::drop_stale_either(pairs, near, &*hops, map::WORDS, chain);
     if is_kept(left.count, chain) {
-        mark_both(room.bounds, room.skips, low, e.ecc, high, f.ecc);
+        bounds::mark_twice(
+            room.bounds,
+            room.skips,
+            map::WORDS,
+            low.code,
+            low.span.ecc,
+            high,
+            f.ecc,
+            map::SEARCHED,
+            map::OTHER,
+        );
         return Figures {
             change: Change::Kept,
             chain,
@@ -281,7 +234,7 @@ fn settle(
             searches: 2,
         };
     }
-    let got = shrink(plan, room, near, nears, fars, low, e, high, f, left.way);
+    let got = shrink(plan, room, near, low, fars, high, f, left.way);
     Figures {
         change: Change::Shrank,
         chain: got.candidate,
@@ -321,5 +274,10 @@ pub fn relink(plan: Plan<'_>, room: &mut Room<'_>, low: usize, high: usize, chai
     };
     let b = search::search_sound(plan.links, &mut lent, high);
     let f = rounds::reach_by(plan.targets, &lent, &mut fars, map::WORDS, high, b);
-    settle(plan, room, &near, &nears, &mut fars, low, e, high, f, chain)
+    let lower = Finished {
+        code: low,
+        span: e,
+        partners: &nears,
+    };
+    settle(plan, room, &near, lower, &mut fars, high, f, chain)
 }

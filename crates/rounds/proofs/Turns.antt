@@ -42,13 +42,19 @@ raise_same c e l = rw (le-ltb c e l)
 
 -- ---- a search taken in
 
-pub absorb_is : (W mark r : ℕ) (R : Reached) (h : List ℕ) (A : Absorbed) (skipping : Bool) (t : Tally) (c l : ℕ) (m m' : Marks)
+pub absorb_is : (W mark r : ℕ) (R : Reached) (h : List ℕ) (A : Absorbed) (t : Tally) (c : ℕ) (m : Marks)
     → t ≡ settle_of W R.partners r R.own A.candidate A.paired
-    → c ≡ cond (ltb A.candidate R.own) R.own A.candidate → l ≡ cond skipping c 0 → m ≡ leave_of W r R.ecc mark A.marked → m' ≡ relax_of W h r R.ecc l m
-    → absorbed t m' c ≡ cond skipping (absorbing W mark r R h A) (holding W mark r R h A)
-unfolding absorbing holding
-absorb_is W mark r R h A true t c l m m' a b k d f = rw (f, d, a, k, b)
-absorb_is W mark r R h A false t c l m m' a b k d f = rw (f, d, a, k, b)
+    → c ≡ cond (ltb A.candidate R.own) R.own A.candidate → m ≡ relax_of W h r R.ecc c (leave_of W r R.ecc mark A.marked)
+    → absorbed t m c ≡ absorbing W mark r R h A
+unfolding absorbing
+absorb_is W mark r R h A t c m a b d = rw (d, a, b)
+
+pub hold_is : (W mark r : ℕ) (R : Reached) (h : List ℕ) (A : Absorbed) (t : Tally) (c : ℕ) (m : Marks)
+    → t ≡ settle_of W R.partners r R.own A.candidate A.paired
+    → c ≡ cond (ltb A.candidate R.own) R.own A.candidate → m ≡ relax_of W h r R.ecc 0 (leave_of W r R.ecc mark A.marked)
+    → absorbed t m c ≡ holding W mark r R h A
+unfolding holding
+hold_is W mark r R h A t c m a b d = rw (d, a, b)
 
 pub round_is_absorbed : (W : ℕ) (targets links : List ℕ) (mark r : ℕ) (M : Workspace) (d : ℕ) (T : Tables) (R : Reached) (row h : List ℕ) (t : Tally) (m : Marks) (c n : ℕ)
     → searched d T ≡ search_table W links r M.searched → R ≡ reach_in W targets r d T row

@@ -3,7 +3,7 @@
 pub mod Leaves
 -- 2. the steps of the code's rounds, over lists of words and numbers. Nobody has to believe this file
 pub mod Workspace
--- 3. what is lent to the rounds as one value, for the contracts. Nobody has to believe this file
-pub mod Slices
--- 4. the network that the code's steps are told by a row of targets. Nobody has to believe this file
+-- 3. the network that the code's steps are told by a row of targets. Nobody has to believe this file
 pub mod Targets
+-- 4. what is lent to the rounds as one value, for the contracts. Nobody has to believe this file
+pub mod Slices

@@ -1,14 +1,19 @@
 -- WHAT IS LENT TO THE ROUNDS AS ONE VALUE, so that a contract names it once; what its sizes are; and that it lends the same tables after a call.
 -- Assumes nothing.
-use Rattle.std.specs.Prelude.{ℕ, List}
+use Rattle.std.specs.Prelude.{ℕ, List, ◌*◌, ◌≤◌, ◌<◌, length}
+use Rattle.graph.specs.Network.{Network}
 use Rattle.map.specs.Slices.{IsSameSlice}
 use Rattle.map.specs.Room.{tables}
 use Rattle.map.specs.declared.Room.{Room}
+use Rattle.targets.specs.Reach.{Reached, reached}
 use Rattle.pairs.specs.Pairs.{tally}
 use Rattle.bounds.specs.Bounds.{marks, Fits}
 use Rattle.ranks.specs.Ranks.{waiting_of}
+use Rattle.rounds.specs.Targets.{target_network}
 use Rattle.rounds.specs.Workspace.{Workspace, workspace, RoundRoom}
+use Rattle.rounds.specs.declared.plan.Plan.{Plan}
 use Rattle.rounds.specs.declared.Desk.{Desk}
+use Rattle.rounds.specs.declared.Finished.{Finished}
 use Rattle.rounds.specs.declared.RoundFigures.{RoundFigures}
 
 -- the workspace of the rounds of W words: the room, the ranks on the desk, and the figures so far
@@ -36,3 +41,16 @@ pub record IsSameDesk (d e : Desk) : Type 0 where
   pub next : IsSameSlice d.next e.next
   pub partners : IsSameSlice d.partners e.partners
   pub ranks : IsSameSlice d.ranks e.ranks
+
+-- what a finished search says of its start
+abbrev pub said_of : Finished → Reached
+said_of f = reached f.span.ecc f.span.own f.partners.now
+
+-- its start is a code of W words, and its partners are a row
+pub record FinishedFits (W : ℕ) (f : Finished) : Type 0 where
+  pub inside : f.code < 64 * W
+  pub partners : W ≤ length f.partners.now
+
+-- the network of a plan that is lent
+abbrev pub plan_network : ℕ → Plan → Network
+plan_network W p = target_network W p.members.now p.targets.now p.links.now

@@ -8,14 +8,9 @@ use Rattle.graph.specs.Chart.{chart, ecc}
 use Rattle.rows.specs.Rows.{row_bit}
 use Rattle.map.specs.Memory.{network_of}
 use Rattle.targets.specs.Reach.{Reached}
-use Rattle.rounds.specs.declared.Plan.{Plan}
 
 abbrev pub target_network : ℕ → List ℕ → List ℕ → List ℕ → Network
 target_network W members targets links = with_yards (λ v. row_bit W members v && not (row_bit W targets v)) (network_of W members links)
-
--- of a plan that is lent
-abbrev pub plan_network : ℕ → Plan → Network
-plan_network W p = target_network W p.members.now p.targets.now p.links.now
 
 -- two whole rows, and every target is open: then the targets are the depots that deliver
 pub record AreTargets (W : ℕ) (members targets : List ℕ) : Type 0 where

@@ -3,27 +3,23 @@
 #![tactic(auto)]
 
 ghost use Rattle.std.specs.Prelude.{◌≡◌, cond, ◌+◌, ◌*◌, ◌^◌, ◌<◌, ◌≤◌, ltb, length};
-ghost use Rattle.pairs.specs.Pairs.{tally, Counted};
+ghost use Rattle.pairs.specs.Pairs.{tally, settle_of, Counted};
+ghost use Rattle.bounds.specs.Bounds.{leave_of, relax_of};
 ghost use Rattle.ranks.specs.Ranks.{AreRanks, AreThinned, PickIs};
 ghost use Rattle.targets.specs.Reach.{reached};
 ghost use Rattle.rounds.specs.Workspace.{reach_in, absorbed, absorbing, holding, round_of, run_of, rounds_begun, rounds_begin_of};
 ghost use Rattle.map.specs.Slices.{tables_in, IsSameRoom};
 ghost use Rattle.bounds.specs.Slices.{marks_in, MarksFit, IsSameMarks};
-ghost use Rattle.rounds.specs.Slices.{workspace_in, MarksFitIn, RoomFits, IsSameDesk};
+ghost use Rattle.rounds.specs.Slices.{workspace_in, MarksFitIn, RoomFits, IsSameDesk, said_of, FinishedFits};
+
+mod plan;
 
 use bounds::Marks;
 use map::{Room, Scratch};
+pub use plan::Plan;
 use targets::{Searched, Span, TargetHops};
 
 // ---- what a round is told and lent
-
-// What rounds read of a map: its open set, the row of the targets, which are the depots that deliver, and its links.
-#[derive(Clone, Copy)]
-pub struct Plan<'a> {
-    pub members: &'a [u64],
-    pub targets: &'a [u64],
-    pub links: &'a [u64],
-}
 
 // What rounds keep beside the lent room: the codes seen and the next layer of a search, a row for partners, and the ranks of the depots that remain.
 #[derive(Drop)]
@@ -86,55 +82,115 @@ pub struct RoundFigures {
     pub searches: u16,
 }
 
-// Below which bound a depot is skipped: the candidate c, or 0, below which no bound lies.
-fn skip_limit(skipping: bool, c: u16) -> u16
-    ensures { result ≡ cond skipping c 0 }
-{
-    if skipping {
-        return c;
-    }
-    0
+// ---- a finished search
+
+// What a finished search says of its start. Its hop table comes beside it: of one that a room lends nothing is known any more once it has stood in a
+// second struct, and the rounds go on in that room.
+#[derive(Clone, Copy)]
+pub struct Finished<'a> {
+    pub code: usize,
+    pub span: Span,
+    pub partners: &'a [u64],
 }
 
-// Takes in a finished search from r: candidate and pairs by what is its own; then r leaves the remaining; then their bounds, by its eccentricity; then
-// the skipping, if it is asked for.
+// Takes in a finished search, but for the candidate: pairs by what is its own; then its start leaves the remaining; then their bounds, by its
+// eccentricity; then those below the limit are skipped. Answers the number of pairs.
+fn take_in(
+    pairs: &mut [u64],
+    hops: &[u16],
+    marks: &mut Marks<'_>,
+    words: usize,
+    mark: u16,
+    found: Finished<'_>,
+    candidate: u16,
+    count: u32,
+    limit: u16,
+) -> u32
+    requires { Counted words pairs.old count
+        × MarksFit words marks.old
+        × (64 * words ≤ length hops.now)
+        × FinishedFits words found }
+    ensures same { IsSameMarks marks.old marks.new }
+    ensures settled { let f = found.entry in
+        let R = said_of f in
+        tally pairs.new result ≡ settle_of words R.partners f.code R.own candidate (tally pairs.old count) }
+    ensures marked { let f = found.entry in
+        let left = leave_of words f.code f.span.ecc mark (marks_in words marks.old) in
+        marks_in words marks.new ≡ relax_of words hops.now f.code f.span.ecc limit left }
+    ensures thinned { AreThinned words marks.old.ranks.now marks.new.ranks.now }
+{
+    let r = found.code;
+    let span = found.span;
+    let sum = pairs::settle(pairs, found.partners, words, r, span.own, candidate, count);
+    bounds::leave(marks, words, r, span.ecc, mark);
+    bounds::relax(hops, marks, words, r as u16, span.ecc, limit);
+    sum
+}
+
+// Takes in a finished search: the candidate is raised by what is its own, and then depots are skipped by that.
 pub fn absorb(
     pairs: &mut [u64],
     hops: &[u16],
     marks: &mut Marks<'_>,
-    partners: &[u64],
     words: usize,
     mark: u16,
-    r: usize,
-    span: Span,
+    found: Finished<'_>,
     candidate: u16,
     count: u32,
-    skipping: bool,
 ) -> RoundFigures
     requires { Counted words pairs.old count
         × MarksFit words marks.old
         × (64 * words ≤ length hops.now)
-        × (words ≤ length partners.now)
-        × (r < 64 * words) }
+        × FinishedFits words found }
     ensures same { IsSameMarks marks.old marks.new }
-    ensures taken { let R = reached span.ecc span.own partners.now in
+    ensures taken { let f = found.entry in
         let before = absorbed (tally pairs.old count) (marks_in words marks.old) candidate in
         let after = absorbed (tally pairs.new result.count) (marks_in words marks.new) result.candidate in
-        let h = hops.now in
-        after ≡ cond skipping (absorbing words mark r R h before) (holding words mark r R h before) }
+        after ≡ absorbing words mark f.code (said_of f) hops.now before }
+    ensures counted { Counted words pairs.new result.count }
     ensures thinned { AreThinned words marks.old.ranks.now marks.new.ranks.now }
 {
-    let sum = pairs::settle(pairs, partners, words, r, span.own, candidate, count);
-    let c = raise(candidate, span.own);
-    let limit = skip_limit(skipping, c);
-    bounds::leave(marks, words, r, span.ecc, mark);
-    bounds::relax(hops, marks, words, r as u16, span.ecc, limit);
+    let c = raise(candidate, found.span.own);
+    let sum = take_in(pairs, hops, marks, words, mark, found, candidate, count, c);
     RoundFigures {
         candidate: c,
         count: sum,
         searches: 0,
     }
 }
+
+// The same, but nobody is skipped yet: no bound lies below 0.
+pub fn hold(
+    pairs: &mut [u64],
+    hops: &[u16],
+    marks: &mut Marks<'_>,
+    words: usize,
+    mark: u16,
+    found: Finished<'_>,
+    candidate: u16,
+    count: u32,
+) -> RoundFigures
+    requires { Counted words pairs.old count
+        × MarksFit words marks.old
+        × (64 * words ≤ length hops.now)
+        × FinishedFits words found }
+    ensures same { IsSameMarks marks.old marks.new }
+    ensures taken { let f = found.entry in
+        let before = absorbed (tally pairs.old count) (marks_in words marks.old) candidate in
+        let after = absorbed (tally pairs.new result.count) (marks_in words marks.new) result.candidate in
+        after ≡ holding words mark f.code (said_of f) hops.now before }
+    ensures counted { Counted words pairs.new result.count }
+    ensures thinned { AreThinned words marks.old.ranks.now marks.new.ranks.now }
+{
+    let sum = take_in(pairs, hops, marks, words, mark, found, candidate, count, 0);
+    RoundFigures {
+        candidate: raise(candidate, found.span.own),
+        count: sum,
+        searches: 0,
+    }
+}
+
+// ---- one round more
 
 // One round: a search from r, taken in. What stands in seen, next and partners afterwards is free.
 fn round(
@@ -172,18 +228,20 @@ fn round(
     };
     let depth = layers::search_table(links, &mut scratch, desk.seen, desk.next, words, r);
     let span = reach_by(targets, &scratch, partners, words, r, depth);
+    let found = Finished {
+        code: r,
+        span,
+        partners: &*partners,
+    };
     let got = absorb(
         pairs,
         &*hops,
         &mut marks,
-        &*partners,
         words,
         mark,
-        r,
-        span,
+        found,
         before.candidate,
         before.count,
-        true,
     );
     RoundFigures {
         candidate: got.candidate,

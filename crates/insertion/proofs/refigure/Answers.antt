@@ -13,8 +13,7 @@ join-own-requires c =
       record { positive = omega arith; most = omega arith; table = pre.0.pairs; counted = pre.1.counted },
       search rules,
       search rules,
-      search rules,
-      pre.2,
+      record { inside = pre.2; partners = search rules },
     )
 
 pub returns-then-chain-span-clause-left : goal.returns-then-chain-span-clause-left
@@ -32,7 +31,6 @@ pub settle_low-requires : goal.settle_low-requires
 settle_low-requires c =
     let pre = c.requires.1 in (
       search rules,
-      pre.are,
       search rules,
       record { ends = pre.ends },
       search_stands base base_shape _ _ _ pre.are _ _ _ _ _ pre.net pre.present c.search_sound-depth.ensures.left _ c.reach_by-span.ensures

@@ -11,19 +11,18 @@ join-sum-requires c = (
   search rules,
   search rules,
   search rules,
-  search rules,
 )
 
 pub returns-then-span-chain-clause-left : goal.returns-then-span-chain-clause-left
 returns-then-span-chain-clause-left c =
     let pre = c.requires in
-    equal_is base _ _ _ _ _ _ _ pre.4 pre.3.ends pre.6 _ _ _ c.drop_stale-left.ensures c.if-span-chain.true _ _ _
+    equal_is base _ _ _ _ _ _ _ pre.3 pre.2.ends pre.5 _ _ _ c.drop_stale-left.ensures c.if-span-chain.true _ _ _
     c.join-sum.ensures
 
 pub returns-then-left-ne0-clause-left : goal.returns-then-left-ne0-clause-left
 returns-then-left-ne0-clause-left c =
     let pre = c.requires in
-    kept_is base _ _ _ _ _ _ _ pre.4 pre.3.ends pre.6 _ _ _ c.drop_stale-left.ensures c.if-span-chain.false
+    kept_is base _ _ _ _ _ _ _ pre.3 pre.2.ends pre.5 _ _ _ c.drop_stale-left.ensures c.if-span-chain.false
     c.if-left-ne0.true _ c.mark_once.ensures
 
 pub shrink-got-requires : goal.shrink-got-requires
@@ -31,13 +30,12 @@ shrink-got-requires c =
     let pre = c.requires in (
       search rules,
       pre.1,
-      pre.2,
-      record { net = pre.4.net; present = pre.4.present; spans = pre.4.spans; stands = pre.4.stands },
-      pre.5,
+      record { net = pre.3.net; present = pre.3.present; spans = pre.3.spans; stands = pre.3.stands },
+      pre.4,
     )
 
 pub returns-clause-left : goal.returns-clause-left
 returns-clause-left c =
     let pre = c.requires in
-    shrank_is base _ _ _ _ _ _ _ pre.4 pre.3.ends pre.6 _ _ _ c.drop_stale-left.ensures c.if-span-chain.false c.if-left-ne0.false
+    shrank_is base _ _ _ _ _ _ _ pre.3 pre.2.ends pre.5 _ _ _ c.drop_stale-left.ensures c.if-span-chain.false c.if-left-ne0.false
     _ c.shrink-got.ensures.left

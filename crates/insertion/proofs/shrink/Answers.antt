@@ -1,10 +1,9 @@
 -- `insertion::shrink` meets its contract: its three calls are the network's rounds after the one from the new depot.
-use mathlib.Core.Bool.{true}
 use native.Mathlib.Omega.{arith}
 use Rattle.map.specs.Memory.{base}
 use Rattle.map.proofs.Theorems.{base_shape}
 use Rattle.rounds.proofs.Turns.{begun_counted, same_marks}
-use Rattle.insertion.proofs.Shrinking.{absorbed_counted, shrink_is}
+use Rattle.insertion.proofs.Shrinking.{shrink_is}
 use Rattle.ranks.proofs.Ranks.{thinned_ranks}
 use borrow.Author.Rules.{rules}
 use Rattle.insertion.proofs.shrink.Goals as goal
@@ -16,16 +15,13 @@ absorb-first-requires c =
       search rules,
       search rules,
       search rules,
-      search rules,
     )
 
 pub run_rounds-requires : goal.run_rounds-requires
 run_rounds-requires c =
     let pre = c.requires in (
       search rules,
-      absorbed_counted true _ _ _ _ _ _ _ _ _ _
-          (begun_counted _ _ _ _ _ _ (omega arith) (omega arith) pre.0.pairs c.begin.ensures.begun)
-          c.absorb-first.ensures.taken,
+      c.absorb-first.ensures.counted,
       search rules,
       search (thinned_ranks, rules),
       search rules,
@@ -33,6 +29,6 @@ run_rounds-requires c =
 
 pub returns-clause-left : goal.returns-clause-left
 returns-clause-left c =
-    shrink_is base base_shape _ _ _ c.requires.1 _ _ _ _ _ c.requires.3 (omega (arith, c.ranges.way.fits)) _ _ _ _
+    shrink_is base base_shape _ _ _ c.args.plan.are _ _ _ _ _ c.requires.2 (omega (arith, c.ranges.way.fits)) _ _ _ _
     c.begin.ensures.begun _ _ _ c.absorb-first.ensures.taken _ _ _ _ _ _ c.run_rounds.ensures.left
     (same_marks _ _ _ _ _ _ _ (search rules) (search rules) (search rules))

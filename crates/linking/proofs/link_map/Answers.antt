@@ -15,6 +15,13 @@ link_codes-requires c = (
   (are_long_lem base _ (granted_long base base_shape _ _ _ _ _ c.requires)).links,
 )
 
+pub invariant_of-plan : goal.invariant_of-plan
+invariant_of-plan c =
+    let kept =
+    relinkable base base_shape _ _ _ _ _ _ _ _ _ _ c.requires _ c.link_codes.ensures _ (omega arith)
+    (omega arith) c.keep_targets.ensures.kept in
+    record { are = kept.are }
+
 pub relink_codes-got-requires : goal.relink_codes-got-requires
 relink_codes-got-requires c =
     let lent = are_long_lem base _ (granted_long base base_shape _ _ _ _ _ c.requires) in (

@@ -13,6 +13,15 @@ pub link_depot-requires : goal.link_depot-requires
 link_depot-requires c =
     (search rules, search rules, (are_long_lem base _ (granted_long base base_shape _ _ _ _ _ c.requires)).links)
 
+pub invariant_of-plan : goal.invariant_of-plan
+invariant_of-plan c =
+    let kept =
+    figurable base base_shape _ _ _ _ _ _ _ _ _ _ _ c.requires c.ranges.code.fits
+    (λ k l. (c.shared_slice_known-1.given k).fits) _ _ _ c.put_code.ensures
+    c.put_yard.ensures c.link_depot.ensures _ (omega arith)
+    (omega arith) c.keep_delivering.ensures in
+    record { are = kept.are }
+
 pub refigure-got-requires : goal.refigure-got-requires
 refigure-got-requires c =
     let long = are_long_lem base _ (granted_long base base_shape _ _ _ _ _ c.requires) in (

@@ -16,12 +16,16 @@ pub keep_delivering-requires : goal.keep_delivering-requires
 keep_delivering-requires c =
     (omega arith, omega (arith, slice_bounds-keep_delivering-end-2 c))
 
+pub invariant_of-plan : goal.invariant_of-plan
+invariant_of-plan c =
+    let z = sym c.in_ok-reckon_refusal.ensures in
+    record { are = granted_targets base _ _ _ base_shape z (omega arith) (omega arith) c.keep_delivering.ensures }
+
 pub reckon_map-got-requires : goal.reckon_map-got-requires
 reckon_map-got-requires c =
     let z = sym c.in_ok-reckon_refusal.ensures in
     let kept = c.keep_delivering.ensures in (
       granted_long base _ _ _ z,
-      granted_targets base _ _ _ base_shape z (omega arith) (omega arith) kept,
       granted_target_net base _ _ _ base_shape z (omega arith) (omega arith) kept,
     )
 

@@ -19,5 +19,5 @@ run_rounds-requires c =
 
 pub returns-clause-left : goal.returns-clause-left
 returns-clause-left c =
-    reckoned_is base base_shape _ _ _ c.requires.1 c.requires.2 _ _ _ _ _ _ c.begin.ensures.begun c.run_rounds.ensures.left
+    reckoned_is base base_shape _ _ _ c.args.plan.are c.requires.1 _ _ _ _ _ _ c.begin.ensures.begun c.run_rounds.ensures.left
     (same_marks _ _ _ _ _ _ _ (search rules) (search rules) (search rules))

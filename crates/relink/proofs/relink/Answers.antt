@@ -10,7 +10,6 @@ pub settle-requires : goal.settle-requires
 settle-requires c =
     let pre = c.requires in (
       search rules,
-      pre.1.are,
       record { ends = pre.1.ends },
       search rules,
       search rules,
@@ -19,7 +18,6 @@ settle-requires c =
           c.search_sound-d.ensures.left c.search_sound-b.ensures.left _ _
           c.reach_by-e.ensures c.reach_by-f.ensures (search rules)
           (same_tables _ _ _ _ _ _ (search rules) (search rules) (search rules)),
-      pre.2,
       pre.3,
     )
 

@@ -7,24 +7,22 @@ use Rattle.relink.proofs.settle.Goals as goal
 pub returns-then-is_kept-clause-left : goal.returns-then-is_kept-clause-left
 returns-then-is_kept-clause-left c =
     let pre = c.requires in
-    kept_is base _ _ _ _ _ _ _ _ _ _ pre.6 pre.2.ends _ _ _ c.drop_stale_either-left.ensures _ c.is_kept.ensures
-    c.if-is_kept.true _ c.mark_both.ensures
+    kept_is base _ _ _ _ _ _ _ _ _ _ pre.5 pre.1.ends _ _ _ c.drop_stale_either-left.ensures _ c.is_kept.ensures
+    c.if-is_kept.true _ c.mark_twice.ensures
 
 pub shrink-got-requires : goal.shrink-got-requires
 shrink-got-requires c =
     let pre = c.requires in (
       search rules,
-      pre.1,
+      pre.2,
       pre.3,
       pre.4,
       pre.5,
       pre.6,
-      pre.7,
-      pre.8,
     )
 
 pub returns-clause-left : goal.returns-clause-left
 returns-clause-left c =
     let pre = c.requires in
-    shrank_is base _ _ _ _ _ _ _ _ _ _ pre.6 pre.2.ends _ _ _ c.drop_stale_either-left.ensures _ c.is_kept.ensures
+    shrank_is base _ _ _ _ _ _ _ _ _ _ pre.5 pre.1.ends _ _ _ c.drop_stale_either-left.ensures _ c.is_kept.ensures
     c.if-is_kept.false _ c.shrink-got.ensures.left

@@ -11,15 +11,13 @@ pub take_both-before-requires : goal.take_both-before-requires
 take_both-before-requires c =
     let pre = c.requires in (
       search rules,
-      pre.1.member_row,
+      c.args.plan.are.member_row,
       pre.0.links,
       pre.0.pairs,
-      pre.2,
+      pre.1,
       pre.0.hops,
-      pre.3,
-      pre.4,
-      pre.6,
-      pre.7,
+      pre.2,
+      record { inside = pre.5; partners = pre.3 },
     )
 
 pub run_rounds-requires : goal.run_rounds-requires
@@ -33,6 +31,6 @@ run_rounds-requires c = (
 
 pub returns-clause-left : goal.returns-clause-left
 returns-clause-left c =
-    shrink_is base base_shape _ _ _ c.requires.1 _ _ _ _ _ _ _ _ c.requires.5 (omega (arith, c.ranges.way.fits)) _ _ _
+    shrink_is base base_shape _ _ _ c.args.plan.are _ _ _ _ _ _ _ _ c.requires.4 (omega (arith, c.ranges.way.fits)) _ _ _
     c.take_both-before.ensures.taken _ c.take_both-before.ensures.searches _ _ _ _ _ _ c.run_rounds.ensures.left
     (same_marks _ _ _ _ _ _ _ (search rules) (search rules) (search rules))

@@ -1,19 +1,16 @@
 -- `relink::take_low` meets its contract: its two calls are the two parts of the definition.
-use mathlib.Core.Bool.{false}
 use native.Mathlib.Omega.{arith}
 use Rattle.map.specs.Memory.{base}
 use Rattle.rounds.proofs.Turns.{begun_counted}
 use Rattle.ranks.proofs.Ranks.{thinned_ranks}
-use Rattle.insertion.proofs.Shrinking.{absorbed_counted}
 use Rattle.relink.proofs.Taking.{low_taken_lem}
 use borrow.Author.Rules.{rules}
 use Rattle.relink.proofs.take_low.Goals as goal
 
-pub absorb-requires : goal.absorb-requires
-absorb-requires c =
+pub hold-requires : goal.hold-requires
+hold-requires c =
     let pre = c.requires in (
       begun_counted _ _ _ _ _ _ (omega arith) (omega arith) pre.3 c.begin.ensures.begun,
-      search rules,
       search rules,
       search rules,
       search rules,
@@ -21,13 +18,7 @@ absorb-requires c =
 
 pub returns-clause-taken : goal.returns-clause-taken
 returns-clause-taken c =
-    low_taken_lem base _ _ _ _ _ _ _ _ _ c.begin.ensures.begun c.absorb.ensures.taken
-
-pub returns-clause-counted : goal.returns-clause-counted
-returns-clause-counted c =
-    absorbed_counted false _ _ _ _ _ _ _ _ _ _
-    (begun_counted _ _ _ _ _ _ (omega arith) (omega arith) c.requires.3 c.begin.ensures.begun)
-    c.absorb.ensures.taken
+    low_taken_lem base _ _ _ _ _ _ _ _ _ c.begin.ensures.begun c.hold.ensures.taken
 
 pub returns-clause-ranked : goal.returns-clause-ranked
 returns-clause-ranked c = search (thinned_ranks, rules)

@@ -1,13 +1,12 @@
--- `rounds::absorb` meets its contract: its calls are the parts of the definition, with or without skipping.
+-- `rounds::absorb` meets its contract: the definition's parts are what the two calls ensure.
+use Rattle.pairs.proofs.Settling.{settle_counted}
 use Rattle.rounds.proofs.Turns.{absorb_is}
-use Rattle.ranks.proofs.Ranks.{thinned_twice}
 use Rattle.rounds.proofs.absorb.Goals as goal
 
 pub returns-clause-taken : goal.returns-clause-taken
 returns-clause-taken c =
-    absorb_is _ _ _ _ _ _ c.args.skipping _ _ _ _ _ c.settle-sum.ensures c.raise-c.ensures
-    c.skip_limit-limit.ensures c.leave.ensures.left c.relax.ensures.relaxed
+    absorb_is _ _ _ _ _ _ _ _ _ c.take_in-sum.ensures.settled c.raise-c.ensures c.take_in-sum.ensures.marked
 
-pub returns-clause-thinned : goal.returns-clause-thinned
-returns-clause-thinned c =
-    thinned_twice _ _ _ _ c.leave.ensures.thinned c.relax.ensures.thinned
+pub returns-clause-counted : goal.returns-clause-counted
+returns-clause-counted c =
+    settle_counted _ _ _ _ _ _ _ _ _ c.requires.0 c.take_in-sum.ensures.settled

@@ -1,0 +1,12 @@
+-- `rounds::hold` meets its contract: as `absorb`, with the limit 0.
+use Rattle.pairs.proofs.Settling.{settle_counted}
+use Rattle.rounds.proofs.Turns.{hold_is}
+use Rattle.rounds.proofs.hold.Goals as goal
+
+pub returns-clause-taken : goal.returns-clause-taken
+returns-clause-taken c =
+    hold_is _ _ _ _ _ _ _ _ _ c.take_in-sum.ensures.settled c.raise.ensures c.take_in-sum.ensures.marked
+
+pub returns-clause-counted : goal.returns-clause-counted
+returns-clause-counted c =
+    settle_counted _ _ _ _ _ _ _ _ _ c.requires.0 c.take_in-sum.ensures.settled
