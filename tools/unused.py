@@ -6,7 +6,8 @@ import glob
 import re
 import sys
 
-BREAK = re.compile(r'[\s(){};,.⌜⌝]+')
+# `::` parts the path of a law that a function's `#[tactic(auto, using(..))]` names
+BREAK = re.compile(r'(?:[\s(){};,.⌜⌝]|::)+')
 USE = re.compile(r'^((?:ghost )?use )(\S+)\.\{(.*)\}(;?)$')
 
 

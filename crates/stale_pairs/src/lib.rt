@@ -66,7 +66,7 @@ pub struct Sifted {
 
 // Takes the stale members out of x, whose bit b stands for the pair of u and first + b: those whose way is below chain. What tells the way of a pair is
 // a function, so that the loop over one search has no test more than that search asks.
-#[tactic(auto, using(crate::proofs::Sifting::sift_start, crate::proofs::Sifting::sift_drop, crate::proofs::Sifting::sift_keep, crate::proofs::Sifting::sift_end))]
+#[tactic(auto, using(crate::proofs::Sifting::sift_end))]
 fn sift<F: Fn(usize, usize) -> u16>(tell: &F, x: u64, u: usize, first: usize, chain: u16) -> Sifted
     requires small { first + 64 < 2 ^ 64 }
     requires asked { (b : ℕ) → b < 64 → F.pre tell.now u (first + b) }
@@ -104,7 +104,7 @@ fn sift<F: Fn(usize, usize) -> u16>(tell: &F, x: u64, u: usize, first: usize, ch
 // ---- rows
 
 // Drops the stale pairs of row u, a word at a time. Words without a pair are passed: most of a row has none.
-#[tactic(auto, using(crate::proofs::StaleRow::row_start, crate::proofs::StaleRow::row_end))]
+#[tactic(auto, using(crate::proofs::StaleRow::row_end))]
 fn drop_row<F: Fn(usize, usize) -> u16>(
     pairs: &mut [u64],
     tell: &F,
@@ -142,7 +142,7 @@ fn drop_row<F: Fn(usize, usize) -> u16>(
 }
 
 // Where the rows from u on that have no pair end, as far as whole groups of 8 tell: two groups a turn, while there are two.
-#[tactic(auto, using(crate::proofs::BareRows::group_inside, crate::proofs::BareRows::group_bare))]
+#[tactic(auto, using(crate::proofs::BareRows::group_inside))]
 fn bare_groups(pairs: &[u64], words: usize, rows: usize, u: usize) -> usize
     requires { (words < 513) × (words * (64 * words) ≤ length pairs.now) × (rows ≤ 64 * words) × (u ≤ rows) }
     ensures { Bare words rows pairs.now u result }
@@ -163,7 +163,7 @@ fn bare_groups(pairs: &[u64], words: usize, rows: usize, u: usize) -> usize
 }
 
 // The next row from u on that has a pair, all rows where none has: most have none, and so most are passed 8 at a time.
-#[tactic(auto, using(crate::proofs::BareRows::row_inside, crate::proofs::BareRows::row_bare))]
+#[tactic(auto, using(crate::proofs::BareRows::row_inside))]
 fn next_row(pairs: &[u64], words: usize, rows: usize, u: usize) -> usize
     requires { (words < 513) × (words * (64 * words) ≤ length pairs.now) × (rows ≤ 64 * words) × (u ≤ rows) }
     ensures { Bare words rows pairs.now u result }
@@ -178,7 +178,7 @@ fn next_row(pairs: &[u64], words: usize, rows: usize, u: usize) -> usize
 
 // Drops the stale pairs of the first rows in place, a row after the other: those rows have their pairs that stay, the others are as they were, and
 // the pairs gone so far are counted. No more than `total` pairs stand in them, so that no row is looked at behind the last of these.
-#[tactic(auto, using(crate::proofs::StaleTable::rows_start, crate::proofs::StaleTable::rows_bare, crate::proofs::StaleTable::rows_more, crate::proofs::StaleTable::rows_end))]
+#[tactic(auto, using(crate::proofs::StaleTable::rows_end))]
 pub fn drop_rows<F: Fn(usize, usize) -> u16>(
     pairs: &mut [u64],
     tell: &F,
@@ -236,8 +236,7 @@ pub fn drop_stale(pairs: &mut [u64], hops: &[u16], words: usize, chain: u16, tot
     }
 }
 
-// `drop_stale` by two searches: a pair is stale that either shows to be nearer than the chain. (One function for both would be told the second search and
-// the number of pairs by an Option each, and be no shorter.)
+// `drop_stale` by two searches: a pair is stale that either shows to be nearer than the chain.
 #[tactic(auto, using(crate::proofs::StaleTable::below_few, crate::proofs::StaleTable::all_rows))]
 pub fn drop_stale_either(
     pairs: &mut [u64],

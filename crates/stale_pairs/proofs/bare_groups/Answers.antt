@@ -3,7 +3,7 @@
 use Prim.Native.Nat.{◌+◌}
 use native.Mathlib.Omega.{arith}
 use Rattle.stale_pairs.specs.Stale.{Bare}
-use Rattle.stale_pairs.proofs.BareRows.{group_bare, group_inside}
+use Rattle.stale_pairs.proofs.BareRows.{group_bare}
 use Rattle.stale_pairs.proofs.bare_groups.Goals as goal
 use Rattle.stale_pairs.proofs.bare_groups.Goals.{Else-not-all_zero}
 

@@ -1,8 +1,7 @@
 -- `stale_pairs::drop_row` meets its contract. The loop's invariant (StaleRow.antt): the row's pairs in the words passed are dropped or counted, and their
 -- greatest way is known.
 use native.Mathlib.Omega.{arith}
-use Rattle.rows.proofs.Places.{row_fits}
-use Rattle.stale_pairs.proofs.StaleRow.{row_start, row_word, row_skip, row_end, gone_fits, count_fits}
+use Rattle.stale_pairs.proofs.StaleRow.{told_word, row_start, row_word, row_skip, gone_fits, count_fits}
 use Rattle.stale_pairs.proofs.drop_row.Goals as goal
 use Rattle.stale_pairs.proofs.drop_row.Goals.{then-old-ne0, else-old-ne0}
 
@@ -10,14 +9,20 @@ pub loop-j-init : goal.loop-j-init
 loop-j-init g c = λ way h. row_start _ _ _ _ _ c.requires.room.1 (λ i l. (c.slice_known-1.given i).fits)
 
 pub overflow_add-gone : goal.overflow_add-gone
-overflow_add-gone g c = let told = c.requires.told in search (gone_fits, c.loop-j.invariant told.0 told.1, c.sift-left.ensures told.0 (λ b r l. told.1 _ _ _ (omega arith) (omega arith)))
+overflow_add-gone g c =
+    let told = c.requires.told in
+    search (gone_fits, c.loop-j.invariant told.0 told.1, c.sift-left.ensures told.0 (told_word _ _ _ _ told.1 _ _ (omega arith) (omega arith)))
 
 pub overflow_add-count : goal.overflow_add-count
-overflow_add-count g c = let told = c.requires.told in search (count_fits, c.loop-j.invariant told.0 told.1, c.sift-left.ensures told.0 (λ b r l. told.1 _ _ _ (omega arith) (omega arith)))
+overflow_add-count g c =
+    let told = c.requires.told in
+    search (count_fits, c.loop-j.invariant told.0 told.1, c.sift-left.ensures told.0 (told_word _ _ _ _ told.1 _ _ (omega arith) (omega arith)))
 
 pub loop-j-preserved : goal.loop-j-preserved
 loop-j-preserved g c =
     λ way h. elim c.if-old-ne0.branch [
-      | then-old-ne0 w ↦ rw (w.pairs-is, w.gone-is, w.count-is, w.way'-is) (search (row_word, c.loop-j.invariant way h, w.sift-left.ensures way (λ b r l. h _ _ _ (omega arith) (omega arith))))
+      | then-old-ne0 w ↦
+          let sifted = w.sift-left.ensures way (told_word _ _ _ _ h _ _ (omega arith) (omega arith)) in
+          rw (w.pairs-is, w.gone-is, w.count-is, w.way'-is) (search (row_word, c.loop-j.invariant way h, sifted))
       | else-old-ne0 w ↦ rw (w.pairs-is, w.gone-is, w.count-is, w.way'-is) (search (row_skip, c.loop-j.invariant way h))
     ]

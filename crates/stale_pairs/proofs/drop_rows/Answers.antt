@@ -2,7 +2,7 @@
 -- left.
 use Prim.Native.Nat.{◌+◌, ◌^◌, ◌<◌}
 use native.Mathlib.Omega.{arith}
-use Rattle.stale_pairs.proofs.StaleTable.{rows_start, row_few, rows_few, rows_met, rows_bare, rows_more, rows_end}
+use Rattle.stale_pairs.proofs.StaleTable.{rows_start, row_few, rows_few, rows_met, rows_bare, rows_more}
 use Rattle.stale_pairs.proofs.drop_rows.Goals as goal
 use Rattle.stale_pairs.proofs.drop_rows.Goals.{After-drop_row-row}
 

@@ -1,8 +1,7 @@
 -- `stale_pairs::drop_stale_either` meets its contract: it is `drop_rows` over all rows (StaleTable.antt), by the way that it tells.
-use native.Mathlib.Omega.{arith}
 use borrow.Author.Rules.{rules}
 use Rattle.stale_pairs.specs.Stale.{way_by_either}
-use Rattle.stale_pairs.proofs.StaleTable.{below_few, all_rows}
+use Rattle.stale_pairs.proofs.StaleTable.{all_rows}
 use Rattle.stale_pairs.proofs.drop_stale_either.Goals as goal
 
 pub drop_rows-done-requires-clause-told : goal.drop_rows-done-requires-clause-told

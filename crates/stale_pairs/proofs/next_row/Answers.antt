@@ -1,5 +1,5 @@
 -- `stale_pairs::next_row` meets its contract. The loop's invariant: the rows from `u` to `p` have no pair (BareRows.antt).
-use Rattle.stale_pairs.proofs.BareRows.{row_bare, row_inside}
+use Rattle.stale_pairs.proofs.BareRows.{row_bare}
 use Rattle.stale_pairs.proofs.next_row.Goals as goal
 
 pub loop-p-preserved : goal.loop-p-preserved
