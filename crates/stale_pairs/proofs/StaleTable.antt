@@ -23,7 +23,7 @@ use Rattle.rows.proofs.Written.{table_at}
 use Rattle.rows.proofs.Wholes.{table_whole, encode_table_ext}
 use Rattle.pairs.specs.Pairs.{tally, tally_of}
 use Rattle.pairs.proofs.Tallies.{table_over}
-use Rattle.stale_pairs.specs.Stale.{way_by, way_by_either, way_from, dropped, RowsDropped, rows_dropped, stale_pairs, pairs_after, row_gone, row_stays, row_way, drop_row_of, drop_rows_of, drop_of, Bare, pairs_below}
+use Rattle.stale_pairs.specs.Stale.{dropped, RowsDropped, rows_dropped, stale_pairs, pairs_after, row_gone, row_stays, row_way, drop_row_of, drop_rows_of, drop_of, Bare, pairs_below}
 use Rattle.stale_pairs.proofs.StaleRow.{count_parted, same_rows}
 
 -- a row has at most 64 W pairs, and so no more go or stay
@@ -246,11 +246,3 @@ module _ (W : ℕ) (far : ℕ → ℕ → ℕ) (D : ℕ) (t₀ : List ℕ) where
       ap (λ (x : RowsDropped). x.left) q
       ∙ ap (λ (e : List ℕ). dropped (tally (overwrite e t₀) (count_pairs (range (64 * W)) (staying_pairs far D P₀))) (shrunk_candidate (range (64 * W)) far D P₀))
       (encode_table_ext W (left_above (64 * W)) (staying_pairs far D P₀) (λ p v a b. left_done (64 * W) p v a))
-
--- ---- a row by one search, or by either of two
-
-pub by_either : (W : ℕ) (near far : List ℕ) (D u : ℕ) (t : List ℕ) {b : Bool} {x : RowsDropped} → b ≡ true → x ≡ drop_row_of W (way_by_either near far) D u t → x ≡ drop_row_of W (way_from b near far) D u t
-by_either W near far D u t e q = rw (e) q
-
-pub by_one : (W : ℕ) (near far : List ℕ) (D u : ℕ) (t : List ℕ) {b : Bool} {x : RowsDropped} → b ≡ false → x ≡ drop_row_of W (way_by near) D u t → x ≡ drop_row_of W (way_from b near far) D u t
-by_one W near far D u t e q = rw (e) q

@@ -1,6 +1,7 @@
 -- STALE PAIRS, over lists of words, for any number of words per row: which stored pairs stay after a search, and what the code's steps do to the
 -- table. Assumes nothing.
-use Rattle.std.specs.Prelude.{◌≡◌, Bool, true, false, cond, not, ◌&&◌, List, ℕ, ◌+◌, ◌*◌, ◌≤◌, ◌<◌, min, eqb, ltb, length, get_or}
+use Rattle.std.specs.Prelude.{◌≡◌, Bool, true, false, cond, not, ◌&&◌, List, ℕ, ◌+◌, ◌*◌, ◌≤◌, ◌<◌, min, eqb, ltb, length, get_or, Option, Some, None}
+use Rattle.std.specs.Borrow.{Bor}
 use Rattle.lists.specs.Lists.{range, countb, sum_of, max_of, overwrite}
 use Rattle.words.specs.Bits.{bit, word_of}
 use Rattle.graph.specs.Chart.{Pairs, count_pairs}
@@ -16,10 +17,10 @@ way_by hops u v = get_or hops u 0 + get_or hops v 0
 abbrev pub way_by_either : List ℕ → List ℕ → ℕ → ℕ → ℕ
 way_by_either near far u v = min (way_by near u v) (way_by far u v)
 
--- by the hops of the first alone, or of either
-abbrev pub way_from : Bool → List ℕ → List ℕ → ℕ → ℕ → ℕ
-way_from false near far = way_by near
-way_from true near far = way_by_either near far
+-- by the hops of the first alone, or of either where there is a second
+abbrev pub way_from : List ℕ → Option (Bor (List ℕ)) → ℕ → ℕ → ℕ
+way_from near None = way_by near
+way_from near (Some far) = way_by_either near far.now
 
 -- a table without its stale pairs, and the greatest way that was there, none above D
 pub record Dropped : Type 0 where

@@ -5,7 +5,7 @@
 
 #![tactic(auto)]
 
-ghost use Rattle.std.specs.Prelude.{◌≡◌, ◌+◌, ◌*◌, ◌<◌, ◌≤◌, min, max, length};
+ghost use Rattle.std.specs.Prelude.{◌≡◌, ◌+◌, ◌*◌, ◌<◌, ◌≤◌, min, max, length, IfSome};
 ghost use Rattle.pairs.specs.Pairs.{tally};
 ghost use Rattle.stale_pairs.specs.Stale.{HasHops, Bare, way_by, way_by_either, way_from, sifted, sift_of};
 ghost use Rattle.stale_pairs.specs.Stale.{dropped, rows_dropped, drop_row_of, drop_rows_of, drop_of, pairs_below};
@@ -196,24 +196,24 @@ fn drop_row_either(
     }
 }
 
-// `drop_row` by one search, or by either of two. The choice is made for a row, so that the loops over its words and members have no test more.
+// `drop_row` by one search, or by either of two where `far` is the second. The choice is made for a row, so that the loops over its words and members have
+// no test more.
 fn drop_row_by(
     pairs: &mut [u64],
     near: &[u16],
-    far: &[u16],
+    far: Option<&[u16]>,
     words: usize,
     u: usize,
     chain: u16,
-    either: bool,
 ) -> RowsDropping
-    requires { HasHops words pairs.old near.now × HasHops words pairs.old far.now × (u < 64 * words) }
-    ensures { let way = way_from either near.now far.now in
+    requires { HasHops words pairs.old near.now × IfSome far (λ f. HasHops words pairs.old f.now) × (u < 64 * words) }
+    ensures { let way = way_from near.now far.entry in
         rows_dropped pairs.new result.gone result.count result.way ≡ drop_row_of words way chain u pairs.old }
 {
-    if either {
-        return drop_row_either(pairs, near, far, words, u, chain);
+    match far {
+        Some(second) => drop_row_either(pairs, near, second, words, u, chain),
+        None => drop_row(pairs, near, words, u, chain),
     }
-    drop_row(pairs, near, words, u, chain)
 }
 
 // Where the rows from u on that have no pair end, as far as whole groups of 8 tell: two groups a turn, while there are two.
@@ -254,18 +254,17 @@ fn next_row(pairs: &[u64], words: usize, rows: usize, u: usize) -> usize
 pub fn drop_rows(
     pairs: &mut [u64],
     near: &[u16],
-    far: &[u16],
+    far: Option<&[u16]>,
     words: usize,
     rows: usize,
     chain: u16,
-    either: bool,
     total: u32,
 ) -> RowsDropping
     requires { HasHops words pairs.old near.now
-        × HasHops words pairs.old far.now
+        × IfSome far (λ f. HasHops words pairs.old f.now)
         × (rows ≤ 64 * words)
         × (pairs_below words rows pairs.old ≤ total) }
-    ensures { let way = way_from either near.now far.now in
+    ensures { let way = way_from near.now far.entry in
         rows_dropped pairs.new result.gone result.count result.way ≡ drop_rows_of words way chain rows pairs.old }
 {
     let mut gone: u32 = 0;
@@ -274,7 +273,7 @@ pub fn drop_rows(
     // A row is jumped to, so that no range counts the rows.
     let mut u = next_row(&*pairs, words, rows, 0);
     while u < rows {
-        let row = drop_row_by(pairs, near, far, words, u, chain, either);
+        let row = drop_row_by(pairs, near, far, words, u, chain);
         gone += row.gone;
         count += row.count;
         way = way.max(row.way);
@@ -298,7 +297,7 @@ pub fn drop_stale(pairs: &mut [u64], hops: &[u16], words: usize, chain: u16, tot
         × (count_pairs (range (64 * words)) (table_bit words pairs.old) ≤ total) }
     ensures { dropped (tally pairs.new result.count) result.way ≡ drop_of words (way_by hops.now) chain pairs.old }
 {
-    let done = drop_rows(pairs, hops, hops, words, 64 * words, chain, false, total);
+    let done = drop_rows(pairs, hops, None, words, 64 * words, chain, total);
     Dropping {
         count: done.count,
         way: done.way,
@@ -318,7 +317,7 @@ pub fn drop_stale_either(
     ensures { let way = way_by_either near.now far.now in
         dropped (tally pairs.new result.count) result.way ≡ drop_of words way chain pairs.old }
 {
-    let done = drop_rows(pairs, near, far, words, 64 * words, chain, true, MOST);
+    let done = drop_rows(pairs, near, Some(far), words, 64 * words, chain, MOST);
     Dropping {
         count: done.count,
         way: done.way,

@@ -7,7 +7,7 @@ use Rattle.stale_pairs.proofs.drop_rows.Given as goal
 
 abbrev pub invariant-loop-u : goal.invariant-loop-u
 invariant-loop-u l =
-    RowsDropping l.words (way_from l.either' l.near l.far) l.chain l.initial.pairs l.rows l.pairs l.gone l.count l.way l.u
+    RowsDropping l.words (way_from l.near l.far) l.chain l.initial.pairs l.rows l.pairs l.gone l.count l.way l.u
 
 abbrev pub decreases-loop-u : goal.decreases-loop-u
 decreases-loop-u l = l.rows - l.u

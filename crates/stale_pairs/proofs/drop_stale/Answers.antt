@@ -5,7 +5,7 @@ use Rattle.stale_pairs.proofs.drop_stale.Goals as goal
 
 pub drop_rows-done-requires : goal.drop_rows-done-requires
 drop_rows-done-requires c =
-    (c.requires.0, c.requires.0, omega arith, omega (arith, c.requires.1, below_all c.args.words c.args.pairs.now))
+    (c.requires.0, tt, omega arith, omega (arith, c.requires.1, below_all c.args.words c.args.pairs.now))
 
 pub returns : goal.returns
 returns c = search all_rows
