@@ -208,3 +208,10 @@ module _ (far : ℕ → ℕ → ℕ) (D u first x : ℕ) where
       all : (k : ℕ) (a : Bool) → cond (a && true) (way_of k) 0 ≡ cond a (way_of k) 0
       all k true = refl
       all k false = refl
+
+  -- and so no more than 64 go or stay
+  pub word_few : ((sift_of far D u first x).gone ≤ 64) × ((sift_of far D u first x).kept ≤ 64)
+  unfolding sift_of
+  word_few =
+      let most = length-range 64 in
+      (omega (arith, count_le_length (stale_bit far D u first x) (range 64)), omega (arith, count_le_length (staying_bit far D u first x) (range 64)))

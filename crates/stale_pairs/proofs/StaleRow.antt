@@ -96,7 +96,7 @@ module _ (W : ℕ) (far : ℕ → ℕ → ℕ) (D u : ℕ) (t₀ : List ℕ) whe
   left_past at v l = rw (eq-eqb u u refl, le-ltb v at l)
 
   -- no more pairs go or stay than codes are passed
-  row_few : {t : List ℕ} {g n w at : ℕ} → RowDropping t g n w at → g + n ≤ at
+  pub row_few : {t : List ℕ} {g n w at : ℕ} → RowDropping t g n w at → g + n ≤ at
   row_few {at = at} i =
       omega (arith, i.gone, i.count, count_parted far D (table_bit W t₀) u (range at), count_le_length (table_bit W t₀ u) (range at), length-range at)
 
@@ -166,16 +166,6 @@ module _ (W : ℕ) (far : ℕ → ℕ → ℕ) (D u : ℕ) (t₀ : List ℕ) whe
             count = omega (arith, i.count, word_stays, count_word (staying_pairs far D (table_bit W t₀) u));
             way = m ∙ ap₂ max i.way way_word ∙ sym (ap (λ (k : ℕ). max_of way_at (range k)) e ∙ max-split way_at (64 * j) 64);
           }
-
-      -- the sums of the code: a row of at most 512 words has at most 32,768 pairs
-      few : g + b + (n + c) ≤ 32768 * W
-      few = omega (arith, row_few (row_word refl), h)
-
-      pub gone_fits : W < 513 → g + b < 2 ^ 32
-      gone_fits z = omega (arith, few)
-
-      pub count_fits : W < 513 → n + c < 2 ^ 32
-      count_fits z = omega (arith, few)
 
     -- a word without a pair: nothing goes, nothing stays
     nothing-sifted : x ≡ 0 → sifted 0 0 0 0 ≡ sift_of far D u (64 * j) x

@@ -1,7 +1,7 @@
 -- The loop of `drop_rows`: after each row the statement itself, `drop_rows_of`, for the rows done. Assumes nothing.
 use mathlib.Core.Path.{◌≡◌, refl, sym, ap, ap₂, ◌∙◌, subst}
 use mathlib.Core.Logic.{◌≢◌, ◌⊎◌, inl, inr}
-use mathlib.Core.Bool.{Bool, true, false, cond, not, ◌&&◌}
+use mathlib.Core.Bool.{Bool, false, cond, not, ◌&&◌}
 use mathlib.Core.List.{List}
 use Prim.Native.Nat.{ℕ, zero, suc, ◌+◌, ◌-◌, ◌*◌, ◌^◌, ◌≤◌, ◌<◌, min, max}
 use native.Mathlib.Nat.{le_of_eq}
@@ -31,9 +31,17 @@ few_in : (W : ℕ) (far : ℕ → ℕ → ℕ) (D : ℕ) (P : Pairs) (u : ℕ) �
 unfolding row_gone row_stays
 few_in W far D P u = omega (arith, count_parted far D P u (range (64 * W)), count_le_length (P u) (range (64 * W)), length-range (64 * W))
 
-pub row_few : (W : ℕ) (far : ℕ → ℕ → ℕ) (D u : ℕ) (t : List ℕ) {t' : List ℕ} {g k w : ℕ} → rows_dropped t' g k w ≡ drop_row_of W far D u t → g + k ≤ 64 * W
+pub drop_row_few : (W : ℕ) (far : ℕ → ℕ → ℕ) (D u : ℕ) (t : List ℕ) → (drop_row_of W far D u t).gone + (drop_row_of W far D u t).left.left.count ≤ 64 * W
 unfolding drop_row_of
-row_few W far D u t r = omega (arith, ap (λ (x : RowsDropped). x.gone + x.left.left.count) r, few_in W far D (table_bit W t) u)
+drop_row_few W far D u t = few_in W far D (table_bit W t) u
+
+pub drop_rows_few : (W : ℕ) (far : ℕ → ℕ → ℕ) (D n : ℕ) (t : List ℕ) → W < 513 → (drop_rows_of W far D n t).gone + (drop_rows_of W far D n t).left.left.count ≤ 32768 * n
+unfolding drop_rows_of
+drop_rows_few W far D n t z =
+    let P = table_bit W t in
+    let f : ℕ → ℕ = λ p. row_gone W far D P p + row_stays W far D P p in
+    let few = sum_few f 32768 n (λ p l. omega (arith, few_in W far D P p)) in
+    omega (arith, sum_add (row_gone W far D P) (row_stays W far D P) (range n), few)
 
 -- ---- pairs counted, row by row
 
@@ -118,13 +126,6 @@ module _ (W : ℕ) (far : ℕ → ℕ → ℕ) (D : ℕ) (t₀ : List ℕ) where
     unfolding drop_rows_of
     done_way = ap (λ (x : RowsDropped). x.left.way) i.is
 
-    -- there are at most 32,768 for each row
-    pub rows_few : W < 513 → g + k ≤ 32768 * u
-    rows_few z =
-        let f : ℕ → ℕ = λ p. row_gone W far D P₀ p + row_stays W far D P₀ p in
-        let few = sum_few f 32768 u (λ p l. omega (arith, few_in W far D P₀ p)) in
-        omega (arith, done_gone, done_count, sum_add (row_gone W far D P₀) (row_stays W far D P₀) (range u), few)
-
     -- those gone and those that stay are the pairs of the rows done
     done_all : g + k ≡ pairs_below W u t₀
     unfolding pairs_below row_gone row_stays
@@ -138,7 +139,7 @@ module _ (W : ℕ) (far : ℕ → ℕ → ℕ) (D : ℕ) (t₀ : List ℕ) where
     bit_yet p v a l h = ap (λ (s : List ℕ). table_bit W s p v) done_table ∙ table_at W (left_above u) t₀ p v l h ∙ left_yet u p v a
 
     -- as many as there can be are met: the rows left have none
-    pub rows_met : {total : ℕ} → n ≤ 64 * W → pairs_below W n t₀ ≤ total → g + k ≡ total → Bare W n t u n
+    rows_met : {total : ℕ} → n ≤ 64 * W → pairs_below W n t₀ ≤ total → g + k ≡ total → Bare W n t u n
     unfolding pairs_below
     rows_met m few e = record {
       after = i.within;
@@ -175,6 +176,9 @@ module _ (W : ℕ) (far : ℕ → ℕ → ℕ) (D : ℕ) (t₀ : List ℕ) where
         same p v h (inr c) (inl d) =
             left_yet u p v c ∙ bare p v c d h ∙ sym (left_done q p v d ∙ ap (λ (y : Bool). y && not (ltb (far p v) D)) (bare p v c d h))
         same p v h (inr c) (inr d) = left_yet u p v c ∙ sym (left_yet q p v d)
+
+    pub rows_all : {total : ℕ} → n ≤ 64 * W → pairs_below W n t₀ ≤ total → g + k ≡ total → RowsDropping n t g k w n
+    rows_all m few e = rows_bare m (rows_met m few e)
 
     -- one row more, of which `drop_row` says what it says
     module _ (m : n ≤ 64 * W) (below : u < n) {t' : List ℕ} {g' k' d : ℕ} (r : rows_dropped t' g' k' d ≡ drop_row_of W far D u t) where
@@ -240,9 +244,8 @@ module _ (W : ℕ) (far : ℕ → ℕ → ℕ) (D : ℕ) (t₀ : List ℕ) where
     rows_end z = i.is ∙ ap (λ (j : ℕ). drop_rows_of W far D j t₀) (omega (arith, i.within))
 
   -- ALL ROWS are the table: `drop_stale` is `drop_rows` over 64 W
-  pub all_rows : {t : List ℕ} {g k w : ℕ} → rows_dropped t g k w ≡ drop_rows_of W far D (64 * W) t₀ → dropped (tally t k) w ≡ drop_of W far D t₀
+  pub all_rows : drop_of W far D t₀ ≡ (drop_rows_of W far D (64 * W) t₀).left
   unfolding drop_rows_of drop_of tally_of shrunk_candidate count_pairs row_stays row_way
-  all_rows q =
-      ap (λ (x : RowsDropped). x.left) q
-      ∙ ap (λ (e : List ℕ). dropped (tally (overwrite e t₀) (count_pairs (range (64 * W)) (staying_pairs far D P₀))) (shrunk_candidate (range (64 * W)) far D P₀))
-      (encode_table_ext W (left_above (64 * W)) (staying_pairs far D P₀) (λ p v a b. left_done (64 * W) p v a))
+  all_rows =
+      ap (λ (e : List ℕ). dropped (tally (overwrite e t₀) (count_pairs (range (64 * W)) (staying_pairs far D P₀))) (shrunk_candidate (range (64 * W)) far D P₀))
+      (sym (encode_table_ext W (left_above (64 * W)) (staying_pairs far D P₀) (λ p v a b. left_done (64 * W) p v a)))

@@ -1,6 +1,6 @@
 -- STALE PAIRS, over lists of words, for any number of words per row: which stored pairs stay after a search, and what the code's steps do to the
 -- table. Assumes nothing.
-use Rattle.std.specs.Prelude.{◌≡◌, Bool, true, false, cond, not, ◌&&◌, List, ℕ, ◌+◌, ◌*◌, ◌≤◌, ◌<◌, min, eqb, ltb, length, get_or, Option, Some, None}
+use Rattle.std.specs.Prelude.{◌≡◌, Bool, false, cond, not, ◌&&◌, List, ℕ, ◌+◌, ◌*◌, ◌≤◌, ◌<◌, min, eqb, ltb, length, get_or, Option, Some, None}
 use Rattle.std.specs.Borrow.{Bor}
 use Rattle.lists.specs.Lists.{range, countb, sum_of, max_of, overwrite}
 use Rattle.words.specs.Bits.{bit, word_of}

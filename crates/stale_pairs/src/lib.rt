@@ -56,6 +56,7 @@ pub struct Sifted {
 }
 
 // Takes the stale members out of x, whose bit b stands for the pair of u and first + b: those whose way is below chain.
+#[tactic(auto, using(crate::proofs::Sifting::sift_few, crate::proofs::Sifting::sift_end))]
 fn sift(hops: &[u16], x: u64, u: usize, first: usize, chain: u16) -> Sifted
     requires { (u < length hops.now) × (first + 64 ≤ length hops.now) }
     ensures { let way = way_by hops.now in
@@ -97,6 +98,7 @@ fn way_by_either(near: &[u16], far: &[u16], u: usize, v: usize, chain: u16) -> u
 }
 
 // `sift` by two searches. A loop of its own, so that the one over one table has no test more.
+#[tactic(auto, using(crate::proofs::Sifting::sift_few, crate::proofs::Sifting::sift_end))]
 fn sift_either(near: &[u16], far: &[u16], x: u64, u: usize, first: usize, chain: u16) -> Sifted
     requires { (u < length near.now)
         × (first + 64 ≤ length near.now)
@@ -134,6 +136,7 @@ fn sift_either(near: &[u16], far: &[u16], x: u64, u: usize, first: usize, chain:
 // ---- rows
 
 // Drops the stale pairs of row u, a word at a time. Words without a pair are passed: most of a row has none.
+#[tactic(auto, using(crate::proofs::Sifting::word_few, crate::proofs::StaleRow::row_few, crate::proofs::StaleRow::row_end))]
 fn drop_row(pairs: &mut [u64], hops: &[u16], words: usize, u: usize, chain: u16) -> RowsDropping
     requires { HasHops words pairs.old hops.now × (u < 64 * words) }
     ensures { let way = way_by hops.now in
@@ -162,6 +165,7 @@ fn drop_row(pairs: &mut [u64], hops: &[u16], words: usize, u: usize, chain: u16)
 }
 
 // `drop_row` by two searches.
+#[tactic(auto, using(crate::proofs::Sifting::word_few, crate::proofs::StaleRow::row_few, crate::proofs::StaleRow::row_end))]
 fn drop_row_either(
     pairs: &mut [u64],
     near: &[u16],
@@ -217,6 +221,7 @@ fn drop_row_by(
 }
 
 // Where the rows from u on that have no pair end, as far as whole groups of 8 tell: two groups a turn, while there are two.
+#[tactic(auto, using(crate::proofs::BareRows::group_inside))]
 fn bare_groups(pairs: &[u64], words: usize, rows: usize, u: usize) -> usize
     requires { (words < 513) × (words * (64 * words) ≤ length pairs.now) × (rows ≤ 64 * words) × (u ≤ rows) }
     ensures { Bare words rows pairs.now u result }
@@ -237,6 +242,7 @@ fn bare_groups(pairs: &[u64], words: usize, rows: usize, u: usize) -> usize
 }
 
 // The next row from u on that has a pair, all rows where none has: most have none, and so most are passed 8 at a time.
+#[tactic(auto, using(crate::proofs::BareRows::row_inside))]
 fn next_row(pairs: &[u64], words: usize, rows: usize, u: usize) -> usize
     requires { (words < 513) × (words * (64 * words) ≤ length pairs.now) × (rows ≤ 64 * words) × (u ≤ rows) }
     ensures { Bare words rows pairs.now u result }
@@ -251,6 +257,7 @@ fn next_row(pairs: &[u64], words: usize, rows: usize, u: usize) -> usize
 
 // Drops the stale pairs of the first rows in place, a row after the other: those rows have their pairs that stay, the others are as they were, and
 // the pairs gone so far are counted. No more than `total` pairs stand in them, so that no row is looked at behind the last of these.
+#[tactic(auto, using(crate::proofs::StaleTable::drop_rows_few, crate::proofs::StaleTable::drop_row_few, crate::proofs::StaleTable::rows_end))]
 pub fn drop_rows(
     pairs: &mut [u64],
     near: &[u16],
@@ -292,6 +299,7 @@ pub fn drop_rows(
 
 // Drops the stale pairs of the table in place, of which it has no more than `total`, and answers what is left of them and the greatest way that was
 // there.
+#[tactic(auto, using(crate::proofs::StaleTable::below_all, crate::proofs::StaleTable::all_rows))]
 pub fn drop_stale(pairs: &mut [u64], hops: &[u16], words: usize, chain: u16, total: u32) -> Dropping
     requires { HasHops words pairs.old hops.now
         × (count_pairs (range (64 * words)) (table_bit words pairs.old) ≤ total) }
@@ -306,6 +314,7 @@ pub fn drop_stale(pairs: &mut [u64], hops: &[u16], words: usize, chain: u16, tot
 
 // `drop_stale` by two searches: a pair is stale that either shows to be nearer than the chain. (One function for both would be told the second search and
 // the number of pairs by an Option each, and be no shorter.)
+#[tactic(auto, using(crate::proofs::StaleTable::below_few, crate::proofs::StaleTable::all_rows))]
 pub fn drop_stale_either(
     pairs: &mut [u64],
     near: &[u16],
