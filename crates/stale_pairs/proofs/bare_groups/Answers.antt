@@ -15,4 +15,6 @@ pub returns-then-not-all_zero-2 : goal.returns-then-not-all_zero-2
 returns-then-not-all_zero-2 c = one-group (goal.at.returns-then-not-all_zero-2 c).Else-not-all_zero
 
 pub loop-p-preserved : goal.loop-p-preserved
-loop-p-preserved c = group_bare _ _ _ _ (one-group (goal.at.loop-p-preserved c).Else-not-all_zero) c.requires.2 (omega arith) c.all_zero-in-loop-p.ensures c.if-not-all_zero-2.false
+loop-p-preserved c =
+    let one = one-group (goal.at.loop-p-preserved c).Else-not-all_zero in
+    group_bare _ _ _ _ one c.requires.2 (omega arith) c.all_zero-in-loop-p.ensures c.if-not-all_zero-2.false
