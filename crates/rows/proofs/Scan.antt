@@ -12,10 +12,11 @@ use Rattle.std.specs.Bool.{MatchBool}
 use Rattle.std.specs.List.{AllWithin, HoldsAt}
 use Rattle.lists.specs.Lists.{range, countb, anyb}
 use Rattle.lists.proofs.Tests.{clash, lt_or_ge}
-use Rattle.lists.proofs.Members.{range_in, range_out, any_intro, any_none}
+use Rattle.lists.proofs.Members.{length-range, range_in, range_out, any_intro, any_none}
 use Rattle.words.specs.Bits.{bit}
 use Rattle.words.specs.Least.{IsLeast}
 use Rattle.words.proofs.Bits.{bit_of_zero, bit_past, bit_shr}
+use Rattle.lists.proofs.Counts.{count_le_length}
 use Rattle.lists.proofs.RangeCounts.{count_same, count_split}
 use Rattle.words.proofs.Lowest.{least_is}
 use Rattle.rows.specs.Rows.{row_bit, table_bit}
@@ -23,6 +24,10 @@ use Rattle.rows.specs.Next.{IsNext}
 use Rattle.rows.proofs.Written.{row_word, row_past, table_word}
 
 -- ---- the members counted: one more word
+
+-- no more pass a test than are looked at
+pub count_few : (p : ℕ → Bool) (n : ℕ) → countb p (range n) ≤ n
+count_few p n = omega (arith, count_le_length p (range n), length-range n)
 
 pub count_word : (W : ℕ) (t : List ℕ) (u j : ℕ) → u < 64 * W → j < W
     → countb (table_bit W t u) (range (64 * (j + 1))) ≡ countb (table_bit W t u) (range (64 * j)) + countb (bit (get_or t (W * u + j) 0)) (range 64)

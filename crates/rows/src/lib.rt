@@ -12,6 +12,7 @@ ghost use Rattle.rows.specs.Next.{NextIs};
 // ---- one bit of a table
 
 // Whether v is a member of row u.
+#[tactic(auto, using(crate::proofs::Written::table_in))]
 pub fn row_test(t: &[u64], words: usize, u: usize, v: usize) -> bool
     requires { InTable words t.now u v }
     ensures { result ≡ table_bit words t.now u v }
@@ -20,6 +21,7 @@ pub fn row_test(t: &[u64], words: usize, u: usize, v: usize) -> bool
 }
 
 // Puts v into row u.
+#[tactic(auto, using(crate::proofs::Puts::put_with), unfolding(crate::specs::Rows::put_bit))]
 pub fn row_set(t: &mut [u64], words: usize, u: usize, v: usize)
     requires { InTable words t.old u v }
     ensures { t.new ≡ put_bit words u v true t.old }
@@ -32,6 +34,7 @@ pub fn row_set(t: &mut [u64], words: usize, u: usize, v: usize)
 // ---- the members of a row
 
 // How many members row u of a table has. The bound on words keeps the sum in a usize.
+#[tactic(auto, using(crate::proofs::Scan::count_word, crate::proofs::Scan::count_few, lists::proofs::Ranges::count_nothing))]
 pub fn degree(t: &[u64], words: usize, u: usize) -> usize
     requires { (words * u + words ≤ length t.now) × (u < 64 * words) × (words < 2 ^ 32) }
     ensures { result ≡ countb (table_bit words t.now u) (range (64 * words)) }
@@ -45,6 +48,7 @@ pub fn degree(t: &[u64], words: usize, u: usize) -> usize
 }
 
 // The least member of a row that is at or past from. The bound on words keeps its number in a usize.
+#[tactic(auto, using(crate::proofs::Scan::passed_all, crate::proofs::Written::row_past))]
 pub fn next_member(row: &[u64], words: usize, from: usize) -> Option<usize>
     requires { (words ≤ length row.now) × (words < 2 ^ 32) }
     ensures { NextIs words row.now from result }
@@ -87,6 +91,7 @@ pub fn clear(row: &mut [u64], words: usize)
 // ---- words of a table
 
 // Whether n words from base on are all 0: one union and one test, without a branch at each word.
+#[tactic(auto, using(crate::proofs::Zeros::union_part))]
 pub fn all_zero(t: &[u64], base: usize, n: usize) -> bool
     requires { base + n ≤ length t.now }
     ensures { result ≡ allb (λ i. eqb (get_or t.now (base + i) 0) 0) (range n) }
@@ -103,6 +108,7 @@ fn clear_part(t: &mut [u64], base: usize, n: usize)
 }
 
 // Makes a table 0, by groups of 64 words: a group that is 0 already is only read, as most of a pair table is.
+#[tactic(auto, using(crate::proofs::Turns::turn_none))]
 pub fn clear_table(t: &mut [u64], words: usize)
     requires { words * (64 * words) ≤ length t.old }
     ensures { t.new ≡ overwrite (encode_row (words * (64 * words)) (λ v. false)) t.old }

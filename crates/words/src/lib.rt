@@ -8,6 +8,7 @@ ghost use Rattle.words.specs.Bits.{bit, word_of};
 ghost use Rattle.words.specs.Least.{IsLeast, WithoutLeast};
 
 // Whether bit b of w is set.
+#[tactic(auto, using(crate::proofs::Digits::and_one), unfolding(crate::specs::Bits::bit, crate::proofs::Digits::digit))]
 pub fn test(w: u64, b: usize) -> bool
     requires { b < 64 }
     ensures { result ≡ bit w b }
@@ -32,6 +33,7 @@ pub fn without_bit(w: u64, b: usize) -> u64
 }
 
 // How many bits of w are set.
+#[tactic(auto, using(crate::proofs::Counts::ones_count))]
 pub fn count(w: u64) -> u32
     ensures { result ≡ countb (bit w) (range 64) }
 {
@@ -39,6 +41,7 @@ pub fn count(w: u64) -> u32
 }
 
 // The least set bit of a word that has one.
+#[tactic(auto, using(crate::proofs::Lowest::least_is))]
 pub fn least(w: u64) -> usize
     requires { 0 < w }
     ensures { IsLeast w result }
@@ -47,6 +50,7 @@ pub fn least(w: u64) -> usize
 }
 
 // The word w without its least set bit.
+#[tactic(auto, using(crate::proofs::Lowest::drop_is))]
 pub fn drop_least(w: u64) -> u64
     requires { 0 < w }
     ensures { WithoutLeast w result }

@@ -1,6 +1,6 @@
 -- `pairs::settle` meets its contract: where the eccentricity is above the candidate the old pairs go first, where it is the candidate r's own come to them.
 use Rattle.pairs.proofs.Tallies.{holds_counted}
-use Rattle.pairs.proofs.Settling.{clear_holds, settle_above, settle_equal, settle_zero, settle_below}
+use Rattle.pairs.proofs.Settling.{clear_holds, settle_above, settle_equal}
 use Rattle.pairs.proofs.settle.Goals as goal
 
 pub add_pairs-requires : goal.add_pairs-requires
@@ -11,9 +11,3 @@ returns-then-c-e c = search (clear_holds, settle_above)
 
 pub returns-then-e-ne0 : goal.returns-then-e-ne0
 returns-then-e-ne0 c = search settle_equal
-
-pub returns-then-e-c : goal.returns-then-e-c
-returns-then-e-c c = search settle_zero
-
-pub returns : goal.returns
-returns c = search settle_below

@@ -6,9 +6,7 @@ use Prim.Native.Nat.{ℕ, ◌+◌, ◌*◌}
 use native.Mathlib.Omega.{arith}
 use borrow.Author.Rules.{rules}
 use Rattle.lists.specs.Lists.{overwrite}
-use Rattle.lists.proofs.Tests.{test_passed}
 use Rattle.rows.specs.Rows.{encode_row, Zeroed}
-use Rattle.rows.proofs.Turns.{turn_none}
 use Rattle.rows.proofs.Zeros.{cleared_part, zeroed_already}
 use Rattle.rows.proofs.clear_table.Goals as goal
 use Rattle.rows.proofs.clear_table.Goals.{Joined-not-all_zero, then-not-all_zero, else-not-all_zero}
@@ -19,7 +17,7 @@ group c =
     elim c.if-not-all_zero.branch [
       | then-not-all_zero w ↦ subst (λ (l : List ℕ). Zeroed (64 * c.loop-g.g) 64 c.loop-g.t l) (sym w.t-is) w.clear_part.ensures
       | else-not-all_zero w ↦ subst (λ (l : List ℕ). Zeroed (64 * c.loop-g.g) 64 c.loop-g.t l) (sym w.t-is)
-          (zeroed_already _ _ _ (test_passed c.all_zero.ensures w.if-not-all_zero.false-raw))
+          (zeroed_already _ _ _ (sym c.all_zero.ensures ∙ w.if-not-all_zero.false))
     ]
 
 pub loop-g-preserved : goal.loop-g-preserved
@@ -30,12 +28,3 @@ loop-g-preserved c =
       (group c).size ∙ l.invariant.1,
       cleared_part _ _ _ _ _ l.invariant.2 (omega arith) (group c) ∙ ap (λ (k : ℕ). overwrite (encode_row k (λ v. false)) c.args.t.now) e,
     )
-
-pub returns : goal.returns
-returns c =
-    let l = c.loop-g in
-    let e : 64 * l.g ≡ c.args.words * (64 * c.args.words) = omega arith in
-    rw e at l.invariant.2
-
-pub loop-g-init : goal.loop-g-init
-loop-g-init c = search (turn_none, rules)
