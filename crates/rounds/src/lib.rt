@@ -10,7 +10,7 @@ ghost use Rattle.targets.specs.Reach.{reached};
 ghost use Rattle.rounds.specs.Workspace.{reach_in, absorbed, absorbing, holding, round_of, run_of, rounds_begun, rounds_begin_of};
 ghost use Rattle.map.specs.Slices.{tables_in, IsSameRoom};
 ghost use Rattle.bounds.specs.Slices.{marks_in, MarksFit, IsSameMarks};
-ghost use Rattle.rounds.specs.Slices.{workspace_in, MarksFitIn, RoomFits, IsSameDesk, said_of, FinishedFits};
+ghost use Rattle.rounds.specs.Slices.{workspace_in, MarksFitIn, RoomFits, IsSameDesk, said_of};
 
 mod plan;
 
@@ -93,11 +93,10 @@ pub struct RoundFigures {
 
 // ---- a finished search
 
-// What a finished search says of its start. Its hop table comes beside it: of one that a room lends nothing is known any more once it has stood in a
-// second struct, and the rounds go on in that room.
+// What a finished search says of its start. The start stands beside it, since behind a struct the compiler no longer knows how small it is (1 % more
+// instructions); and so does the hop table: of one that a room lends nothing is known any more once it has stood in a second struct.
 #[derive(Clone, Copy)]
 pub struct Finished<'a> {
-    pub code: usize,
     pub span: Span,
     pub partners: &'a [u64],
 }
@@ -110,6 +109,7 @@ fn take_in(
     marks: &mut Marks<'_>,
     words: usize,
     mark: u16,
+    r: usize,
     found: Finished<'_>,
     candidate: u16,
     count: u32,
@@ -118,17 +118,16 @@ fn take_in(
     requires { Counted words pairs.old count
         × MarksFit words marks.old
         × (64 * words ≤ length hops.now)
-        × FinishedFits words found }
+        × (r < 64 * words)
+        × (words ≤ length found.partners.now) }
     ensures same { IsSameMarks marks.old marks.new }
-    ensures settled { let f = found.entry in
-        let R = said_of f in
-        tally pairs.new result ≡ settle_of words R.partners f.code R.own candidate (tally pairs.old count) }
-    ensures marked { let f = found.entry in
-        let left = leave_of words f.code f.span.ecc mark (marks_in words marks.old) in
-        marks_in words marks.new ≡ relax_of words hops.now f.code f.span.ecc limit left }
+    ensures settled { let R = said_of found.entry in
+        tally pairs.new result ≡ settle_of words R.partners r R.own candidate (tally pairs.old count) }
+    ensures marked { let R = said_of found.entry in
+        let left = leave_of words r R.ecc mark (marks_in words marks.old) in
+        marks_in words marks.new ≡ relax_of words hops.now r R.ecc limit left }
     ensures thinned { AreThinned words marks.old.ranks.now marks.new.ranks.now }
 {
-    let r = found.code;
     let span = found.span;
     let sum = pairs::settle(pairs, found.partners, words, r, span.own, candidate, count);
     bounds::leave(marks, words, r, span.ecc, mark);
@@ -143,6 +142,7 @@ pub fn absorb(
     marks: &mut Marks<'_>,
     words: usize,
     mark: u16,
+    r: usize,
     found: Finished<'_>,
     candidate: u16,
     count: u32,
@@ -150,17 +150,20 @@ pub fn absorb(
     requires { Counted words pairs.old count
         × MarksFit words marks.old
         × (64 * words ≤ length hops.now)
-        × FinishedFits words found }
+        × (r < 64 * words)
+        × (words ≤ length found.partners.now) }
     ensures same { IsSameMarks marks.old marks.new }
-    ensures taken { let f = found.entry in
+    ensures taken { let h = hops.now in
         let before = absorbed (tally pairs.old count) (marks_in words marks.old) candidate in
         let after = absorbed (tally pairs.new result.count) (marks_in words marks.new) result.candidate in
-        after ≡ absorbing words mark f.code (said_of f) hops.now before }
+        after ≡ absorbing words mark r (said_of found.entry) h before }
     ensures counted { Counted words pairs.new result.count }
     ensures thinned { AreThinned words marks.old.ranks.now marks.new.ranks.now }
 {
     let c = raise(candidate, found.span.own);
-    let sum = take_in(pairs, hops, marks, words, mark, found, candidate, count, c);
+    let sum = take_in(
+        pairs, hops, marks, words, mark, r, found, candidate, count, c,
+    );
     RoundFigures {
         candidate: c,
         count: sum,
@@ -175,6 +178,7 @@ pub fn hold(
     marks: &mut Marks<'_>,
     words: usize,
     mark: u16,
+    r: usize,
     found: Finished<'_>,
     candidate: u16,
     count: u32,
@@ -182,16 +186,19 @@ pub fn hold(
     requires { Counted words pairs.old count
         × MarksFit words marks.old
         × (64 * words ≤ length hops.now)
-        × FinishedFits words found }
+        × (r < 64 * words)
+        × (words ≤ length found.partners.now) }
     ensures same { IsSameMarks marks.old marks.new }
-    ensures taken { let f = found.entry in
+    ensures taken { let h = hops.now in
         let before = absorbed (tally pairs.old count) (marks_in words marks.old) candidate in
         let after = absorbed (tally pairs.new result.count) (marks_in words marks.new) result.candidate in
-        after ≡ holding words mark f.code (said_of f) hops.now before }
+        after ≡ holding words mark r (said_of found.entry) h before }
     ensures counted { Counted words pairs.new result.count }
     ensures thinned { AreThinned words marks.old.ranks.now marks.new.ranks.now }
 {
-    let sum = take_in(pairs, hops, marks, words, mark, found, candidate, count, 0);
+    let sum = take_in(
+        pairs, hops, marks, words, mark, r, found, candidate, count, 0,
+    );
     RoundFigures {
         candidate: raise(candidate, found.span.own),
         count: sum,
@@ -238,7 +245,6 @@ fn round(
     let depth = layers::search_table(links, &mut scratch, desk.seen, desk.next, words, r);
     let span = reach_by(targets, &scratch, partners, words, r, depth);
     let found = Finished {
-        code: r,
         span,
         partners: &*partners,
     };
@@ -248,6 +254,7 @@ fn round(
         &mut marks,
         words,
         mark,
+        r,
         found,
         before.candidate,
         before.count,
