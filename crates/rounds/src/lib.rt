@@ -3,7 +3,7 @@
 #![tactic(auto)]
 
 ghost use Rattle.std.specs.Prelude.{◌≡◌, cond, ◌+◌, ◌*◌, ◌^◌, ◌<◌, ◌≤◌, ltb, length};
-ghost use Rattle.pairs.specs.Pairs.{tally, settle_of, Counted};
+ghost use Rattle.pairs.specs.Pairs.{tally, Counted};
 ghost use Rattle.bounds.specs.Bounds.{leave_of, relax_of};
 ghost use Rattle.ranks.specs.Ranks.{AreRanks, AreThinned, PickIs};
 ghost use Rattle.targets.specs.Reach.{reached};
@@ -33,6 +33,7 @@ pub struct Desk<'a> {
 // ---- one round
 
 // What a search from r to this depth says of it: how far the targets lie, and its partners. The last layer stands in the row of the depth's parity.
+#[tactic(auto, using(crate::proofs::Reaching::reach_even, crate::proofs::Reaching::reach_odd))]
 pub fn reach_by(
     targets: &[u64],
     scratch: &Scratch<'_>,
@@ -74,6 +75,7 @@ pub fn reach_by(
 }
 
 // The candidate after a search whose own eccentricity is e: by the test of the definition, so that no law of `max` is needed.
+#[tactic(auto, using(std::proofs::lemmas::Bool::Decides::nat_tests))]
 fn raise(candidate: u16, e: u16) -> u16
     ensures { result ≡ cond (ltb candidate e) e candidate }
 {
@@ -101,41 +103,29 @@ pub struct Finished<'a> {
     pub partners: &'a [u64],
 }
 
-// Takes in a finished search, but for the candidate: pairs by what is its own; then its start leaves the remaining; then their bounds, by its
-// eccentricity; then those below the limit are skipped. Answers the number of pairs.
-fn take_in(
-    pairs: &mut [u64],
+// What a search from r with the eccentricity e does to the marks: r leaves the remaining; then their bounds, and those below the limit are skipped.
+#[tactic(auto, using(ranks::proofs::Ranks::thinned_twice))]
+fn spread(
     hops: &[u16],
     marks: &mut Marks<'_>,
     words: usize,
     mark: u16,
     r: usize,
-    found: Finished<'_>,
-    candidate: u16,
-    count: u32,
+    e: u16,
     limit: u16,
-) -> u32
-    requires { Counted words pairs.old count
-        × MarksFit words marks.old
-        × (64 * words ≤ length hops.now)
-        × (r < 64 * words)
-        × (words ≤ length found.partners.now) }
+)
+    requires { MarksFit words marks.old × (64 * words ≤ length hops.now) × (r < 64 * words) }
     ensures same { IsSameMarks marks.old marks.new }
-    ensures settled { let R = said_of found.entry in
-        tally pairs.new result ≡ settle_of words R.partners r R.own candidate (tally pairs.old count) }
-    ensures marked { let R = said_of found.entry in
-        let left = leave_of words r R.ecc mark (marks_in words marks.old) in
-        marks_in words marks.new ≡ relax_of words hops.now r R.ecc limit left }
+    ensures marked { let left = leave_of words r e mark (marks_in words marks.old) in
+        marks_in words marks.new ≡ relax_of words hops.now r e limit left }
     ensures thinned { AreThinned words marks.old.ranks.now marks.new.ranks.now }
 {
-    let span = found.span;
-    let sum = pairs::settle(pairs, found.partners, words, r, span.own, candidate, count);
-    bounds::leave(marks, words, r, span.ecc, mark);
-    bounds::relax(hops, marks, words, r as u16, span.ecc, limit);
-    sum
+    bounds::leave(marks, words, r, e, mark);
+    bounds::relax(hops, marks, words, r as u16, e, limit);
 }
 
-// Takes in a finished search: the candidate is raised by what is its own, and then depots are skipped by that.
+// Takes in a finished search from r: candidate and pairs by what is its own, marks by its eccentricity; then depots are skipped by the candidate.
+#[tactic(auto, using(crate::proofs::Turns::taken))]
 pub fn absorb(
     pairs: &mut [u64],
     hops: &[u16],
@@ -160,10 +150,10 @@ pub fn absorb(
     ensures counted { Counted words pairs.new result.count }
     ensures thinned { AreThinned words marks.old.ranks.now marks.new.ranks.now }
 {
-    let c = raise(candidate, found.span.own);
-    let sum = take_in(
-        pairs, hops, marks, words, mark, r, found, candidate, count, c,
-    );
+    let own = found.span.own;
+    let sum = pairs::settle(pairs, found.partners, words, r, own, candidate, count);
+    let c = raise(candidate, own);
+    spread(hops, marks, words, mark, r, found.span.ecc, c);
     RoundFigures {
         candidate: c,
         count: sum,
@@ -172,6 +162,7 @@ pub fn absorb(
 }
 
 // The same, but nobody is skipped yet: no bound lies below 0.
+#[tactic(auto, using(crate::proofs::Turns::taken))]
 pub fn hold(
     pairs: &mut [u64],
     hops: &[u16],
@@ -196,11 +187,11 @@ pub fn hold(
     ensures counted { Counted words pairs.new result.count }
     ensures thinned { AreThinned words marks.old.ranks.now marks.new.ranks.now }
 {
-    let sum = take_in(
-        pairs, hops, marks, words, mark, r, found, candidate, count, 0,
-    );
+    let own = found.span.own;
+    let sum = pairs::settle(pairs, found.partners, words, r, own, candidate, count);
+    spread(hops, marks, words, mark, r, found.span.ecc, 0);
     RoundFigures {
-        candidate: raise(candidate, found.span.own),
+        candidate: raise(candidate, own),
         count: sum,
         searches: 0,
     }
@@ -306,6 +297,7 @@ pub fn run_rounds(
 }
 
 // The start of rounds: no pair, no bound, no mark, every open depot remaining.
+#[tactic(auto, using(crate::proofs::Turns::beginning))]
 pub fn begin(
     members: &[u64],
     links: &[u64],
