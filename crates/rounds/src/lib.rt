@@ -10,7 +10,7 @@ ghost use Rattle.targets.specs.Reach.{reached};
 ghost use Rattle.rounds.specs.Workspace.{reach_in, absorbed, absorbing, holding, round_of, run_of, rounds_begun, rounds_begin_of};
 ghost use Rattle.map.specs.Slices.{tables_in, IsSameRoom};
 ghost use Rattle.bounds.specs.Slices.{marks_in, MarksFit, IsSameMarks};
-ghost use Rattle.rounds.specs.Slices.{workspace_in, MarksFitIn, RoomFits, IsSameDesk, said_of};
+ghost use Rattle.rounds.specs.Slices.{workspace_in, MarksFitIn, RoomFits, IsSameDesk, said_of, limit_in};
 
 mod plan;
 
@@ -103,6 +103,16 @@ pub struct Finished<'a> {
     pub partners: &'a [u64],
 }
 
+// Below which bound a depot is skipped: the limit, or 0, below which no bound lies.
+fn least_kept(limit: Option<u16>) -> u16
+    ensures { result ≡ limit_in limit }
+{
+    match limit {
+        Some(c) => c,
+        None => 0,
+    }
+}
+
 // What a search from r with the eccentricity e does to the marks: r leaves the remaining; then their bounds, and those below the limit are skipped.
 #[tactic(auto, using(ranks::proofs::Ranks::thinned_twice))]
 fn spread(
@@ -112,16 +122,16 @@ fn spread(
     mark: u16,
     r: usize,
     e: u16,
-    limit: u16,
+    limit: Option<u16>,
 )
     requires { MarksFit words marks.old × (64 * words ≤ length hops.now) × (r < 64 * words) }
     ensures same { IsSameMarks marks.old marks.new }
     ensures marked { let left = leave_of words r e mark (marks_in words marks.old) in
-        marks_in words marks.new ≡ relax_of words hops.now r e limit left }
+        marks_in words marks.new ≡ relax_of words hops.now r e (limit_in limit) left }
     ensures thinned { AreThinned words marks.old.ranks.now marks.new.ranks.now }
 {
     bounds::leave(marks, words, r, e, mark);
-    bounds::relax(hops, marks, words, r as u16, e, limit);
+    bounds::relax(hops, marks, words, r as u16, e, least_kept(limit));
 }
 
 // Takes in a finished search from r: candidate and pairs by what is its own, marks by its eccentricity; then depots are skipped by the candidate.
@@ -153,7 +163,7 @@ pub fn absorb(
     let own = found.span.own;
     let sum = pairs::settle(pairs, found.partners, words, r, own, candidate, count);
     let c = raise(candidate, own);
-    spread(hops, marks, words, mark, r, found.span.ecc, c);
+    spread(hops, marks, words, mark, r, found.span.ecc, Some(c));
     RoundFigures {
         candidate: c,
         count: sum,
@@ -161,7 +171,7 @@ pub fn absorb(
     }
 }
 
-// The same, but nobody is skipped yet: no bound lies below 0.
+// The same, but nobody is skipped yet.
 #[tactic(auto, using(crate::proofs::Turns::taken))]
 pub fn hold(
     pairs: &mut [u64],
@@ -189,7 +199,7 @@ pub fn hold(
 {
     let own = found.span.own;
     let sum = pairs::settle(pairs, found.partners, words, r, own, candidate, count);
-    spread(hops, marks, words, mark, r, found.span.ecc, 0);
+    spread(hops, marks, words, mark, r, found.span.ecc, None);
     RoundFigures {
         candidate: raise(candidate, own),
         count: sum,
