@@ -12,7 +12,7 @@ ghost use Rattle.map.specs.Memory.{base, places};
 ghost use Rattle.targets.specs.Reach.{reached};
 ghost use Rattle.pairs.specs.Pairs.{tally, Counted};
 ghost use Rattle.rounds.specs.Leaves.{ran, ran_by};
-ghost use Rattle.rounds.specs.Slices.{plan_network, said_of, FinishedFits};
+ghost use Rattle.rounds.specs.Slices.{plan_network, said_of};
 ghost use Rattle.map.specs.Slices.{lent_in, room_sizes, IsSameRoom};
 ghost use Rattle.insertion.specs.Figured.{figured, figured_by, IsFigurable};
 ghost use Rattle.bounds.specs.Once.{marking};
@@ -40,6 +40,7 @@ fn join(
     pairs: &mut [u64],
     bounds: &mut [u16],
     skips: &mut [u16],
+    a: usize,
     found: Finished<'_>,
     chain: u16,
     count: u32,
@@ -47,12 +48,12 @@ fn join(
     requires { Counted base.words pairs.old count
         × (places base ≤ length bounds.old)
         × (places base ≤ length skips.old)
-        × FinishedFits base.words found }
+        × (a < places base)
+        × (base.words ≤ length found.partners.now) }
     ensures { let before = joined (tally pairs.old count) (marking bounds.old skips.old) in
         let after = joined (tally pairs.new result) (marking bounds.new skips.new) in
-        after ≡ join_of base found.entry.code (said_of found.entry) chain before }
+        after ≡ join_of base a (said_of found.entry) chain before }
 {
-    let a = found.code;
     let span = found.span;
     let sum = pairs::settle(pairs, found.partners, map::WORDS, a, span.own, chain, count);
     bounds::mark_once(
@@ -107,7 +108,6 @@ fn shrink(
         map::OTHER,
     );
     let found = Finished {
-        code: a,
         span,
         partners: &*partners,
     };
@@ -117,6 +117,7 @@ fn shrink(
         &mut marks,
         map::WORDS,
         map::SEARCHED,
+        a,
         found,
         way,
         0,
@@ -172,7 +173,6 @@ fn settle_low(
     let left = stale_pairs::drop_stale(pairs, &*hops, map::WORDS, chain, count);
     if span.own == chain {
         let found = Finished {
-            code: a,
             span,
             partners: &*partners,
         };
@@ -180,6 +180,7 @@ fn settle_low(
             room.pairs,
             room.bounds,
             room.skips,
+            a,
             found,
             chain,
             left.count,
@@ -237,11 +238,10 @@ pub fn refigure(plan: Plan<'_>, room: &mut Room<'_>, a: usize, chain: u16, count
     let span = rounds::reach_by(plan.targets, &scratch, &mut partners, map::WORDS, a, depth);
     if chain < span.own {
         let found = Finished {
-            code: a,
             span,
             partners: &partners,
         };
-        let own = join(room.pairs, room.bounds, room.skips, found, chain, count);
+        let own = join(room.pairs, room.bounds, room.skips, a, found, chain, count);
         return Figures {
             change: Change::Grew,
             chain: span.own,

@@ -15,7 +15,7 @@ ghost use Rattle.ranks.specs.Ranks.{AreRanks};
 ghost use Rattle.bounds.specs.Slices.{marks_in, MarksFit, IsSameMarks};
 ghost use Rattle.rounds.specs.Leaves.{ran, ran_by};
 ghost use Rattle.rounds.specs.Workspace.{absorbed, rounds_begun};
-ghost use Rattle.rounds.specs.Slices.{plan_network, said_of, FinishedFits};
+ghost use Rattle.rounds.specs.Slices.{plan_network, said_of};
 ghost use Rattle.insertion.specs.Figured.{figured};
 ghost use Rattle.insertion.specs.Steps.{AreOpen};
 ghost use Rattle.relink.specs.Relinked.{relinked_by, IsRelinkable};
@@ -45,13 +45,14 @@ fn is_kept(count: u32, chain: u16) -> bool
 
 // ---- the chain shrank
 
-// The start of rounds with the candidate way, and the search from the lower end, whose hops stand in near, taken in. Nobody is skipped yet.
+// The start of rounds with the candidate way, and the search from low, whose hops stand in near, taken in. Nobody is skipped yet.
 fn take_low(
     plan: Plan<'_>,
     pairs: &mut [u64],
     marks: &mut Marks<'_>,
     near: &[u16],
-    low: Finished<'_>,
+    low: usize,
+    e: Finished<'_>,
     way: u16,
 ) -> RoundFigures
     requires { MarksFit base.words marks.old
@@ -59,12 +60,13 @@ fn take_low(
         × (table_words base ≤ length plan.links.now)
         × (table_words base ≤ length pairs.old)
         × (places base ≤ length near.now)
-        × FinishedFits base.words low }
+        × (low < places base)
+        × (base.words ≤ length e.partners.now) }
     ensures same { IsSameMarks marks.old marks.new }
-    ensures taken { let l = low.entry in
+    ensures taken { let N = near.now in
         let before = rounds_begun pairs.old (marks_in base.words marks.old) in
         let after = absorbed (tally pairs.new result.count) (marks_in base.words marks.new) result.candidate in
-        after ≡ low_taken base plan.entry.members.now near.now l.code (said_of l) way before }
+        after ≡ low_taken base plan.entry.members.now N low (said_of e.entry) way before }
     ensures counted { Counted base.words pairs.new result.count }
     ensures ranked { AreRanks base.words plan.entry.links.now marks.new.ranks.now }
 {
@@ -76,18 +78,30 @@ fn take_low(
         map::WORDS,
         map::OTHER,
     );
-    rounds::hold(pairs, near, marks, map::WORDS, map::SEARCHED, low, way, 0)
+    rounds::hold(
+        pairs,
+        near,
+        marks,
+        map::WORDS,
+        map::SEARCHED,
+        low,
+        e,
+        way,
+        0,
+    )
 }
 
-// Then the search from the higher end, whose hops stand in far; after it depots are skipped.
+// Then the search from high, whose hops stand in far; after it depots are skipped.
 fn take_both(
     plan: Plan<'_>,
     pairs: &mut [u64],
     marks: &mut Marks<'_>,
     near: &[u16],
-    low: Finished<'_>,
+    low: usize,
+    e: Finished<'_>,
     far: &[u16],
-    high: Finished<'_>,
+    high: usize,
+    f: Finished<'_>,
     way: u16,
 ) -> RoundFigures
     requires { MarksFit base.words marks.old
@@ -96,19 +110,22 @@ fn take_both(
         × (table_words base ≤ length pairs.old)
         × (places base ≤ length near.now)
         × (places base ≤ length far.now)
-        × FinishedFits base.words low
-        × FinishedFits base.words high }
+        × (low < places base)
+        × (high < places base)
+        × (base.words ≤ length e.partners.now)
+        × (base.words ≤ length f.partners.now) }
     ensures same { IsSameMarks marks.old marks.new }
-    ensures taken { let l = low.entry in
-        let h = high.entry in
+    ensures taken { let N = near.now in
+        let R = said_of e.entry in
+        let Q = said_of f.entry in
         let before = rounds_begun pairs.old (marks_in base.words marks.old) in
         let after = absorbed (tally pairs.new result.count) (marks_in base.words marks.new) result.candidate in
-        after ≡ both_taken base plan.entry.members.now near.now far.now l.code (said_of l) h.code (said_of h) way before }
+        after ≡ both_taken base plan.entry.members.now N far.now low R high Q way before }
     ensures counted { Counted base.words pairs.new result.count }
     ensures ranked { AreRanks base.words plan.entry.links.now marks.new.ranks.now }
     ensures searches { result.searches ≡ 2 }
 {
-    let first = take_low(plan, pairs, marks, near, low, way);
+    let first = take_low(plan, pairs, marks, near, low, e, way);
     let second = rounds::absorb(
         pairs,
         far,
@@ -116,6 +133,7 @@ fn take_both(
         map::WORDS,
         map::SEARCHED,
         high,
+        f,
         first.candidate,
         first.count,
     );
@@ -126,13 +144,14 @@ fn take_both(
     }
 }
 
-// Rounds with the candidate way, whose first two references are the searches from the lower end and from high. The tables of the second stand in the
-// room, and its partners in a row that the rounds then use.
+// Rounds with the candidate way, whose first two references are the searches from low and from high. The tables of the second stand in the room, and its
+// partners in a row that the rounds then use.
 fn shrink(
     plan: Plan<'_>,
     room: &mut Room<'_>,
     near: &[u16],
-    low: Finished<'_>,
+    low: usize,
+    e: Finished<'_>,
     fars: &mut [u64],
     high: usize,
     f: Span,
@@ -142,15 +161,16 @@ fn shrink(
         let Q = reached f.ecc f.own fars.old in
         AreLong base (room_sizes (length plan.links.now) room.old)
         × (places base ≤ length near.now)
-        × FinishedFits base.words low
+        × (base.words ≤ length e.partners.now)
         × (base.words ≤ length fars.old)
-        × StandBoth base G near.now (lent_in room.old).searched low.code (said_of low) high Q
+        × StandBoth base G near.now (lent_in room.old).searched low (said_of e) high Q
+        × (low < places base)
         × (high < places base) }
     ensures same { IsSameRoom room.old room.new }
     ensures left { let G = plan_network base.words plan.entry in
         let M = chart G in
         ran (lent_in room.new) result.candidate result.count result.searches
-        ≡ ran_by base G (rounds M (length M.depots) (first_two M low.entry.code high way)) (lent_in room.old) }
+        ≡ ran_by base G (rounds M (length M.depots) (first_two M low high way)) (lent_in room.old) }
 {
     let mut ranks = [0u16; map::PLACES];
     let mut seen = [0u64; map::WORDS];
@@ -163,11 +183,12 @@ fn shrink(
         ranks: &mut ranks,
     };
     let found = Finished {
-        code: high,
         span: f,
         partners: &*fars,
     };
-    let before = take_both(plan, pairs, &mut marks, near, low, &*hops, found, way);
+    let before = take_both(
+        plan, pairs, &mut marks, near, low, e, &*hops, high, found, way,
+    );
     let mut desk = Desk {
         seen: &mut seen,
         next: &mut next,
@@ -192,7 +213,8 @@ fn settle(
     plan: Plan<'_>,
     room: &mut Room<'_>,
     near: &[u16],
-    low: Finished<'_>,
+    low: usize,
+    e: Finished<'_>,
     fars: &mut [u64],
     high: usize,
     f: Span,
@@ -203,14 +225,15 @@ fn settle(
         AreLong base (room_sizes (length plan.links.now) room.old)
         × AreOpen base G room.old.pairs.now
         × (places base ≤ length near.now)
-        × FinishedFits base.words low
+        × (base.words ≤ length e.partners.now)
         × (base.words ≤ length fars.old)
-        × StandBoth base G near.now (lent_in room.old).searched low.code (said_of low) high Q
+        × StandBoth base G near.now (lent_in room.old).searched low (said_of e) high Q
+        × (low < places base)
         × (high < places base) }
     ensures same { IsSameRoom room.old room.new }
     ensures left { let G = plan_network base.words plan.entry in
         figured result.change (ran (lent_in room.new) result.chain result.count result.searches)
-        ≡ relinked_by base G low.entry.code high chain (lent_in room.old) }
+        ≡ relinked_by base G low high chain (lent_in room.old) }
 {
     let pairs = &mut *room.pairs;
     let hops = &mut *room.hops;
@@ -220,8 +243,8 @@ fn settle(
             room.bounds,
             room.skips,
             map::WORDS,
-            low.code,
-            low.span.ecc,
+            low,
+            e.span.ecc,
             high,
             f.ecc,
             map::SEARCHED,
@@ -234,7 +257,7 @@ fn settle(
             searches: 2,
         };
     }
-    let got = shrink(plan, room, near, low, fars, high, f, left.way);
+    let got = shrink(plan, room, near, low, e, fars, high, f, left.way);
     Figures {
         change: Change::Shrank,
         chain: got.candidate,
@@ -274,10 +297,9 @@ pub fn relink(plan: Plan<'_>, room: &mut Room<'_>, low: usize, high: usize, chai
     };
     let b = search::search_sound(plan.links, &mut lent, high);
     let f = rounds::reach_by(plan.targets, &lent, &mut fars, map::WORDS, high, b);
-    let lower = Finished {
-        code: low,
+    let found = Finished {
         span: e,
         partners: &nears,
     };
-    settle(plan, room, &near, lower, &mut fars, high, f, chain)
+    settle(plan, room, &near, low, found, &mut fars, high, f, chain)
 }

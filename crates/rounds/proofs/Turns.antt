@@ -28,6 +28,7 @@ use Rattle.pairs.specs.Pairs.{Tally, tally, tally_of, settle_of, Counted}
 use Rattle.pairs.proofs.Tallies.{holds_counted}
 use Rattle.bounds.specs.Bounds.{Marks, marks, leave_of, waiting_after, relax_of}
 use Rattle.ranks.specs.Ranks.{pick_in, waiting_of}
+use Rattle.ranks.proofs.Ranks.{ranked_row, ranked_all}
 use Rattle.rounds.specs.Workspace.{Workspace, workspace, last_row, reach_in, Absorbed, absorbed, absorbing, holding, absorb_of, round_of, or_end, run_of, RoundsBegun, rounds_begun, rounds_begin_of}
 use Rattle.rounds.proofs.Reaching.{reach_free}
 use Rattle.rounds.proofs.Finish.{cleared_table, count_no_pairs}
@@ -55,6 +56,8 @@ pub hold_is : (W mark r : ℕ) (R : Reached) (h : List ℕ) (A : Absorbed) (t : 
     → absorbed t m c ≡ holding W mark r R h A
 unfolding holding
 hold_is W mark r R h A t c m a b d = rw (d, a, b)
+
+pub ruleset taken = (absorb_is, hold_is, settle_counted)
 
 pub round_is_absorbed : (W : ℕ) (targets links : List ℕ) (mark r : ℕ) (M : Workspace) (d : ℕ) (T : Tables) (R : Reached) (row h : List ℕ) (t : Tally) (m : Marks) (c n : ℕ)
     → searched d T ≡ search_table W links r M.searched → R ≡ reach_in W targets r d T row
@@ -85,6 +88,8 @@ pub begin_is : (W other : ℕ) (members : List ℕ) (B : RoundsBegun) (pairs bou
     → waiting ≡ overwrite (encode_row W (row_bit W members)) B.marked.waiting → rounds_begun pairs (marks bounds skips waiting) ≡ rounds_begin_of W other members B
 unfolding rounds_begin_of
 begin_is W other members B pairs bounds skips waiting p b s w = rw (p, b, s, w) (ap (λ (l : List ℕ). rounds_begun l (rounds_begin_of W other members B).marked) (cleared_table W B.pairs))
+
+pub ruleset beginning = (begin_is, ranked_row, ranked_all)
 
 -- ---- the pairs stay counted
 

@@ -1,6 +1,6 @@
 -- WHAT IS LENT TO THE ROUNDS AS ONE VALUE, so that a contract names it once; what its sizes are; and that it lends the same tables after a call.
 -- Assumes nothing.
-use Rattle.std.specs.Prelude.{ℕ, List, ◌*◌, ◌≤◌, ◌<◌, length}
+use Rattle.std.specs.Prelude.{ℕ, List, Option, None, Some}
 use Rattle.graph.specs.Network.{Network}
 use Rattle.map.specs.Slices.{IsSameSlice}
 use Rattle.map.specs.Room.{tables}
@@ -46,10 +46,10 @@ pub record IsSameDesk (d e : Desk) : Type 0 where
 abbrev pub said_of : Finished → Reached
 said_of f = reached f.span.ecc f.span.own f.partners.now
 
--- its start is a code of W words, and its partners are a row
-pub record FinishedFits (W : ℕ) (f : Finished) : Type 0 where
-  pub inside : f.code < 64 * W
-  pub partners : W ≤ length f.partners.now
+-- below which bound a depot is skipped; without a limit none is
+abbrev pub limit_in : Option ℕ → ℕ
+limit_in None = 0
+limit_in (Some c) = c
 
 -- the network of a plan that is lent
 abbrev pub plan_network : ℕ → Plan → Network

@@ -3,14 +3,14 @@
 #![tactic(auto)]
 
 ghost use Rattle.std.specs.Prelude.{◌≡◌, cond, ◌+◌, ◌*◌, ◌^◌, ◌<◌, ◌≤◌, ltb, length};
-ghost use Rattle.pairs.specs.Pairs.{tally, settle_of, Counted};
+ghost use Rattle.pairs.specs.Pairs.{tally, Counted};
 ghost use Rattle.bounds.specs.Bounds.{leave_of, relax_of};
 ghost use Rattle.ranks.specs.Ranks.{AreRanks, AreThinned, PickIs};
 ghost use Rattle.targets.specs.Reach.{reached};
 ghost use Rattle.rounds.specs.Workspace.{reach_in, absorbed, absorbing, holding, round_of, run_of, rounds_begun, rounds_begin_of};
 ghost use Rattle.map.specs.Slices.{tables_in, IsSameRoom};
 ghost use Rattle.bounds.specs.Slices.{marks_in, MarksFit, IsSameMarks};
-ghost use Rattle.rounds.specs.Slices.{workspace_in, MarksFitIn, RoomFits, IsSameDesk, said_of, FinishedFits};
+ghost use Rattle.rounds.specs.Slices.{workspace_in, MarksFitIn, RoomFits, IsSameDesk, said_of, limit_in};
 
 mod plan;
 
@@ -33,6 +33,7 @@ pub struct Desk<'a> {
 // ---- one round
 
 // What a search from r to this depth says of it: how far the targets lie, and its partners. The last layer stands in the row of the depth's parity.
+#[tactic(auto, using(crate::proofs::Reaching::reach_even, crate::proofs::Reaching::reach_odd))]
 pub fn reach_by(
     targets: &[u64],
     scratch: &Scratch<'_>,
@@ -65,6 +66,7 @@ pub fn reach_by(
 }
 
 // The candidate after a search whose own eccentricity is e: by the test of the definition, so that no law of `max` is needed.
+#[tactic(auto, using(std::proofs::lemmas::Bool::Decides::nat_tests))]
 fn raise(candidate: u16, e: u16) -> u16
     ensures { result ≡ cond (ltb candidate e) e candidate }
 {
@@ -84,56 +86,54 @@ pub struct RoundFigures {
 
 // ---- a finished search
 
-// What a finished search says of its start. Its hop table comes beside it: of one that a room lends nothing is known any more once it has stood in a
-// second struct, and the rounds go on in that room.
+// What a finished search says of its start. The start stands beside it, since behind a struct the compiler no longer knows how small it is (1 % more
+// instructions); and so does the hop table: of one that a room lends nothing is known any more once it has stood in a second struct.
 #[derive(Clone, Copy)]
 pub struct Finished<'a> {
-    pub code: usize,
     pub span: Span,
     pub partners: &'a [u64],
 }
 
-// Takes in a finished search, but for the candidate: pairs by what is its own; then its start leaves the remaining; then their bounds, by its
-// eccentricity; then those below the limit are skipped. Answers the number of pairs.
-fn take_in(
-    pairs: &mut [u64],
+// Below which bound a depot is skipped: the limit, or 0, below which no bound lies.
+fn least_kept(limit: Option<u16>) -> u16
+    ensures { result ≡ limit_in limit }
+{
+    match limit {
+        Some(c) => c,
+        None => 0,
+    }
+}
+
+// What a search from r with the eccentricity e does to the marks: r leaves the remaining; then their bounds, and those below the limit are skipped.
+#[tactic(auto, using(ranks::proofs::Ranks::thinned_twice))]
+fn spread(
     hops: &[u16],
     marks: &mut Marks<'_>,
     words: usize,
     mark: u16,
-    found: Finished<'_>,
-    candidate: u16,
-    count: u32,
-    limit: u16,
-) -> u32
-    requires { Counted words pairs.old count
-        × MarksFit words marks.old
-        × (64 * words ≤ length hops.now)
-        × FinishedFits words found }
+    r: usize,
+    e: u16,
+    limit: Option<u16>,
+)
+    requires { MarksFit words marks.old × (64 * words ≤ length hops.now) × (r < 64 * words) }
     ensures same { IsSameMarks marks.old marks.new }
-    ensures settled { let f = found.entry in
-        let R = said_of f in
-        tally pairs.new result ≡ settle_of words R.partners f.code R.own candidate (tally pairs.old count) }
-    ensures marked { let f = found.entry in
-        let left = leave_of words f.code f.span.ecc mark (marks_in words marks.old) in
-        marks_in words marks.new ≡ relax_of words hops.now f.code f.span.ecc limit left }
+    ensures marked { let left = leave_of words r e mark (marks_in words marks.old) in
+        marks_in words marks.new ≡ relax_of words hops.now r e (limit_in limit) left }
     ensures thinned { AreThinned words marks.old.ranks.now marks.new.ranks.now }
 {
-    let r = found.code;
-    let span = found.span;
-    let sum = pairs::settle(pairs, found.partners, words, r, span.own, candidate, count);
-    bounds::leave(marks, words, r, span.ecc, mark);
-    bounds::relax(hops, marks, words, r as u16, span.ecc, limit);
-    sum
+    bounds::leave(marks, words, r, e, mark);
+    bounds::relax(hops, marks, words, r as u16, e, least_kept(limit));
 }
 
-// Takes in a finished search: the candidate is raised by what is its own, and then depots are skipped by that.
+// Takes in a finished search from r: candidate and pairs by what is its own, marks by its eccentricity; then depots are skipped by the candidate.
+#[tactic(auto, using(crate::proofs::Turns::taken))]
 pub fn absorb(
     pairs: &mut [u64],
     hops: &[u16],
     marks: &mut Marks<'_>,
     words: usize,
     mark: u16,
+    r: usize,
     found: Finished<'_>,
     candidate: u16,
     count: u32,
@@ -141,17 +141,20 @@ pub fn absorb(
     requires { Counted words pairs.old count
         × MarksFit words marks.old
         × (64 * words ≤ length hops.now)
-        × FinishedFits words found }
+        × (r < 64 * words)
+        × (words ≤ length found.partners.now) }
     ensures same { IsSameMarks marks.old marks.new }
-    ensures taken { let f = found.entry in
+    ensures taken { let h = hops.now in
         let before = absorbed (tally pairs.old count) (marks_in words marks.old) candidate in
         let after = absorbed (tally pairs.new result.count) (marks_in words marks.new) result.candidate in
-        after ≡ absorbing words mark f.code (said_of f) hops.now before }
+        after ≡ absorbing words mark r (said_of found.entry) h before }
     ensures counted { Counted words pairs.new result.count }
     ensures thinned { AreThinned words marks.old.ranks.now marks.new.ranks.now }
 {
-    let c = raise(candidate, found.span.own);
-    let sum = take_in(pairs, hops, marks, words, mark, found, candidate, count, c);
+    let own = found.span.own;
+    let sum = pairs::settle(pairs, found.partners, words, r, own, candidate, count);
+    let c = raise(candidate, own);
+    spread(hops, marks, words, mark, r, found.span.ecc, Some(c));
     RoundFigures {
         candidate: c,
         count: sum,
@@ -159,13 +162,15 @@ pub fn absorb(
     }
 }
 
-// The same, but nobody is skipped yet: no bound lies below 0.
+// The same, but nobody is skipped yet.
+#[tactic(auto, using(crate::proofs::Turns::taken))]
 pub fn hold(
     pairs: &mut [u64],
     hops: &[u16],
     marks: &mut Marks<'_>,
     words: usize,
     mark: u16,
+    r: usize,
     found: Finished<'_>,
     candidate: u16,
     count: u32,
@@ -173,18 +178,21 @@ pub fn hold(
     requires { Counted words pairs.old count
         × MarksFit words marks.old
         × (64 * words ≤ length hops.now)
-        × FinishedFits words found }
+        × (r < 64 * words)
+        × (words ≤ length found.partners.now) }
     ensures same { IsSameMarks marks.old marks.new }
-    ensures taken { let f = found.entry in
+    ensures taken { let h = hops.now in
         let before = absorbed (tally pairs.old count) (marks_in words marks.old) candidate in
         let after = absorbed (tally pairs.new result.count) (marks_in words marks.new) result.candidate in
-        after ≡ holding words mark f.code (said_of f) hops.now before }
+        after ≡ holding words mark r (said_of found.entry) h before }
     ensures counted { Counted words pairs.new result.count }
     ensures thinned { AreThinned words marks.old.ranks.now marks.new.ranks.now }
 {
-    let sum = take_in(pairs, hops, marks, words, mark, found, candidate, count, 0);
+    let own = found.span.own;
+    let sum = pairs::settle(pairs, found.partners, words, r, own, candidate, count);
+    spread(hops, marks, words, mark, r, found.span.ecc, None);
     RoundFigures {
-        candidate: raise(candidate, found.span.own),
+        candidate: raise(candidate, own),
         count: sum,
         searches: 0,
     }
@@ -229,7 +237,6 @@ fn round(
     let depth = layers::search_table(links, &mut scratch, desk.seen, desk.next, words, r);
     let span = reach_by(targets, &scratch, partners, words, r, depth);
     let found = Finished {
-        code: r,
         span,
         partners: &*partners,
     };
@@ -239,6 +246,7 @@ fn round(
         &mut marks,
         words,
         mark,
+        r,
         found,
         before.candidate,
         before.count,
@@ -290,6 +298,7 @@ pub fn run_rounds(
 }
 
 // The start of rounds: no pair, no bound, no mark, every open depot remaining.
+#[tactic(auto, using(crate::proofs::Turns::beginning))]
 pub fn begin(
     members: &[u64],
     links: &[u64],

@@ -11,9 +11,3 @@ loop-v-preserved c =
 
 pub loop-v-init : goal.loop-v-init
 loop-v-init c = search relax_none
-
-pub returns-clause-relaxed : goal.returns-clause-relaxed
-returns-clause-relaxed c = search (relax_end, rules)
-
-pub returns-clause-thinned : goal.returns-clause-thinned
-returns-clause-thinned c = search (relax_thinned, rules)

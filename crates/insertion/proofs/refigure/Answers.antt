@@ -13,7 +13,8 @@ join-own-requires c =
       record { positive = omega arith; most = omega arith; table = pre.0.pairs; counted = pre.1.counted },
       search rules,
       search rules,
-      record { inside = pre.2; partners = search rules },
+      pre.2,
+      search rules,
     )
 
 pub returns-then-chain-span-clause-left : goal.returns-then-chain-span-clause-left

@@ -11,6 +11,7 @@ join-sum-requires c = (
   search rules,
   search rules,
   search rules,
+  search rules,
 )
 
 pub returns-then-span-chain-clause-left : goal.returns-then-span-chain-clause-left

@@ -15,6 +15,7 @@ absorb-first-requires c =
       search rules,
       search rules,
       search rules,
+      search rules,
     )
 
 pub run_rounds-requires : goal.run_rounds-requires

@@ -19,6 +19,7 @@ shrink-got-requires c =
       pre.4,
       pre.5,
       pre.6,
+      pre.7,
     )
 
 pub returns-clause-left : goal.returns-clause-left

@@ -16,8 +16,10 @@ take_both-before-requires c =
       pre.0.pairs,
       pre.1,
       pre.0.hops,
+      pre.5,
+      pre.6,
       pre.2,
-      record { inside = pre.5; partners = pre.3 },
+      pre.3,
     )
 
 pub run_rounds-requires : goal.run_rounds-requires

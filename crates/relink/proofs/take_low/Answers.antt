@@ -14,6 +14,7 @@ hold-requires c =
       search rules,
       search rules,
       search rules,
+      search rules,
     )
 
 pub returns-clause-taken : goal.returns-clause-taken

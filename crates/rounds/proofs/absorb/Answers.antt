@@ -1,12 +1,12 @@
--- `rounds::absorb` meets its contract: the definition's parts are what the two calls ensure.
+-- `rounds::absorb` meets its contract: the definition's parts are what the calls ensure.
 use Rattle.pairs.proofs.Settling.{settle_counted}
 use Rattle.rounds.proofs.Turns.{absorb_is}
 use Rattle.rounds.proofs.absorb.Goals as goal
 
 pub returns-clause-taken : goal.returns-clause-taken
 returns-clause-taken c =
-    absorb_is _ _ _ _ _ _ _ _ _ c.take_in-sum.ensures.settled c.raise-c.ensures c.take_in-sum.ensures.marked
+    absorb_is _ _ _ _ _ _ _ _ _ c.settle-sum.ensures c.raise-c.ensures c.spread.ensures.marked
 
 pub returns-clause-counted : goal.returns-clause-counted
 returns-clause-counted c =
-    settle_counted _ _ _ _ _ _ _ _ _ c.requires.0 c.take_in-sum.ensures.settled
+    settle_counted _ _ _ _ _ _ _ _ _ c.requires.0 c.settle-sum.ensures

@@ -5,8 +5,8 @@ use Rattle.rounds.proofs.hold.Goals as goal
 
 pub returns-clause-taken : goal.returns-clause-taken
 returns-clause-taken c =
-    hold_is _ _ _ _ _ _ _ _ _ c.take_in-sum.ensures.settled c.raise.ensures c.take_in-sum.ensures.marked
+    hold_is _ _ _ _ _ _ _ _ _ c.settle-sum.ensures c.raise.ensures c.spread.ensures.marked
 
 pub returns-clause-counted : goal.returns-clause-counted
 returns-clause-counted c =
-    settle_counted _ _ _ _ _ _ _ _ _ c.requires.0 c.take_in-sum.ensures.settled
+    settle_counted _ _ _ _ _ _ _ _ _ c.requires.0 c.settle-sum.ensures
