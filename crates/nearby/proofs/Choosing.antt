@@ -61,6 +61,9 @@ module _ (h : ℕ → ℕ) (c v : ℕ) where
       go true = b
       go false = a
 
+-- what the check is told of two codes
+pub ruleset nearer_two = (nearer_near, nearer_far, nearer_low, nearer_high)
+
 -- with itself
 pub nearer_self : (h : ℕ → ℕ) (c : ℕ) → nearer_of h c c ≡ c
 nearer_self h c = sym (nearer_high h c c (omega arith) (omega arith) (omega arith))
@@ -85,6 +88,9 @@ module _ (h : ℕ → ℕ) (p : ℕ → Bool) (s : List ℕ) (first : ℕ) where
     pub choosing_all : length s ≤ i → found ≡ nearest_from h first (filterb p s)
     unfolding nearest_from
     choosing_all l = sym (w.same ∙ ap (nearest_from h found) (filter-done p s i l))
+
+-- and of the loop
+pub ruleset choosing = (nearer_below, choosing_took, choosing_passed, choosing_all)
 
 -- ---- by another measure that is the same on what is listed
 

@@ -97,3 +97,6 @@ module _ (p : ℕ → Bool) (G : Network) (old : List ℕ) where
                 counted = ap (λ (c : CodesListed). c.count) x ∙ w.counted;
                 size = ap length l ∙ w.size;
               }
+
+-- what the check is told of the loop
+pub ruleset writing = (writing_none, writing_few, writing_all, writing_room, writing_more)

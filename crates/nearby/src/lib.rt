@@ -19,6 +19,7 @@ use outcome::Refusal;
 // ---- within so many handovers
 
 // Puts the code v behind the `count` that are listed where its hop is at most k, and answers how many are listed then.
+#[tactic(auto, using(std::proofs::lemmas::Bool::Decides::nat_tests), unfolding(crate::specs::Steps::list_more))]
 fn put_near(codes: &mut [u8], count: usize, v: usize, hop: u16, k: u32) -> usize
     requires { (hop ≤ k → count < length codes.old) × (v < places base) }
     ensures { codes_listed result codes.new ≡ list_more (leb hop k) v count codes.old }
@@ -31,6 +32,7 @@ fn put_near(codes: &mut [u8], count: usize, v: usize, hop: u16, k: u32) -> usize
 }
 
 // Writes the open codes whose hop is at most k over the first places of `codes`, rising, and answers how many.
+#[tactic(auto, using(crate::proofs::Writing::writing))]
 fn list_within(members: &[u64; map::WORDS], scratch: &Scratch<'_>, codes: &mut [u8], k: u32) -> u16
     requires { (places base ≤ length scratch.now.hops.now) × (places base ≤ length codes.old) }
     ensures { let depots = vertices (network_of base.words members.now []) in
@@ -88,6 +90,7 @@ fn first_listed(members: &[u64; map::WORDS], listed: &[u8]) -> Option<usize>
 }
 
 // Of two codes the one with the smaller hop, the lower one on a tie.
+#[tactic(auto, using(crate::proofs::Choosing::nearer_two))]
 fn nearer(hops: &[u16], c: usize, v: usize) -> usize
     requires { (c < length hops.now) × (v < length hops.now) }
     ensures { result ≡ nearer_of (λ u. get_or hops.now u 0) c v }
@@ -102,6 +105,7 @@ fn nearer(hops: &[u16], c: usize, v: usize) -> usize
 }
 
 // The nearest of `first` and the open codes of a list.
+#[tactic(auto, using(crate::proofs::Choosing::choosing))]
 fn nearest_listed(
     members: &[u64; map::WORDS],
     scratch: &Scratch<'_>,

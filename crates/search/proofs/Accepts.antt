@@ -5,7 +5,7 @@ use mathlib.Core.List.{List, [], ◌∷◌}
 use Prim.Native.Nat.{ℕ, zero, suc, ◌%◌, ◌<◌}
 use native.Mathlib.Omega.{arith}
 use lib.Dec.{T}
-use lib.ListN.{length, take}
+use lib.ListN.{length, take, length-take}
 use lib.Seq.{take_all}
 use borrow.Author.Tests.{eq-eqb, ne_eqb, not-false}
 use Rattle.lists.specs.Lists.{first_of, max_of, overwrite}
@@ -152,3 +152,6 @@ module _ (W d : ℕ) (even odd : List ℕ) where
 
   pub last_short_odd : (d % 2 ≡ 0 → ⊥) → length odd < W → odd ≡ last_layer W d even odd
   last_short_odd q l = sym (take_all W odd (omega arith)) ∙ last_odd q
+
+-- what the check is told of a part of a row
+pub ruleset parts = (length-take, last_even, last_odd, last_short, last_short_odd)

@@ -38,6 +38,7 @@ pub struct Reach {
 }
 
 // The greatest hop of a target after a search to this depth, which reached all of them.
+#[tactic(auto, using(crate::proofs::Reaches::last_long))]
 fn greatest(targets: &[u64], scratch: &Scratch<'_>, depth: u16) -> u16
     requires { let T = tables_in scratch.now in
         (base.words ≤ length targets.now)
@@ -57,6 +58,7 @@ fn greatest(targets: &[u64], scratch: &Scratch<'_>, depth: u16) -> u16
 }
 
 // The same search, with its eccentricity to the targets, a row of the depots that count. All of them must be reached.
+#[tactic(auto, using(crate::proofs::Reaches::last_is, crate::proofs::Reaches::ecc_is))]
 pub fn search_to(targets: &[u64], links: &[u64], scratch: &mut Scratch<'_>, start: usize) -> Reach
     requires { let N = table_network base.words links.now in
         let depots = vertices (network_of base.words targets.now []) in
@@ -115,6 +117,7 @@ pub fn search_from(
 
 // The last layer of a search to this depth: a part of whichever lent row holds it. The eccentricity does not tell the row: where the last layer holds
 // yards alone it is less than the depth, and may have the other parity.
+#[tactic(auto, using(crate::proofs::Accepts::parts))]
 pub fn last_layer<'a>(even: &'a [u64], odd: &'a [u64], depth: u16) -> &'a [u64]
     ensures { result.now ≡ last_layer base.words depth even.now odd.now }
 {
@@ -151,6 +154,7 @@ fn last_part<'a>(found: Result<Reach, Refusal>, even: &'a [u64], odd: &'a [u64])
 
 // The search with its last layer (rule 3.3): the part of the row that holds it, beside both rows, so that no word is left unsaid. Of a refused call the
 // part is empty.
+#[tactic(auto, unfolding(crate::specs::SearchCall::rows_of))]
 pub fn search_rows<'a>(
     rec: Record,
     links: &[u64],

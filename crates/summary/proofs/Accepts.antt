@@ -140,3 +140,6 @@ module _ (K : Shape) (rec : Record) (links : List ℕ) (B : Tables) (counts : Li
       summary_accepted =
           ap (λ (t : Totalled). summary_left (Summed t.sum t.pairs (t.sum / t.pairs) (t.sum % t.pairs)) t.lent t.counts) whole
           ∙ ap (λ (x : ℕ). summary_given x K rec links B counts) (sym z)
+
+-- what the check is told of the refusals
+pub ruleset refused = (refused_counts, refused_map, refused_few, refused_never)

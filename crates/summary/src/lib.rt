@@ -123,6 +123,7 @@ pub struct Summary {
 }
 
 // The first refusal of a report that holds. It only reads.
+#[tactic(auto, using(crate::proofs::Accepts::refused))]
 fn summary_refusal(
     rec: Record,
     links: &[u64],

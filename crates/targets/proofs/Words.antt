@@ -134,3 +134,8 @@ module _ (hops : List ℕ) (w : ℕ) where
 
     pub comparing_all : {most x : ℕ} → BitsCompared most x → x ≡ 0 → most ≡ max_of (hop_in hops w word) (range 64)
     comparing_all g z = omega (arith, g.is, max_left_none z)
+
+-- what the check is told of these loops
+pub ruleset comparing = (comparing_none, comparing_next, comparing_all)
+
+pub ruleset summing = (full_sum, word_few, summing_none, summing_next, summing_all, summing_most)

@@ -38,6 +38,7 @@ pub struct Searched<'a> {
 
 impl TargetHops<'_> {
     // The greatest hop of a target in word w of the row. The word is a copy, from which each member leaves as it is looked at.
+    #[tactic(auto, using(crate::proofs::Words::comparing))]
     fn greatest_of_word(&self, w: usize) -> u16
         requires { w < self.now.words }
         ensures { result ≡ max_of (hop_in self.now.hops.now w (get_or self.now.targets.now w 0)) (range 64) }
@@ -53,6 +54,7 @@ impl TargetHops<'_> {
     }
 
     // The greatest hop of a target, by one pass over all of them.
+    #[tactic(auto, using(crate::proofs::Rows::comparing))]
     fn greatest_of_all(&self) -> u16
         ensures { let targets = vertices (network_of self.now.words self.now.targets.now []) in
             result ≡ max_of (λ v. get_or self.now.hops.now v 0) targets }
@@ -66,6 +68,7 @@ impl TargetHops<'_> {
 }
 
 // Whether two rows have a member in common: one test at the end, without a branch at each word.
+#[tactic(auto, using(crate::proofs::Meets::meeting))]
 fn meet(a: &[u64], b: &[u64], words: usize) -> bool
     requires { (words ≤ length a.now) × (words ≤ length b.now) }
     ensures { result ≡ anyb (λ v. row_bit words a.now v && row_bit words b.now v) (range (64 * words)) }
@@ -79,6 +82,8 @@ fn meet(a: &[u64], b: &[u64], words: usize) -> bool
 
 impl Searched<'_> {
     // As far as a target lies, by the last layer: the depth where a target is in it, and else by a pass.
+    #[tactic(auto, using(crate::proofs::Partners::far))]
+    #[inline]
     fn farthest(&self) -> u16
         ensures { let S = self.now.seen in
             result ≡ farthest_of S.words S.targets.now S.hops.now self.now.last.now self.now.depth }
@@ -90,6 +95,8 @@ impl Searched<'_> {
     }
 
     // The greatest hop of a target after a search that reached all of them.
+    #[tactic(auto, using(crate::proofs::Partners::farthest_is))]
+    #[inline]
     pub fn greatest_hop(&self) -> u16
         requires { let S = self.now.seen in
             IsLastLayer S.words S.targets.now self.now.last.now S.hops.now self.now.depth }
@@ -104,6 +111,7 @@ impl Searched<'_> {
 
 impl TargetHops<'_> {
     // The targets of word w whose hop is e. The word is a copy, from which each member leaves as it is looked at.
+    #[tactic(auto, using(crate::proofs::Partners::keeping))]
     fn word_at(&self, w: usize, e: u16) -> u64
         requires { w < self.now.words }
         ensures { let word = get_or self.now.targets.now w 0 in
@@ -122,6 +130,7 @@ impl TargetHops<'_> {
     }
 
     // The targets whose hop is e, by one pass over all of them.
+    #[tactic(auto, using(crate::proofs::Partners::putting, crate::proofs::Partners::at_word))]
     fn put_at(&self, row: &mut [u64], e: u16)
         requires { self.now.words ≤ length row.old }
         ensures { let S = self.now in
@@ -143,6 +152,7 @@ pub struct Span {
 
 impl Searched<'_> {
     // The targets that are in the last layer.
+    #[tactic(auto, using(crate::proofs::Partners::putting, crate::proofs::Partners::both_word))]
     fn put_both(&self, row: &mut [u64])
         requires { self.now.seen.words ≤ length row.old }
         ensures { let S = self.now.seen in
@@ -156,6 +166,7 @@ impl Searched<'_> {
     }
 
     // After a search from r: how far the targets lie, and in the row its partners, the targets at that hop. What is no target has none.
+    #[tactic(auto, using(crate::proofs::Partners::reaching))]
     pub fn reach(&self, row: &mut [u64], r: usize) -> Span
         requires { (self.now.seen.words ≤ length row.old) × (r < 64 * self.now.seen.words) }
         ensures { let S = self.now.seen in
@@ -179,6 +190,7 @@ impl Searched<'_> {
 // ---- the targets above a code
 
 // The members of w that are above b.
+#[tactic(auto, using(crate::proofs::Masks::word_above))]
 fn above(w: u64, b: usize) -> u64
     requires { b < 64 }
     ensures { result ≡ word_of 64 (λ k. bit w k && ltb b k) }
@@ -197,6 +209,7 @@ pub struct Later {
 }
 
 // The hops of the 64 codes of word w of a row, added. It is lent the table alone: how large its numbers are is known of a slice, and not of a field.
+#[tactic(auto, using(crate::proofs::Words::all_sum))]
 fn sum_of_all(hops: &[u16], w: usize) -> u64
     requires { (64 * w + 64 ≤ length hops.now) × (w < 2 ^ 32) }
     ensures { result ≡ sum_of (λ b. get_or hops.now (64 * w + b) 0) (range 64) }
@@ -208,6 +221,7 @@ fn sum_of_all(hops: &[u16], w: usize) -> u64
 }
 
 // The hops of the members that word w of a row holds, added. A full word, of which a large map has most, is gone through without a test for each code.
+#[tactic(auto, using(crate::proofs::Words::summing))]
 fn sum_of_word(hops: &[u16], w: usize, word: u64) -> u64
     requires { (64 * w + 64 ≤ length hops.now) × (w < 2 ^ 32) }
     ensures is { result ≡ sum_of (hop_in hops.now w word) (range 64) }
@@ -228,6 +242,8 @@ fn sum_of_word(hops: &[u16], w: usize, word: u64) -> u64
 
 impl TargetHops<'_> {
     // The targets above u.
+    #[tactic(auto, using(crate::proofs::Rows::summed))]
+    #[inline]
     pub fn sum_above(&self, u: usize) -> Later
         requires { u < 64 * self.now.words }
         ensures { let S = self.now in

@@ -3,17 +3,13 @@ use mathlib.Core.Path.{subst}
 use mathlib.Core.List.{[]}
 use Prim.Native.Nat.{◌<◌}
 use native.Mathlib.Omega.{arith}
-use borrow.Author.Rules.{rules}
 use borrow.Author.Tests.{le-leb}
 use Rattle.map.specs.Memory.{network_of}
 use Rattle.map.specs.Depots.{IsNextOpen, NextOpen}
 use Rattle.map.proofs.Theorems.{network_open_below, network_most}
-use Rattle.nearby.proofs.Writing.{writing_none, writing_few, writing_all, writing_room, writing_more}
+use Rattle.nearby.proofs.Writing.{writing_few, writing_all, writing_room, writing_more}
 use Rattle.nearby.proofs.list_within.Goals as goal
 use Rattle.nearby.proofs.list_within.Goals.{In-Some}
-
-pub loop-v-init : goal.loop-v-init
-loop-v-init c = (writing_none _ _ _, search rules)
 
 pub overflow_cast-result : goal.overflow_cast-result
 overflow_cast-result c =

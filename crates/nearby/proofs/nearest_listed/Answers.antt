@@ -1,7 +1,7 @@
 -- `nearby::nearest_listed` meets its contract. The loop's invariant: what is found so far with the rest of the list gives what the whole list gives.
 use mathlib.Core.Path.{sym, ◌∙◌}
 use lib.ListN.{get_or}
-use Rattle.nearby.proofs.Choosing.{choosing_took, choosing_passed, choosing_all, nearer_below}
+use Rattle.nearby.proofs.Choosing.{choosing_took, choosing_passed, nearer_below}
 use Rattle.nearby.proofs.nearest_listed.Goals as goal
 use Rattle.nearby.proofs.nearest_listed.Goals.{then-is_open, else-is_open}
 
@@ -20,7 +20,3 @@ loop-v-preserved c =
         rw x.found-is w.1,
       )
     ]
-
-pub returns : goal.returns
-returns c =
-    (choosing_all _ _ _ _ c.loop-v.invariant.0 c.loop-v-test.false, c.loop-v.invariant.1)

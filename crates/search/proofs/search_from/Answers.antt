@@ -5,17 +5,9 @@ use native.Mathlib.Omega.{arith}
 use Rattle.map.specs.Memory.{base}
 use Rattle.map.proofs.Theorems.{base_shape}
 use Rattle.search.proofs.Accepts.{granted, refused_call, granted_reached, accepted_call}
-use borrow.Author.Rules.{rules}
 use Rattle.std.proofs.lemmas.Result.{err_from_is_err_and}
 use Rattle.outcome.proofs.Numbering.{refuses}
 use Rattle.search.proofs.search_from.Goals as goal
-
-pub slice_bounds-keep_delivering-end-2 : goal.slice_bounds-keep_delivering-end-2
-slice_bounds-keep_delivering-end-2 c = search rules
-
-pub keep_delivering-requires : goal.keep_delivering-requires
-keep_delivering-requires c =
-    (omega arith, omega (arith, slice_bounds-keep_delivering-end-2 c))
 
 pub search_to-requires : goal.search_to-requires
 search_to-requires c =

@@ -1,11 +1,9 @@
 -- `search::search_refusal` meets its contract: what refuses the lent map comes first, then the code.
 use mathlib.Core.Path.{refl, sym, ◌∙◌}
-use native.Mathlib.Omega.{arith}
 use Rattle.lists.proofs.Tests.{clash, test_failed, test_passed}
 use Rattle.map.specs.Memory.{base, network_of}
 use Rattle.map.proofs.Longs.{are_long_lem}
 use Rattle.search.proofs.Accepts.{refused_map, refused_absent, refused_never}
-use borrow.Author.Rules.{rules}
 use Rattle.std.proofs.lemmas.Result.{err_from_is_err_and}
 use Rattle.outcome.proofs.Numbering.{refuses}
 use Rattle.search.proofs.search_refusal.Goals as goal
@@ -13,13 +11,6 @@ use Rattle.search.proofs.search_refusal.Goals as goal
 pub map_refusal-requires : goal.map_refusal-requires
 map_refusal-requires c =
     (λ h. (are_long_lem base _ (sym c.is_long.ensures ∙ h)).links, λ h f. absurd (clash f refl))
-
-pub slice_bounds-is_open-end : goal.slice_bounds-is_open-end
-slice_bounds-is_open-end c = search rules
-
-pub is_open-requires : goal.is_open-requires
-is_open-requires c =
-    (omega (arith, slice_bounds-is_open-end c), omega (arith, c.ranges.code.fits))
 
 pub returns-in_err-map_refusal : goal.returns-in_err-map_refusal
 returns-in_err-map_refusal c =

@@ -1,6 +1,6 @@
 -- `targets::TargetHops::put_at` meets its contract. The loop's invariant (Partners.antt): the first w words are put.
 use native.Mathlib.Omega.{arith}
-use Rattle.targets.proofs.Partners.{put_none, put_more, put_all, at_word}
+use Rattle.targets.proofs.Partners.{put_none, put_more, at_word}
 use Rattle.targets.proofs.TargetHops.put_at.Goals as goal
 
 pub loop-w-preserved : goal.loop-w-preserved
@@ -10,6 +10,3 @@ loop-w-preserved c =
 
 pub loop-w-init : goal.loop-w-init
 loop-w-init c = search put_none
-
-pub returns : goal.returns
-returns c = search put_all

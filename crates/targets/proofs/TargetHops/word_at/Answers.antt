@@ -2,7 +2,7 @@
 -- is left of the word.
 use mathlib.Core.Path.{◌∙◌}
 use native.Mathlib.Omega.{arith}
-use Rattle.targets.proofs.Partners.{kept_none, kept_stays, kept_leaves, kept_all}
+use Rattle.targets.proofs.Partners.{kept_stays, kept_leaves, kept_all}
 use Rattle.targets.proofs.TargetHops.word_at.Goals as goal
 use Rattle.targets.proofs.TargetHops.word_at.Goals.{then-self-w, else-self-w}
 
@@ -17,6 +17,3 @@ loop-x-preserved c =
 pub returns : goal.returns
 returns c =
     kept_all _ _ _ c.args.e c.loop-x.invariant (omega arith)
-
-pub loop-x-init : goal.loop-x-init
-loop-x-init c = search kept_none
