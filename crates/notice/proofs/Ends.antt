@@ -8,7 +8,7 @@ use native.Mathlib.Numerals.{add-one}
 use native.Mathlib.Omega.{arith}
 use lib.Dec.{eqb}
 use lib.ListN.{length, get_or, take, drop, drop_of_length-le, length-append, length-take}
-use lib.Seq.{drop-cons, get_or-take}
+use lib.Seq.{drop-cons, get_or-take, take_all}
 use borrow.Author.Tests.{eq-eqb, ne_eqb, eqb-true}
 use Rattle.lists.specs.Lists.{allb}
 use Rattle.lists.proofs.Tests.{look, clash, and-true}
@@ -86,3 +86,7 @@ end_stray s e h d k f = go (look (allb is_digit (take (end_of s) s)))
 pub length_line : (f : List ℕ) → length (line_of f) ≡ 2 * length f + 1
 unfolding line_of
 length_line f = length-append (digits_of f) (line_end ∷ []) ∙ ap (λ (n : ℕ). n + 1) (length_digits f)
+
+-- ---- a part of an input
+
+pub ruleset parts = (take_all, length-take)

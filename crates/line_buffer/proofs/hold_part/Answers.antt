@@ -5,9 +5,3 @@ use Rattle.line_buffer.proofs.hold_part.Goals as goal
 
 pub returns-then-b-eq10 : goal.returns-then-b-eq10
 returns-then-b-eq10 c = search part_here
-
-pub loop-at-preserved : goal.loop-at-preserved
-loop-at-preserved c = search (part_on, rules)
-
-pub returns : goal.returns
-returns c = search (part_out, rules)

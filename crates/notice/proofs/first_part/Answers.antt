@@ -7,6 +7,3 @@ use Rattle.notice.proofs.first_part.Goals as goal
 
 pub returns-then-input-lt-LINE_LIMIT : goal.returns-then-input-lt-LINE_LIMIT
 returns-then-input-lt-LINE_LIMIT c = sym (take_all 517 _ (omega arith))
-
-pub slice_bounds-result-end : goal.slice_bounds-result-end
-slice_bounds-result-end c = simp length-take (omega arith)
