@@ -53,3 +53,5 @@ counted_more {s} {i} {count} {x} {inside} is h e =
 pub counted_all : {s : List ℕ} {i count : ℕ} {inside : Bool} → AreCounted s i count inside → length s ≤ i → count ≡ length (lines_of s)
 unfolding begun
 counted_all {s} {i} {count} {inside} is h = let none : begun inside (drop i s) ≡ 0 = rw (drop_of_length-le s h) in omega (arith, is.total, none)
+
+pub ruleset counted = (counted_none, counted_more, counted_all)

@@ -26,7 +26,7 @@ use Rattle.graph.specs.Opening.{Notice, notice_of, open_faults}
 use Rattle.graph.specs.Updates.{update_faults}
 use Rattle.graph.specs.Batch.{Entry, accepts, first_fit}
 use Rattle.notice.specs.Lines.{opens_depot, garbled, frame, lines_of, read_line}
-use Rattle.notice.proofs.Readings.{behind, FrameStands}
+use Rattle.notice.proofs.Readings.{behind, FrameStands, frame_read, garbled_read}
 use Rattle.batch.specs.Lines.{is_opening, entries_from, entries_of}
 use Rattle.batch.specs.Steps.{waiting_of, notice_at, fit_of, Leavings, leavings, left_numbers, left_over, put_number}
 use Rattle.batch.specs.declared.Fit.{Fit}
@@ -121,6 +121,8 @@ module _ {G : Network} {taken : ℕ} {s : List ℕ} {number at : ℕ} (is : IsSc
   unfolding fit_of first_fit waiting_of filterb entries_from lines_of
   scan_end after l = sym (is.same ∙ ap (λ (x : List ℕ). first_fit G (waiting_of taken (entries_from number (lines_of x)))) (drop_of_length-le s l))
 
+pub ruleset scans = (frame_read, garbled_read, scan_none, scan_reads, scan_line, scan_within, scan_number, scan_found, scan_more, scan_end)
+
 -- ---- whether a line fits
 
 pub fits_taken : (G : Network) (taken number : ℕ) (o : Notice) {b : Bool} → b ≡ bit taken number → b ≡ true → false ≡ (not (bit taken number) && accepts G o)
@@ -191,3 +193,5 @@ put_few {taken} {i} is = omega (arith, is.count, length-filter (λ k. not (bit t
 pub put_all : {taken i k n : ℕ} {before now : List ℕ} → ArePut taken i before n now → i ≡ k → leavings n now ≡ left_over (left_numbers taken k) before
 unfolding left_over
 put_all {taken} {i} {k} {n} {before} is e = ap₂ leavings is.count is.places ∙ ap (λ (j : ℕ). left_over (left_numbers taken j) before) e
+
+pub ruleset puts = (put_none, put_more, put_few, put_all)

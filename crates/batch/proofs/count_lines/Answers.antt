@@ -2,9 +2,6 @@
 use Rattle.batch.proofs.Counting.{counted_none, counted_more, counted_all}
 use Rattle.batch.proofs.count_lines.Goals as goal
 
-pub loop-byte-init : goal.loop-byte-init
-loop-byte-init c = counted_none _
-
 pub loop-byte-preserved : goal.loop-byte-preserved
 loop-byte-preserved c = search counted_more
 

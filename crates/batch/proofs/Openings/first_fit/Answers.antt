@@ -18,10 +18,6 @@ read c =
     let got = frame_read _ _ (omega (arith, c.loop-at.invariant.1, c.requires.3)) c.in-Ok.is c.read_notice.ensures in
     (got.0, scan_line c.loop-at.invariant.0 got.1, got.2)
 
-pub loop-at-init : goal.loop-at-init
-loop-at-init c =
-    (scan_none _ _ _ c.args.self.opening, refl)
-
 -- its number is that of a line, and its notice stands in the frame
 placed : (c : In-Ok) → (c.loop-at.number < batch_limit) × (3 ≤ c.in-Ok.got.length) × (c.in-Ok.got.length ≤ length c.read_notice.new.frame)
 placed c =
@@ -61,7 +57,3 @@ pub returns-in_default : goal.returns-in_default
 returns-in_default c =
     absurd (scan_reads c.loop-at.invariant.0 c.loop-at-test.true
     (garbled_read _ _ (omega (arith, c.loop-at.invariant.1, c.requires.3)) c.in_default.is c.read_notice.ensures).0)
-
-pub returns : goal.returns
-returns c =
-    (scan_end c.loop-at.invariant.0 _ c.loop-at-test.false, tt)
