@@ -16,7 +16,6 @@ use Rattle.outcome.specs.declared.Refusal.{Refusal}
 use Rattle.outcome.proofs.Numbering.{refuses}
 use Rattle.lists.specs.Lists.{from, range, filterb, allb, overwrite, first_of}
 use Rattle.lists.proofs.Appends.{append_none}
-use Rattle.lists.proofs.Members.{length-filter, length-range}
 use Rattle.lists.proofs.Filters.{only, filter_snoc}
 use Rattle.lists.proofs.Copies.{overwrite_snoc}
 use Rattle.lists.proofs.Tests.{clash}
@@ -151,12 +150,13 @@ number_put taken number n places e h = rw (← e, h)
 
 -- n numbers of the i lines looked at stand in the places
 pub record ArePut (taken i : ℕ) (before : List ℕ) (n : ℕ) (now : List ℕ) : Type 0 where
+  pub few : n ≤ i
   pub count : n ≡ length (left_numbers taken i)
   pub places : now ≡ overwrite (left_numbers taken i) before
 
 pub put_none : (taken : ℕ) (before : List ℕ) → ArePut taken 0 before 0 before
 unfolding left_numbers range from filterb overwrite
-put_none taken before = record { count = refl; places = refl }
+put_none taken before = record { few = omega arith; count = refl; places = refl }
 
 -- a number more, by whether it is taken
 pub put_more : {taken i n m : ℕ} {before now after : List ℕ} → ArePut taken i before n now → n < length before → leavings m after ≡ put_number taken i n now → ArePut taken (i + 1) before m after
@@ -173,11 +173,16 @@ put_more {taken} {i} {n} {m} {before} {now} {after} is room e = go (bit taken i)
     go true h =
         let same : left_numbers taken (i + 1) ≡ left = more ∙ ap (λ (b : Bool). left ++ cond (not b) (i ∷ []) []) h ∙ append_none left in
         let q : leavings m after ≡ leavings n now = e ∙ rw h in
-        record { count = ap (λ (l : Leavings). l.count) q ∙ is.count ∙ ap length (sym same); places = ap (λ (l : Leavings). l.places) q ∙ is.places ∙ ap (λ (l : List ℕ). overwrite l before) (sym same) }
+        record {
+          few = omega (arith, is.few, ap (λ (l : Leavings). l.count) q);
+          count = ap (λ (l : Leavings). l.count) q ∙ is.count ∙ ap length (sym same);
+          places = ap (λ (l : Leavings). l.places) q ∙ is.places ∙ ap (λ (l : List ℕ). overwrite l before) (sym same);
+        }
     go false h =
         let longer : left_numbers taken (i + 1) ≡ left ++ (i ∷ []) = more ∙ ap (λ (b : Bool). left ++ cond (not b) (i ∷ []) []) h in
         let q : leavings m after ≡ leavings (n + 1) (set now n i) = e ∙ rw h in
         record {
+          few = omega (arith, is.few, ap (λ (l : Leavings). l.count) q);
           count = omega (arith, ap (λ (l : Leavings). l.count) q, is.count, ap length longer, length-append left (i ∷ []));
           places =
               ap (λ (l : Leavings). l.places) q
@@ -186,12 +191,6 @@ put_more {taken} {i} {n} {m} {before} {now} {after} is room e = go (bit taken i)
               ∙ ap (λ (l : List ℕ). overwrite l before) (sym longer);
         }
 
-pub put_few : {taken i n : ℕ} {before now : List ℕ} → ArePut taken i before n now → n ≤ i
-unfolding left_numbers
-put_few {taken} {i} is = omega (arith, is.count, length-filter (λ k. not (bit taken k)) (range i), length-range i)
-
 pub put_all : {taken i k n : ℕ} {before now : List ℕ} → ArePut taken i before n now → i ≡ k → leavings n now ≡ left_over (left_numbers taken k) before
 unfolding left_over
 put_all {taken} {i} {k} {n} {before} is e = ap₂ leavings is.count is.places ∙ ap (λ (j : ℕ). left_over (left_numbers taken j) before) e
-
-pub ruleset puts = (put_none, put_more, put_few, put_all)

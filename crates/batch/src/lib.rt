@@ -176,7 +176,6 @@ fn put_number(left: &mut [u8], taken: u64, number: u8, n: u8) -> u8
 }
 
 // Writes the numbers of the lines that are not taken, in order, and answers how many they are. What stands behind them stays.
-#[tactic(auto, using(crate::proofs::Scans::puts))]
 pub fn put_left(left: &mut [u8], taken: u64, count: usize) -> u8
     requires { (count ≤ batch_limit) × (batch_limit ≤ length left.old) }
     ensures { leavings result left.new ≡ left_over (left_numbers taken count) left.old }

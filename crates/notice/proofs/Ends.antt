@@ -14,7 +14,7 @@ use Rattle.lists.specs.Lists.{allb}
 use Rattle.lists.proofs.Tests.{look, clash, and-true}
 use Rattle.lists.proofs.Scans.{all-at}
 use Rattle.hexadecimal.specs.Hex.{is_digit, digits_of}
-use Rattle.notice.specs.Lines.{line_end, end_of, line_of}
+use Rattle.notice.specs.Lines.{line_limit, line_end, end_of, line_of}
 use Rattle.hexadecimal.proofs.DigitLaws.{digit_no_end}
 use Rattle.hexadecimal.proofs.Spelling.{length_digits}
 
@@ -89,4 +89,7 @@ length_line f = length-append (digits_of f) (line_end ∷ []) ∙ ap (λ (n : �
 
 -- ---- a part of an input
 
-pub ruleset parts = (take_all, length-take)
+pub part_whole : (s : List ℕ) → length s < line_limit → take line_limit s ≡ s
+part_whole s h = take_all line_limit s (omega arith)
+
+pub ruleset parts = (part_whole, length-take)

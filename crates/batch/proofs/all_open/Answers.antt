@@ -3,7 +3,7 @@
 use mathlib.Core.Path.{sym, ◌∙◌}
 use Prim.Native.Nat.{◌+◌, ◌<◌}
 use native.Mathlib.Omega.{arith}
-use Rattle.batch.proofs.Lines.{AreRead, read_none, read_more, read_fails, read_all}
+use Rattle.batch.proofs.Lines.{AreRead, read_more}
 use Rattle.batch.proofs.all_open.Goals as goal
 use Rattle.batch.proofs.all_open.Goals.{In-Some}
 

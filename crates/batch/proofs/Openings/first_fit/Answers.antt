@@ -1,6 +1,5 @@
 -- `batch::Openings::first_fit` meets its contract. The invariant: the first that fits is the first of those from the line reached on. The measure is what is
 -- left of the length; a line that reads is not empty.
-use mathlib.Core.Path.{refl}
 use mathlib.Core.List.{List}
 use Prim.Native.Nat.{ℕ, ◌≤◌, ◌<◌}
 use native.Mathlib.Omega.{arith}
@@ -8,7 +7,7 @@ use lib.ListN.{length, drop}
 use Rattle.notice.proofs.Readings.{FrameStands, frame_read, garbled_read}
 use Rattle.batch.specs.Lines.{batch_limit}
 use Rattle.batch.proofs.Lines.{LineReads}
-use Rattle.batch.proofs.Scans.{scan_none, scan_reads, scan_line, scan_within, scan_number, scan_found, scan_more, scan_end}
+use Rattle.batch.proofs.Scans.{scan_reads, scan_line, scan_within, scan_number, scan_found, scan_more}
 use Rattle.batch.proofs.Openings.first_fit.Goals as goal
 use Rattle.batch.proofs.Openings.first_fit.Goals.{In-Ok}
 
