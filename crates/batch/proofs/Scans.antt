@@ -140,14 +140,6 @@ fits_by G taken number o r e h q = rw (← e, h, ← q) (none_refused r)
 
 -- ---- the numbers left over
 
-pub number_taken : (taken number n : ℕ) (places : List ℕ) {b : Bool} → b ≡ bit taken number → b ≡ true → leavings n places ≡ put_number taken number n places
-unfolding put_number
-number_taken taken number n places e h = rw (← e, h)
-
-pub number_put : (taken number n : ℕ) (places : List ℕ) {b : Bool} → b ≡ bit taken number → b ≡ false → leavings (n + 1) (set places n number) ≡ put_number taken number n places
-unfolding put_number
-number_put taken number n places e h = rw (← e, h)
-
 -- n numbers of the i lines looked at stand in the places
 pub record ArePut (taken i : ℕ) (before : List ℕ) (n : ℕ) (now : List ℕ) : Type 0 where
   pub few : n ≤ i

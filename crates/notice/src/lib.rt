@@ -4,7 +4,7 @@
 
 #![tactic(auto)]
 
-ghost use Rattle.std.specs.Prelude.{◌≡◌, true, eqb, take};
+ghost use Rattle.std.specs.Prelude.{◌≡◌, eqb, take};
 ghost use Rattle.notice.specs.Lines.{line_limit, yard_kind, opens_depot, frame_length, is_frame, spells_frame};
 ghost use Rattle.notice.specs.Kinds.{byte_of, KindIs};
 ghost use Rattle.notice.specs.Calls.{reading_of, writing_of, line_left, read_call, write_call};

@@ -3,7 +3,6 @@ use Rattle.map.specs.Memory.{base}
 use Rattle.map.specs.Room.{sizes_of}
 use Rattle.batch_opening.proofs.Calls.{opened_lines}
 use Rattle.batch_opening.proofs.open_batch.Goals as goal
-use Rattle.batch_opening.proofs.open_batch.Goals.{In_ok-openings}
 
 pub returns-clause-left : goal.returns-clause-left
 unfolding sizes_of

@@ -1,10 +1,9 @@
 -- `notice::read_notice` meets its contract: each way out is one case of `read_call`. The frame buffer is written only on the last,
 -- when the digits are known to spell a frame.
 use mathlib.Core.Path.{sym, ◌∙◌}
-use native.Mathlib.Omega.{arith}
-use borrow.Author.Tests.{not-true, not-false}
+use borrow.Author.Tests.{not-false}
 use Rattle.notice.specs.Calls.{reading_of}
-use Rattle.notice.proofs.Answers.{read_short, end_most, digits_fit, read_endless, read_stray, read_other, read_done}
+use Rattle.notice.proofs.Answers.{digits_fit, read_done}
 use borrow.Author.Rules.{rules}
 use Rattle.notice.proofs.read_notice.Goals as goal
 

@@ -2,7 +2,6 @@
 use native.Mathlib.Omega.{arith}
 use Rattle.decimal.proofs.Places.{placed_join}
 use Rattle.report.specs.Line.{figures_text}
-use Rattle.report.proofs.Lines.{figures_length}
 use Rattle.report.proofs.put_figures.Goals as goal
 
 pub returns : goal.returns

@@ -1,8 +1,6 @@
 -- `report::put_outcome` meets its contract: the space and the letter, and the number behind them where the call was refused.
 -- The number is a byte, so it has three digits at most.
-use mathlib.Core.Path.{◌∙◌}
 use native.Mathlib.Omega.{arith}
-use lib.ListN.{length-set}
 use Rattle.decimal.proofs.Decimals.{decimal_byte}
 use Rattle.report.proofs.Lines.{accepted_placed, refused_placed}
 use borrow.Author.Rules.{rules}

@@ -1,12 +1,11 @@
 -- `report::write_report` meets its contract: number, outcome, figures and ending are put one behind another, and 45 bytes hold them all.
-use mathlib.Core.Path.{◌∙◌}
 use native.Mathlib.Omega.{arith}
-use lib.ListN.{length, length-set}
+use lib.ListN.{length}
 use Prim.Native.Nat.{◌≤◌}
 use Rattle.decimal.specs.Decimal.{decimal}
 use Rattle.decimal.proofs.Decimals.{decimal_word}
 use Rattle.report.specs.Line.{figures_text, written_of}
-use Rattle.report.proofs.Lines.{figures_most, report_short, report_done_lem, line_placed}
+use Rattle.report.proofs.Lines.{figures_most, report_done_lem, line_placed}
 use borrow.Author.Rules.{rules}
 use Rattle.report.proofs.write_report.Goals as goal
 use Rattle.report.proofs.write_report.Goals.{Start}

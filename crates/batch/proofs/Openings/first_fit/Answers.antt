@@ -12,7 +12,8 @@ use Rattle.batch.proofs.Openings.first_fit.Goals as goal
 use Rattle.batch.proofs.Openings.first_fit.Goals.{In-Ok}
 
 -- the frame that was read from the line reached
-read : (c : In-Ok) → (f : List ℕ) × LineReads (drop c.loop-at.at c.args.self.lines.now) f c.in-Ok.got.used × FrameStands f c.in-Ok.got.length c.read_notice.new.frame
+read : (c : In-Ok) → (f : List ℕ) × LineReads (drop c.loop-at.at c.args.self.lines.now) f c.in-Ok.got.used
+    × FrameStands f c.in-Ok.got.length c.read_notice.new.frame
 read c =
     let got = frame_read _ _ (omega (arith, c.loop-at.invariant.1, c.requires.3)) c.in-Ok.is c.read_notice.ensures in
     (got.0, scan_line c.loop-at.invariant.0 got.1, got.2)
