@@ -39,17 +39,12 @@ pub record AreCounted (s : List ℕ) (i count : ℕ) (inside : Bool) : Type 0 wh
 pub counted_none : (s : List ℕ) → AreCounted s 0 0 false
 counted_none s = record { few = omega arith; total = omega (arith, (count_both 0 s).0) }
 
-pub counted_more : {s : List ℕ} {i count x : ℕ} {inside : Bool} → AreCounted s i count inside → i < length s → x ≡ cond inside 0 1
-    → AreCounted s (i + 1) (count + x) (not (eqb (get_or s i 0) line_end))
+pub begun_more : (inside : Bool) (s : List ℕ) (i : ℕ) → i < length s → begun inside (drop i s) ≡ cond inside 0 1 + begun (not (eqb (get_or s i 0) line_end)) (drop (i + 1) s)
 unfolding begun
-counted_more {s} {i} {count} {x} {inside} is h e =
-    let rest : begun inside (drop i s) ≡ cond inside 0 1 + begun (not (eqb (get_or s i 0) line_end)) (drop (i + 1) s) = rw (add-one, drop-cons s i 0 h) in
-    record { few = omega (arith, is.few, e, one inside); total = omega (arith, is.total, rest, e) }
-  where
-    one : (b : Bool) → cond b 0 1 ≤ 1
-    one true = omega arith
-    one false = omega arith
+begun_more inside s i h = rw (add-one, drop-cons s i 0 h)
 
-pub counted_all : {s : List ℕ} {i count : ℕ} {inside : Bool} → AreCounted s i count inside → length s ≤ i → count ≡ length (lines_of s)
+pub begun_none : (inside : Bool) (s : List ℕ) (i : ℕ) → length s ≤ i → begun inside (drop i s) ≡ 0
 unfolding begun
-counted_all {s} {i} {count} {inside} is h = let none : begun inside (drop i s) ≡ 0 = rw (drop_of_length-le s h) in omega (arith, is.total, none)
+begun_none inside s i h = rw (drop_of_length-le s h)
+
+pub ruleset counted = (counted_none, begun_more, begun_none)

@@ -19,7 +19,7 @@ use Rattle.hexadecimal.specs.Hex.{is_digit, digits_of}
 use Rattle.hexadecimal.proofs.DigitLaws.{digit_no_end}
 use Rattle.hexadecimal.proofs.Spelling.{all_digits}
 use Rattle.notice.specs.Lines.{yard_kind, opens_depot, line_end, line_of, Line, garbled, frame, read_line, onto, lines_of}
-use Rattle.notice.proofs.Readings.{behind, FrameStands}
+use Rattle.notice.proofs.Readings.{behind, FrameStands, frame_read, garbled_read}
 use Rattle.notice.proofs.Theorems.{written_reads, read_written, read_used, read_frame}
 use Rattle.transcript.specs.Transcript.{update_in}
 use Rattle.batch.specs.Lines.{opening_in, notice_in, is_some, is_opening, entry_before, entries_from}
@@ -175,6 +175,8 @@ pub read_all : {s : List ℕ} {at : ℕ} → AreRead s at → length s ≤ at �
 unfolding allb lines_of
 read_all {s} is l = sym (is.same ∙ ap (λ (x : List ℕ). allb is_opening (lines_of x)) (drop_of_length-le s l))
 
+pub ruleset reads = (read_none, read_more, read_fails, read_all)
+
 -- what the code finds by the frame that it has read
 
 module _ (text : List ℕ) {after : List ℕ} {n u : ℕ} (x : (f : List ℕ) × (read_line text ≡ frame f u) × FrameStands f n after) where
@@ -185,6 +187,8 @@ module _ (text : List ℕ) {after : List ℕ} {n u : ℕ} (x : (f : List ℕ) ×
       same : (t : Bool) → then_some t u ≡ cond t (Some u) None
       same true = refl
       same false = refl
+
+pub ruleset opening_laws = (length-by, frame_read, garbled_read)
 
 -- ---- the entries of a line and of those behind it
 

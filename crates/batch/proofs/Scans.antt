@@ -16,7 +16,6 @@ use Rattle.outcome.specs.declared.Refusal.{Refusal}
 use Rattle.outcome.proofs.Numbering.{refuses}
 use Rattle.lists.specs.Lists.{from, range, filterb, allb, overwrite, first_of}
 use Rattle.lists.proofs.Appends.{append_none}
-use Rattle.lists.proofs.Members.{length-filter, length-range}
 use Rattle.lists.proofs.Filters.{only, filter_snoc}
 use Rattle.lists.proofs.Copies.{overwrite_snoc}
 use Rattle.lists.proofs.Tests.{clash}
@@ -26,7 +25,7 @@ use Rattle.graph.specs.Opening.{Notice, notice_of, open_faults}
 use Rattle.graph.specs.Updates.{update_faults}
 use Rattle.graph.specs.Batch.{Entry, accepts, first_fit}
 use Rattle.notice.specs.Lines.{opens_depot, garbled, frame, lines_of, read_line}
-use Rattle.notice.proofs.Readings.{behind, FrameStands}
+use Rattle.notice.proofs.Readings.{behind, FrameStands, frame_read, garbled_read}
 use Rattle.batch.specs.Lines.{is_opening, entries_from, entries_of}
 use Rattle.batch.specs.Steps.{waiting_of, notice_at, fit_of, Leavings, leavings, left_numbers, left_over, put_number}
 use Rattle.batch.specs.declared.Fit.{Fit}
@@ -121,6 +120,8 @@ module _ {G : Network} {taken : ℕ} {s : List ℕ} {number at : ℕ} (is : IsSc
   unfolding fit_of first_fit waiting_of filterb entries_from lines_of
   scan_end after l = sym (is.same ∙ ap (λ (x : List ℕ). first_fit G (waiting_of taken (entries_from number (lines_of x)))) (drop_of_length-le s l))
 
+pub ruleset scans = (frame_read, garbled_read, scan_none, scan_reads, scan_line, scan_within, scan_number, scan_found, scan_more, scan_end)
+
 -- ---- whether a line fits
 
 pub fits_taken : (G : Network) (taken number : ℕ) (o : Notice) {b : Bool} → b ≡ bit taken number → b ≡ true → false ≡ (not (bit taken number) && accepts G o)
@@ -139,22 +140,15 @@ fits_by G taken number o r e h q = rw (← e, h, ← q) (none_refused r)
 
 -- ---- the numbers left over
 
-pub number_taken : (taken number n : ℕ) (places : List ℕ) {b : Bool} → b ≡ bit taken number → b ≡ true → leavings n places ≡ put_number taken number n places
-unfolding put_number
-number_taken taken number n places e h = rw (← e, h)
-
-pub number_put : (taken number n : ℕ) (places : List ℕ) {b : Bool} → b ≡ bit taken number → b ≡ false → leavings (n + 1) (set places n number) ≡ put_number taken number n places
-unfolding put_number
-number_put taken number n places e h = rw (← e, h)
-
 -- n numbers of the i lines looked at stand in the places
 pub record ArePut (taken i : ℕ) (before : List ℕ) (n : ℕ) (now : List ℕ) : Type 0 where
+  pub few : n ≤ i
   pub count : n ≡ length (left_numbers taken i)
   pub places : now ≡ overwrite (left_numbers taken i) before
 
 pub put_none : (taken : ℕ) (before : List ℕ) → ArePut taken 0 before 0 before
 unfolding left_numbers range from filterb overwrite
-put_none taken before = record { count = refl; places = refl }
+put_none taken before = record { few = omega arith; count = refl; places = refl }
 
 -- a number more, by whether it is taken
 pub put_more : {taken i n m : ℕ} {before now after : List ℕ} → ArePut taken i before n now → n < length before → leavings m after ≡ put_number taken i n now → ArePut taken (i + 1) before m after
@@ -171,11 +165,16 @@ put_more {taken} {i} {n} {m} {before} {now} {after} is room e = go (bit taken i)
     go true h =
         let same : left_numbers taken (i + 1) ≡ left = more ∙ ap (λ (b : Bool). left ++ cond (not b) (i ∷ []) []) h ∙ append_none left in
         let q : leavings m after ≡ leavings n now = e ∙ rw h in
-        record { count = ap (λ (l : Leavings). l.count) q ∙ is.count ∙ ap length (sym same); places = ap (λ (l : Leavings). l.places) q ∙ is.places ∙ ap (λ (l : List ℕ). overwrite l before) (sym same) }
+        record {
+          few = omega (arith, is.few, ap (λ (l : Leavings). l.count) q);
+          count = ap (λ (l : Leavings). l.count) q ∙ is.count ∙ ap length (sym same);
+          places = ap (λ (l : Leavings). l.places) q ∙ is.places ∙ ap (λ (l : List ℕ). overwrite l before) (sym same);
+        }
     go false h =
         let longer : left_numbers taken (i + 1) ≡ left ++ (i ∷ []) = more ∙ ap (λ (b : Bool). left ++ cond (not b) (i ∷ []) []) h in
         let q : leavings m after ≡ leavings (n + 1) (set now n i) = e ∙ rw h in
         record {
+          few = omega (arith, is.few, ap (λ (l : Leavings). l.count) q);
           count = omega (arith, ap (λ (l : Leavings). l.count) q, is.count, ap length longer, length-append left (i ∷ []));
           places =
               ap (λ (l : Leavings). l.places) q
@@ -183,10 +182,6 @@ put_more {taken} {i} {n} {m} {before} {now} {after} is room e = go (bit taken i)
               ∙ overwrite_snoc left before i (omega (arith, is.count))
               ∙ ap (λ (l : List ℕ). overwrite l before) (sym longer);
         }
-
-pub put_few : {taken i n : ℕ} {before now : List ℕ} → ArePut taken i before n now → n ≤ i
-unfolding left_numbers
-put_few {taken} {i} is = omega (arith, is.count, length-filter (λ k. not (bit taken k)) (range i), length-range i)
 
 pub put_all : {taken i k n : ℕ} {before now : List ℕ} → ArePut taken i before n now → i ≡ k → leavings n now ≡ left_over (left_numbers taken k) before
 unfolding left_over

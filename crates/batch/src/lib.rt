@@ -37,6 +37,7 @@ fn begun_here(inside: bool) -> usize
 }
 
 // How many lines the input has. What is left behind the last 0A is a line too.
+#[tactic(auto, using(crate::proofs::Counting::counted))]
 pub fn count_lines(lines: &[u8]) -> usize
     ensures { result ≡ length (lines_of lines.now) }
 {
@@ -50,6 +51,7 @@ pub fn count_lines(lines: &[u8]) -> usize
 }
 
 // How many bytes the line has that the text begins with, if it reads as a frame that opens something.
+#[tactic(auto, using(crate::proofs::Lines::opening_laws), unfolding(crate::specs::Steps::opening_length))]
 fn opening_length(text: &[u8]) -> Option<usize>
     ensures { result ≡ opening_length (read_line text.now) }
 {
@@ -61,6 +63,7 @@ fn opening_length(text: &[u8]) -> Option<usize>
 }
 
 // Whether every line reads as a frame that opens something.
+#[tactic(auto, using(crate::proofs::Lines::reads))]
 fn all_open(lines: &[u8]) -> bool
     ensures { result ≡ allb is_opening (lines_of lines.now) }
 {
@@ -78,6 +81,7 @@ fn all_open(lines: &[u8]) -> bool
 // ---- the scan
 
 // Whether the line of a number is not taken, and its notice, which stands in the frame, can be accepted.
+#[tactic(auto, using(crate::proofs::Scans::fits_taken, crate::proofs::Scans::fits_by))]
 fn fits(members: &[u64], frame: &[u8], words: usize, taken: u64, number: u8, n: usize) -> bool
     requires { (base.words ≤ words) × (words < 513) × (words ≤ length members.now) × (number < batch_limit) × (3 ≤ n) × (n ≤ length frame.now) }
     ensures { let G = network_of words members.now [] in
@@ -123,6 +127,7 @@ impl<'a> Openings<'a> {
 
     // The first line, in their order, that is not taken and can be accepted with these depots open. Its notice is left in the frame. Only the open
     // set is asked, so that no table is lent.
+    #[tactic(auto, using(crate::proofs::Scans::scans))]
     pub fn first_fit(
         self,
         members: &[u64],
@@ -158,6 +163,7 @@ impl<'a> Openings<'a> {
 // ---- those left over
 
 // Writes a number behind n others unless it is taken, and answers how many they are then.
+#[tactic(auto, unfolding(crate::specs::Steps::put_number))]
 fn put_number(left: &mut [u8], taken: u64, number: u8, n: u8) -> u8
     requires { (number < batch_limit) × (n < batch_limit) × (batch_limit ≤ length left.old) }
     ensures { leavings result left.new ≡ put_number taken number n left.old }

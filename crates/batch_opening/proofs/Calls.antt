@@ -5,6 +5,7 @@ use mathlib.Core.List.{List}
 use Prim.Native.Nat.{ℕ, zero, suc}
 use lib.ListN.{length}
 use Rattle.std.specs.Prelude.{Ok, Err}
+use Rattle.std.proofs.lemmas.Result.{err_from_is_err_and}
 use Rattle.outcome.specs.Refusals.{number_of}
 use Rattle.outcome.specs.declared.Refusal.{Refusal}
 use Rattle.outcome.proofs.Numbering.{refuses}
@@ -20,6 +21,8 @@ use Rattle.batch.proofs.Entries.{entries_length, waiting_left, waiting_all}
 use Rattle.batch_update.specs.BatchCall.{batch_refusal, lent_memory, batch_on, batch_left, batch_given, batch_call, Opened, Refused}
 use Rattle.batch_update.specs.Steps.{BatchStanding, turns_from, turns_on}
 use Rattle.batch_update.proofs.Turns.{given_memory}
+use Rattle.batch_update.proofs.Refuses.{granted, long_both, refused_by-lent, refused_by_lines}
+use Rattle.map.proofs.Longs.{are_long_lem}
 use Rattle.batch_opening.specs.Steps.{batch_standing, batch_begun}
 use Rattle.batch_opening.specs.declared.BatchProgress.{BatchProgress}
 
@@ -75,3 +78,7 @@ pub opened_lines : (K : Shape) (rec : Record) (links : List ℕ) (B : Lent) (pla
     → batch_left rec (Ok (record { left = over; after = p.after })) links' B' left ≡ batch_call K rec links B places input
 opened_lines K rec links B places input same counted opening p turned ok e =
     rw (← same) (opened_batch K rec links B places _ counted opening p turned (rw (← same) at ok) e)
+
+pub ruleset calls = (granted, refused_batch_lem, opened_lines, err_from_is_err_and)
+
+pub ruleset refusals = (long_both, refused_by-lent, refused_by_lines, are_long_lem, err_from_is_err_and, refuses)

@@ -16,11 +16,12 @@ use Rattle.graph.proofs.Batches.{fit_some}
 use Rattle.words.specs.Bits.{bit, word_of}
 use Rattle.map.specs.Memory.{Shape, IsShape, places, network_of, yard_network}
 use Rattle.map.specs.Room.{Lent}
+use Rattle.map.proofs.Theorems.{base_shape}
 use Rattle.notice.specs.Lines.{lines_of}
 use Rattle.batch.specs.Lines.{batch_limit, entries_of}
 use Rattle.batch.specs.Steps.{waiting_of, notice_at, fit_of, FitsFrame}
 use Rattle.batch.specs.declared.Fit.{Fit}
-use Rattle.batch.proofs.Entries.{entry_number, waiting_without}
+use Rattle.batch.proofs.Entries.{entry_number, entries_codes, waiting_without}
 use Rattle.batch_update.specs.BatchCall.{LentMemory, lent_memory, memory_left, opening_on}
 use Rattle.batch_update.specs.Steps.{BatchStanding, turns_on}
 use Rattle.batch_opening.specs.Steps.{batch_standing}
@@ -95,3 +96,5 @@ module _ (K : Shape) (shape : IsShape K) (input : List ℕ) {first : BatchStandi
             ∙ is.goes_on;
         free = subst (λ (M : LentMemory). IsFree K M) (sym left) (opening_free K shape (lent_memory p.after links B) entry.notice is.free low);
       }
+
+pub ruleset turns = (fits_at, under_begun, under-done, under_none, under_more, base_shape, entries_codes)

@@ -39,6 +39,7 @@ fn are_long(links: usize, room: &Room<'_>, left: usize) -> bool
 }
 
 // The lines, or the first refusal that holds. It only reads.
+#[tactic(auto, using(crate::proofs::Calls::refusals))]
 fn batch_refusal<'a>(
     rec: Record,
     links: &[u64],
@@ -70,6 +71,7 @@ fn next_fit(rec: Record, frame: &mut [u8], taken: u64, openings: Openings<'_>) -
 }
 
 // Opens the notice that stands in the frame, and marks its line as taken.
+#[tactic(auto, unfolding(batch_update::specs::BatchCall::opening_on))]
 fn take_line(
     progress: BatchProgress,
     links: &mut [u64],
@@ -97,6 +99,7 @@ fn take_line(
 }
 
 // Opens the lines, the first that can be accepted at each turn. As many turns as lines are enough.
+#[tactic(auto, using(crate::proofs::Progress::turns), unfolding(map::specs::Room::sizes_of))]
 fn open_lines(
     rec: Record,
     links: &mut [u64],
@@ -127,6 +130,7 @@ fn open_lines(
 
 // Opens a batch: of up to 64 notice lines the first that can be accepted, again and again, until none can. The numbers of those left over, from 0,
 // are written into `left`, and the answer counts them; or it is the first refusal that holds, and then nothing is changed.
+#[tactic(auto, using(crate::proofs::Calls::calls), unfolding(map::specs::Room::sizes_of))]
 pub fn open_batch(
     rec: Record,
     links: &mut [u64],

@@ -91,10 +91,6 @@ module _ (n at : ℕ) (old : List ℕ) (room : at + length (decimal n) ≤ lengt
     pub fill_place : i < length line
     fill_place = omega (arith, fill_inside, fill_size)
 
-    -- there is a place before it
-    pub fill_before : 10 ≤ m → 0 < i
-    fill_before h = omega (arith, f.left, more_length m h, digits_some (m / 10))
-
     pub fill_more : 10 ≤ m → {i' : ℕ} → i' + 1 ≡ i → Filling n at end old (set line i (numeral (m % 10))) i' (m / 10)
     fill_more h {i'} q = record {
       text = numeral (m % 10) ∷ f.text;

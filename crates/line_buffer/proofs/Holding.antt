@@ -1,24 +1,14 @@
--- THE LINE BUFFER: a byte held, and the bytes of a piece up to the end of a line. Assumes nothing.
+-- THE LINE BUFFER: the bytes of a piece up to the end of a line. Assumes nothing.
 use mathlib.Core.Path.{◌≡◌, sym, ap, ap₂, ◌∙◌}
 use mathlib.Core.Bool.{true, false}
 use mathlib.Core.List.{List, ◌∷◌}
 use Prim.Native.Nat.{ℕ, suc, ◌+◌, ◌≤◌, ◌<◌}
 use native.Mathlib.Numerals.{add-one}
-use lib.ListN.{length, get_or, drop, set, drop_of_length-le}
+use lib.ListN.{length, get_or, drop, drop_of_length-le}
 use lib.Seq.{drop-cons}
-use borrow.Author.Tests.{lt-ltb, le-ltb, eq-eqb, ne_eqb}
-use Rattle.notice.specs.Lines.{line_limit, line_end}
-use Rattle.line_buffer.specs.Lines.{Holding, holding, hold_byte, PartLeft, part_from}
-
--- ---- a byte
-
-pub hold_put : (b : ℕ) (line : List ℕ) (held : ℕ) → held < line_limit → holding (set line held b) (held + 1) ≡ hold_byte b (holding line held)
-unfolding hold_byte
-hold_put b line held l = rw (lt-ltb held line_limit l)
-
-pub hold_full : (b : ℕ) (h : Holding) → line_limit ≤ h.held → h ≡ hold_byte b h
-unfolding hold_byte
-hold_full b h l = rw (le-ltb h.held line_limit l)
+use borrow.Author.Tests.{eq-eqb, ne_eqb}
+use Rattle.notice.specs.Lines.{line_end}
+use Rattle.line_buffer.specs.Lines.{Holding, hold_byte, PartLeft, part_from}
 
 -- ---- the bytes of a piece from a place on, which end at e: none is left, the next ends the line, or it does not
 

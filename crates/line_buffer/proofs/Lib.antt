@@ -1,4 +1,4 @@
--- The line buffer: a byte held, and the bytes of a piece up to the end of a line.
+-- The line buffer: the bytes of a piece up to the end of a line.
 pub mod Holding
 -- The report behind what is written.
 pub mod Reports

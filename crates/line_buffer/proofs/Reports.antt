@@ -69,3 +69,5 @@ module _ (r : ReportFields) (out : List ℕ) (at : ℕ) (k : at + buffer_limit �
           ap (λ (m : ℕ). at + m) (report_length q),
           omega (arith, report_fits q same, back, length-append (take at out) part, length-take at out, length-take (length out - at) (drop at out), length-drop at out),
         )
+
+pub ruleset report_put_laws = (report_taken, report_fits, report_put)

@@ -21,6 +21,7 @@ pub struct Gathered {
 // ---- the line buffer
 
 // Puts a byte behind those that are held. A line's first bytes, as many as the longest has, decide how it reads, so that no more are kept.
+#[tactic(auto, unfolding(crate::specs::Lines::hold_byte))]
 fn hold(line: &mut [u8], held: usize, b: u8) -> usize
     requires { line_limit ≤ length line.old }
     ensures { holding line.new result ≡ hold_byte b (holding line.old held) }
@@ -33,6 +34,7 @@ fn hold(line: &mut [u8], held: usize, b: u8) -> usize
 }
 
 // Takes the bytes of a piece up to the end of a line, or all that are left of it.
+#[tactic(auto, using(crate::proofs::Holding::part_out, crate::proofs::Holding::part_here, crate::proofs::Holding::part_on))]
 pub fn hold_part(line: &mut [u8], piece: &[u8], from: usize, held: usize) -> Gathered
     requires { line_limit ≤ length line.old }
     ensures { part_left result line.new ≡ part_from from (holding line.old held) (drop from piece.now) }
@@ -59,6 +61,7 @@ pub fn hold_part(line: &mut [u8], piece: &[u8], from: usize, held: usize) -> Gat
 // ---- the report
 
 // Writes the report of line `number` behind what is written, and answers the place behind it.
+#[tactic(auto, using(crate::proofs::Reports::report_put_laws))]
 pub fn put_report(out: &mut [u8], at: usize, number: u32, got: Returned) -> usize
     requires { at + buffer_limit ≤ length out.old }
     ensures { let line = report_line (report_of number got) in
@@ -82,6 +85,7 @@ pub fn put_report(out: &mut [u8], at: usize, number: u32, got: Returned) -> usiz
 // ---- the stop
 
 // Whether no further line may be begun: the report may not fit, or the stream has had its lines.
+#[tactic(auto, unfolding(crate::specs::Lines::is_stopped))]
 pub fn is_stopped(lines: u32, written: usize, room: usize) -> bool
     ensures { result ≡ is_stopped lines written room }
 {

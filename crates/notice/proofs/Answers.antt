@@ -15,7 +15,7 @@ use Rattle.notice.specs.Calls.{frame_limit, line_done, line_refused, line_left, 
 use Rattle.lists.proofs.Copies.{overwrite_snoc}
 use Rattle.hexadecimal.proofs.Spelling.{length_digits, length_bytes}
 use Rattle.notice.proofs.Ends.{end_found, end_none, end_stray, length_line}
-use Rattle.notice.proofs.Tests.{and_none, spells_other}
+use Rattle.notice.proofs.Tests.{and_none, spells_other, frame_most}
 
 -- ---- the reader
 
@@ -70,6 +70,8 @@ module _ (input : List ℕ) {head ds : List ℕ} (part : head ≡ take line_limi
       ap₂ (λ (i : ℕ) (r : List ℕ). line_left (line_done i (length ds + 1)) r) (sym (length_bytes ds)) w
       ∙ (rw (ended n o, lt-ltb (length ds) (length head) l, ← at.1, s) at (read-head input buffer part k))
 
+pub ruleset reading = (read_short, end_most, digits_fit, read_endless, read_stray, read_other, read_done)
+
 -- ---- the writer
 
 pub write-short : (f buffer : List ℕ) → length buffer < line_limit → line_left (line_refused short_buffer) buffer ≡ write_call f buffer
@@ -92,3 +94,5 @@ unfolding write_call
 write_done f buffer {mid} w h l k =
     ap₂ (λ (n : ℕ) (r : List ℕ). line_left (line_done n 0) r) (sym (length_line f)) (ap (λ (r : List ℕ). set r (2 * length f) line_end) w ∙ line-ended f buffer l)
     ∙ rw (le-ltb (length buffer) line_limit k, h)
+
+pub ruleset writing = (write-short, write-other, write_done, frame_most)

@@ -1,8 +1,7 @@
 -- What the kind of a byte says of the frames that begin with it. Assumes nothing.
 use mathlib.Core.Path.{◌≡◌, sym, ap, ◌∙◌}
-use mathlib.Core.Logic.{◌⊎◌, inl, inr}
-use mathlib.Core.Bool.{Bool, true, false}
-use Prim.Native.Nat.{ℕ, ◌+◌}
+use mathlib.Core.Bool.{Bool, false}
+use Prim.Native.Nat.{ℕ}
 use lib.Dec.{eqb}
 use borrow.Author.Tests.{ne_eqb}
 use Rattle.std.specs.Option.{option_eq}
@@ -19,11 +18,6 @@ same_kind = eq-value.it
 
 -- ---- whether they open a depot, and a yard
 
-pub kind_opens : (k : Kind) → (k ≡ Depot) ⊎ (k ≡ Yard) → true ≡ opens_depot (byte_of k)
-unfolding opens_depot
-kind_opens k (inl e) = rw e
-kind_opens k (inr e) = rw e
-
 pub opens_by : (b : ℕ) (o : Option Kind) {r : Bool} → KindIs b o → MatchOption o (r ≡ false) (λ k. r ≡ opens_depot (byte_of k)) → r ≡ opens_depot b
 unfolding opens_depot
 opens_by b (Some k) e q = q ∙ ap opens_depot e
@@ -36,11 +30,6 @@ opens_yard_by b (Some Yard) e = rw (← e)
 opens_yard_by b None n = sym (ne_eqb b yard_kind (λ e. n Yard (sym e)))
 
 -- ---- how long they are
-
-pub kind_length : (k : Kind) (third : ℕ) → (k ≡ Depot) ⊎ (k ≡ Yard) → 3 + third ≡ frame_length (byte_of k) third
-unfolding frame_length opens_depot
-kind_length k third (inl e) = rw e
-kind_length k third (inr e) = rw e
 
 pub length_none : (b third : ℕ) → ((k : Kind) → byte_of k ≡ b → ⊥) → 0 ≡ frame_length b third
 unfolding frame_length opens_depot

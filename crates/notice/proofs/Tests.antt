@@ -6,27 +6,17 @@ use Prim.Native.Nat.{ℕ, ◌+◌, ◌%◌, ◌≤◌, ◌<◌}
 use native.Mathlib.Omega.{arith}
 use lib.Dec.{eqb, leb}
 use lib.ListN.{length, get_or}
-use borrow.Author.Tests.{eq-eqb, ne_eqb, eqb-true, le-leb, lt-leb, leb-true}
+use borrow.Author.Tests.{eqb-true, leb-true}
 use Rattle.lists.proofs.Tests.{and-true}
 use Rattle.lists.specs.Lists.{allb}
 use Rattle.hexadecimal.specs.Hex.{is_digit, bytes_of}
 use Rattle.notice.specs.Lines.{link_kind, opens_depot, frame_length, is_frame, spells_frame}
-use Rattle.hexadecimal.proofs.Spelling.{length_bytes}
 
 -- ---- a frame
 
 pub and_none : (a : Bool) → false ≡ (a && false)
 and_none true = refl
 and_none false = refl
-
-pub frame_short : (f : List ℕ) → length f < 3 → false ≡ is_frame f
-unfolding is_frame
-frame_short f h = rw (lt-leb 3 (length f) h)
-
--- three bytes or more: the kind decides
-pub frame_long : (f : List ℕ) {n k : ℕ} → 3 ≤ length f → n ≡ length f → k ≡ frame_length (get_or f 0 0) (get_or f 2 0) → eqb n k ≡ is_frame f
-unfolding is_frame
-frame_long f h l e = rw (l, e, le-leb 3 (length f) h)
 
 -- ---- how long it is
 
@@ -59,21 +49,6 @@ length-only kind third l = go (opens_depot kind) refl (eqb kind link_kind) l
 pub spells_other : (ds : List ℕ) → allb is_digit ds ≡ false → false ≡ spells_frame ds
 unfolding spells_frame
 spells_other ds h = rw h
-
-pub spells_odd : (ds : List ℕ) → allb is_digit ds ≡ true → (length ds % 2 ≡ 0 → ⊥) → false ≡ spells_frame ds
-unfolding spells_frame
-spells_odd ds h k = rw (h, ne_eqb (length ds % 2) 0 k)
-
--- an even number of digits: the frame decides
-pub spells_even : (ds : List ℕ) {b : Bool} → allb is_digit ds ≡ true → length ds % 2 ≡ 0 → b ≡ is_frame (bytes_of ds) → b ≡ spells_frame ds
-unfolding spells_frame
-spells_even ds h k e = rw (h, eq-eqb (length ds % 2) 0 k) e
-
-pub spelt_short : (ds : List ℕ) → length ds < 6 → false ≡ is_frame (bytes_of ds)
-spelt_short ds h = let l = length_bytes ds in frame_short (bytes_of ds) (omega arith)
-
-pub spelt_long : (ds : List ℕ) → 6 ≤ length ds → 3 ≤ length (bytes_of ds)
-spelt_long ds h = let l = length_bytes ds in omega arith
 
 -- ---- what a passed test says, part by part
 

@@ -4,7 +4,7 @@
 
 #![tactic(auto)]
 
-ghost use Rattle.std.specs.Prelude.{◌≡◌, true, eqb, take};
+ghost use Rattle.std.specs.Prelude.{◌≡◌, eqb, take};
 ghost use Rattle.notice.specs.Lines.{line_limit, yard_kind, opens_depot, frame_length, is_frame, spells_frame};
 ghost use Rattle.notice.specs.Kinds.{byte_of, KindIs};
 ghost use Rattle.notice.specs.Calls.{reading_of, writing_of, line_left, read_call, write_call};
@@ -48,6 +48,7 @@ impl Kind {
     }
 
     // Whether its frames open a depot, one that delivers or a yard.
+    #[tactic(auto, unfolding(crate::specs::Lines::opens_depot))]
     pub fn opens_depot(self) -> bool
         ensures { result ≡ opens_depot (byte_of self) }
     {
@@ -55,6 +56,7 @@ impl Kind {
     }
 
     // How many bytes its frames have, by the third.
+    #[tactic(auto, unfolding(crate::specs::Lines::opens_depot, crate::specs::Lines::frame_length))]
     fn frame_length(self, third: u8) -> usize
         ensures { result ≡ frame_length (byte_of self) third }
     {
@@ -76,6 +78,7 @@ pub struct Frame {
 
 // Reads the line that the input begins with into the frame buffer. It does not judge the neighbours:
 // the opening does.
+#[tactic(auto, using(crate::proofs::Answers::reading), unfolding(crate::specs::Calls::reading_of))]
 pub fn read_notice(frame: &mut [u8], input: &[u8]) -> Result<Frame, Refusal>
     ensures { line_left (reading_of result) frame.new ≡ read_call input.now frame.old }
 {
@@ -103,6 +106,7 @@ pub fn read_notice(frame: &mut [u8], input: &[u8]) -> Result<Frame, Refusal>
 }
 
 // Writes the line of a frame, which is the whole slice, into the line buffer, and answers its length.
+#[tactic(auto, using(crate::proofs::Answers::writing), unfolding(crate::specs::Calls::writing_of))]
 pub fn write_notice(line: &mut [u8], frame: &[u8]) -> Result<usize, Refusal>
     ensures { line_left (writing_of result) line.new ≡ write_call frame.now line.old }
 {
@@ -119,6 +123,7 @@ pub fn write_notice(line: &mut [u8], frame: &[u8]) -> Result<usize, Refusal>
 }
 
 // The bytes among which a line's end has to be.
+#[tactic(auto, using(crate::proofs::Ends::parts))]
 fn first_part(input: &[u8]) -> &[u8]
     ensures { result.now ≡ take line_limit input.now }
 {
@@ -129,6 +134,7 @@ fn first_part(input: &[u8]) -> &[u8]
 }
 
 // Whether frames of a kind open a depot, one that delivers or a yard.
+#[tactic(auto, using(crate::proofs::Bytes::opens_by))]
 pub fn opens_depot(kind: u8) -> bool
     ensures { result ≡ opens_depot kind }
 {
@@ -136,6 +142,7 @@ pub fn opens_depot(kind: u8) -> bool
 }
 
 // Whether frames of a kind open a yard.
+#[tactic(auto, using(crate::proofs::Bytes::opens_yard_by))]
 pub fn opens_yard(kind: u8) -> bool
     ensures { result ≡ eqb kind yard_kind }
 {
@@ -143,6 +150,7 @@ pub fn opens_yard(kind: u8) -> bool
 }
 
 // How many bytes a frame of a kind has, by its third byte; 0 for a byte that is no kind.
+#[tactic(auto, using(crate::proofs::Bytes::length_none))]
 fn frame_length(kind: u8, third: u8) -> usize
     ensures { result ≡ frame_length kind third }
 {
@@ -153,6 +161,7 @@ fn frame_length(kind: u8, third: u8) -> usize
 }
 
 // Whether the digits of a line spell a frame: its kind and its third byte say how long it is.
+#[tactic(auto, using(hexadecimal::proofs::Spelling::length_bytes), unfolding(crate::specs::Lines::spells_frame, crate::specs::Lines::is_frame))]
 fn spells_frame(digits: Digits<'_>) -> bool
     ensures { result ≡ spells_frame digits.entry.bytes.now }
 {
@@ -169,6 +178,7 @@ fn spells_frame(digits: Digits<'_>) -> bool
 }
 
 // Whether a frame has the length that its kind and its third byte say.
+#[tactic(auto, unfolding(crate::specs::Lines::is_frame))]
 fn is_frame(frame: &[u8]) -> bool
     ensures { result ≡ is_frame frame.now }
 {

@@ -20,7 +20,7 @@ use Rattle.std.specs.Prelude.{Result, Ok, Err}
 use Rattle.std.specs.Result.{result_unwrap_or}
 use Rattle.decimal.specs.Decimal.{decimal, field}
 use Rattle.decimal.specs.Placed.{Placed}
-use Rattle.decimal.proofs.Decimals.{decimal_word, decimal_half}
+use Rattle.decimal.proofs.Decimals.{decimal_word, decimal_half, decimal_byte}
 use Rattle.decimal.proofs.Places.{placed_byte, placed_join, placed_text, placed_end, placed_whole}
 use Rattle.decimal.proofs.Numbers.{field-length}
 use Rattle.report.specs.declared.ReportFields.{ReportFields}
@@ -47,6 +47,8 @@ refused_placed o at old {n} {l} e k w h =
     placed_text (placed_join (letter_placed at old l h) w (omega arith))
     (ap (λ (x : ℕ). 32 ∷ x ∷ decimal n) (k ∙ ap letter_of e) ∙ sym (ap (λ (p : Outcome). field (outcome_text p)) e))
 
+pub ruleset outcome_put = (accepted_placed, refused_placed, decimal_byte, length-set)
+
 -- ---- the figures
 
 pub figures_length : (r : ReportFields) → length (figures_text r) ≡ length (field (decimal r.depots)) + length (field (decimal r.chain)) + length (field (decimal r.pairs)) + length (field (decimal r.searches))
@@ -69,6 +71,8 @@ figures_most r d c p s =
       decimal_half r.searches s,
     )
 
+pub ruleset figures_put = (figures_length, placed_join)
+
 -- ---- the call
 
 pub report_short : (r : ReportFields) (buffer : List ℕ) → length buffer < buffer_limit → report_left (report_refused short_buffer) buffer ≡ report_call r buffer
@@ -86,6 +90,8 @@ pub line_placed : (r : ReportFields) {buffer b₁ b₂ b₃ : List ℕ} {e₁ e�
     → e₃ < length b₃ → Placed (report_line r) 0 buffer (e₃ + 1) (set b₃ e₃ 10)
 unfolding report_line
 line_placed r {b₃ = b₃} {e₃ = e₃} p q s h = placed_join (placed_join (placed_join p q (omega arith)) s (omega arith)) (placed_byte e₃ b₃ 10 h) (omega arith)
+
+pub ruleset written = (report_short, report_done_lem, line_placed, decimal_word, figures_most, length-set)
 
 -- ---- the part handed back
 

@@ -24,6 +24,7 @@ pub struct ReportFields {
 }
 
 // Writes the line of a report at the start of the caller's buffer, and answers its length.
+#[tactic(auto, using(crate::proofs::Lines::written), unfolding(crate::specs::Line::written_of))]
 pub fn write_report(line: &mut [u8], report: ReportFields) -> Result<usize, Refusal>
     ensures { report_left (written_of result) line.new ≡ report_call report line.old }
 {
@@ -40,6 +41,7 @@ pub fn write_report(line: &mut [u8], report: ReportFields) -> Result<usize, Refu
 
 // The same, with the written part handed back as a part of the caller's buffer, and the whole buffer
 // beside it: the part is empty exactly where the buffer is too short.
+#[tactic(auto, using(crate::proofs::Lines::part_length, crate::proofs::Lines::line_handed))]
 pub fn report_line<'a>(line: &'a mut [u8], report: ReportFields) -> [&'a [u8]; 2]
     ensures { map (λ x. x.now) result ≡ handed_back (report_call report line.old) }
 {
@@ -51,6 +53,7 @@ pub fn report_line<'a>(line: &'a mut [u8], report: ReportFields) -> [&'a [u8]; 2
 
 // Puts a space and the outcome's letter, with the number of a refusal, at a place of the line: five
 // bytes hold them.
+#[tactic(auto, using(crate::proofs::Lines::outcome_put))]
 fn put_outcome(line: &mut [u8], at: usize, outcome: Outcome) -> usize
     requires { at + 5 ≤ length line.old }
     ensures { Placed (field (outcome_text outcome)) at line.old result line.new × (result ≤ at + 5) }
@@ -64,6 +67,7 @@ fn put_outcome(line: &mut [u8], at: usize, outcome: Outcome) -> usize
 }
 
 // Puts the figures of a report at a place of the line.
+#[tactic(auto, using(crate::proofs::Lines::figures_put), unfolding(crate::specs::Line::figures_text))]
 fn put_figures(line: &mut [u8], at: usize, report: ReportFields) -> usize
     requires { at + length (figures_text report) ≤ length line.old }
     ensures { Placed (figures_text report) at line.old result line.new }

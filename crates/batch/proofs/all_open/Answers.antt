@@ -3,12 +3,9 @@
 use mathlib.Core.Path.{sym, ◌∙◌}
 use Prim.Native.Nat.{◌+◌, ◌<◌}
 use native.Mathlib.Omega.{arith}
-use Rattle.batch.proofs.Lines.{AreRead, read_none, read_more, read_fails, read_all}
+use Rattle.batch.proofs.Lines.{AreRead, read_more}
 use Rattle.batch.proofs.all_open.Goals as goal
 use Rattle.batch.proofs.all_open.Goals.{In-Some}
-
-pub loop-at-init : goal.loop-at-init
-loop-at-init c = read_none _
 
 -- the line that was read, and those left
 more : (c : In-Some) → (0 < c.in-Some.used) × AreRead c.args.lines.now (c.loop-at.at + c.in-Some.used)
@@ -27,10 +24,3 @@ loop-at-smaller c =
 
 pub loop-at-preserved : goal.loop-at-preserved
 loop-at-preserved c = (more c).1
-
-pub returns-in_default : goal.returns-in_default
-returns-in_default c =
-    read_fails c.loop-at.invariant c.loop-at-test.true (sym c.in_default.is ∙ c.opening_length.ensures)
-
-pub returns : goal.returns
-returns c = search read_all

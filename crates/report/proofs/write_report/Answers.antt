@@ -1,12 +1,11 @@
 -- `report::write_report` meets its contract: number, outcome, figures and ending are put one behind another, and 45 bytes hold them all.
-use mathlib.Core.Path.{◌∙◌}
 use native.Mathlib.Omega.{arith}
-use lib.ListN.{length, length-set}
+use lib.ListN.{length}
 use Prim.Native.Nat.{◌≤◌}
 use Rattle.decimal.specs.Decimal.{decimal}
 use Rattle.decimal.proofs.Decimals.{decimal_word}
 use Rattle.report.specs.Line.{figures_text, written_of}
-use Rattle.report.proofs.Lines.{figures_most, report_short, report_done_lem, line_placed}
+use Rattle.report.proofs.Lines.{figures_most, report_done_lem, line_placed}
 use borrow.Author.Rules.{rules}
 use Rattle.report.proofs.write_report.Goals as goal
 use Rattle.report.proofs.write_report.Goals.{Start}
@@ -17,34 +16,6 @@ number_fits c = decimal_word c.args.report.number (search rules)
 
 figures-fit : (c : Start) → length (figures_text c.args.report) ≤ 29
 figures-fit c = figures_most c.args.report (search rules) (search rules) (search rules) (search rules)
-
-pub returns-then-line-lt-BUFFER_LIMIT : goal.returns-then-line-lt-BUFFER_LIMIT
-unfolding written_of
-returns-then-line-lt-BUFFER_LIMIT c = search report_short
-
-pub put_number-a-requires : goal.put_number-a-requires
-put_number-a-requires c =
-    omega (arith, number_fits (goal.at.put_number-a-requires c).Start, figures-fit (goal.at.put_number-a-requires c).Start)
-
-pub put_outcome-b-requires : goal.put_outcome-b-requires
-put_outcome-b-requires c =
-    omega (arith, number_fits (goal.at.put_outcome-b-requires c).Start, figures-fit (goal.at.put_outcome-b-requires c).Start)
-
-pub put_figures-end-requires : goal.put_figures-end-requires
-put_figures-end-requires c =
-    omega (arith, number_fits (goal.at.put_figures-end-requires c).Start, figures-fit (goal.at.put_figures-end-requires c).Start)
-
-pub bounds-line-end : goal.bounds-line-end
-bounds-line-end c =
-    omega (arith, number_fits (goal.at.bounds-line-end c).Start, figures-fit (goal.at.bounds-line-end c).Start)
-
-pub overflow_add-result : goal.overflow_add-result
-overflow_add-result c =
-    omega (arith, number_fits (goal.at.overflow_add-result c).Start, figures-fit (goal.at.overflow_add-result c).Start)
-
-pub shape_of-line : goal.shape_of-line
-shape_of-line c =
-    simp length-set (c.put_figures-end.auto.line ∙ c.put_outcome-b.auto.line ∙ c.put_number-a.auto.line)
 
 pub returns : goal.returns
 unfolding written_of

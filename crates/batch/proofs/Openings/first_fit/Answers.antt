@@ -1,6 +1,5 @@
 -- `batch::Openings::first_fit` meets its contract. The invariant: the first that fits is the first of those from the line reached on. The measure is what is
 -- left of the length; a line that reads is not empty.
-use mathlib.Core.Path.{refl}
 use mathlib.Core.List.{List}
 use Prim.Native.Nat.{ℕ, ◌≤◌, ◌<◌}
 use native.Mathlib.Omega.{arith}
@@ -8,19 +7,16 @@ use lib.ListN.{length, drop}
 use Rattle.notice.proofs.Readings.{FrameStands, frame_read, garbled_read}
 use Rattle.batch.specs.Lines.{batch_limit}
 use Rattle.batch.proofs.Lines.{LineReads}
-use Rattle.batch.proofs.Scans.{scan_none, scan_reads, scan_line, scan_within, scan_number, scan_found, scan_more, scan_end}
+use Rattle.batch.proofs.Scans.{scan_reads, scan_line, scan_within, scan_number, scan_found, scan_more}
 use Rattle.batch.proofs.Openings.first_fit.Goals as goal
 use Rattle.batch.proofs.Openings.first_fit.Goals.{In-Ok}
 
 -- the frame that was read from the line reached
-read : (c : In-Ok) → (f : List ℕ) × LineReads (drop c.loop-at.at c.args.self.lines.now) f c.in-Ok.got.used × FrameStands f c.in-Ok.got.length c.read_notice.new.frame
+read : (c : In-Ok) → (f : List ℕ) × LineReads (drop c.loop-at.at c.args.self.lines.now) f c.in-Ok.got.used
+    × FrameStands f c.in-Ok.got.length c.read_notice.new.frame
 read c =
     let got = frame_read _ _ (omega (arith, c.loop-at.invariant.1, c.requires.3)) c.in-Ok.is c.read_notice.ensures in
     (got.0, scan_line c.loop-at.invariant.0 got.1, got.2)
-
-pub loop-at-init : goal.loop-at-init
-loop-at-init c =
-    (scan_none _ _ _ c.args.self.opening, refl)
 
 -- its number is that of a line, and its notice stands in the frame
 placed : (c : In-Ok) → (c.loop-at.number < batch_limit) × (3 ≤ c.in-Ok.got.length) × (c.in-Ok.got.length ≤ length c.read_notice.new.frame)
@@ -61,7 +57,3 @@ pub returns-in_default : goal.returns-in_default
 returns-in_default c =
     absurd (scan_reads c.loop-at.invariant.0 c.loop-at-test.true
     (garbled_read _ _ (omega (arith, c.loop-at.invariant.1, c.requires.3)) c.in_default.is c.read_notice.ensures).0)
-
-pub returns : goal.returns
-returns c =
-    (scan_end c.loop-at.invariant.0 _ c.loop-at-test.false, tt)
