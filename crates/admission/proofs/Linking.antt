@@ -101,6 +101,9 @@ linked_turn W a ns old i e e₁ e₂ h la ln =
 pub linked_end : (W a : ℕ) (ns old l : List ℕ) (i : ℕ) → l ≡ with_links W a (take i ns) old → length ns ≤ i → l ≡ with_links W a ns old
 linked_end W a ns old l i e h = e ∙ ap (λ (ms : List ℕ). with_links W a ms old) (take_all i ns h)
 
+-- the loop over the neighbours
+pub ruleset linking = (linked_start, linked_turn, linked_end)
+
 -- ---- two codes linked
 
 both_bits : (a b c d x : Bool) → cond (c && d) true (cond (a && b) true x) ≡ ((a && b) || (d && c) || x)

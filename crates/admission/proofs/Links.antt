@@ -35,6 +35,9 @@ module _ (W : ℕ) (members links : List ℕ) (a b : ℕ) where
   unfolding link_faults first_of network_of
   refused_neither p q n h = rw (p, q, ne_eqb a b n, h)
 
+-- the first test that fails is the answer
+pub ruleset refusals = (refused_first, refused_second, refused_itself, refused_linked, refused_neither)
+
 -- ---- what a caller has
 
 module _ (W : ℕ) (members yards links : List ℕ) (a b : ℕ) where

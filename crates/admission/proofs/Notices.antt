@@ -43,10 +43,6 @@ lonely_first W members (x ∷ xs) n e = absurd (omega arith)
 
 -- ---- each refusal, by its test and those before it
 
--- what a call has answered is true of what it asks
-pub shown : {r b v : Bool} → r ≡ b → r ≡ v → b ≡ v
-shown e h = sym e ∙ h
-
 module _ (W : ℕ) (members : List ℕ) (code : ℕ) (ns : List ℕ) where
   abbrev G : Network
   G = network_of W members []
@@ -78,3 +74,6 @@ module _ (W : ℕ) (members : List ℕ) (code : ℕ) (ns : List ℕ) where
       → 0 ≡ first_of (open_faults G O)
   unfolding open_faults notice_faults first_of network_of
   refused_never a b c d = rw (a, b, c, d)
+
+-- the first test that fails is the answer
+pub ruleset refusals = (refused_taken, refused_lonely, refused_unsorted, refused_unknown, refused_never)

@@ -17,6 +17,7 @@ use outcome::Refusal;
 // ---- refusals 5 to 8
 
 // Whether no depot is named and some are open: the depot would be alone.
+#[tactic(auto, using(crate::proofs::Notices::lonely_named, crate::proofs::Notices::lonely_first))]
 fn is_lonely(members: &[u64], words: usize, neighbours: &[u8]) -> bool
     requires { words ≤ length members.now }
     ensures { result ≡ (is_empty neighbours.now && ltb 0 (length (vertices (network_of words members.now [])))) }
@@ -46,6 +47,7 @@ fn all_open(members: &[u64], words: usize, neighbours: &[u8]) -> bool
 
 // The first of the refusals 5 to 8 that holds. They ask only which codes are open, so no link is lent; nor do they ask whether the notice
 // or any open depot is a yard (`faults_any`, proofs/Theorems).
+#[tactic(auto, using(crate::proofs::Notices::refusals))]
 pub fn notice_refusal(
     members: &[u64],
     words: usize,
@@ -73,6 +75,7 @@ pub fn notice_refusal(
 // ---- the links of a new depot
 
 // Links a code with each neighbour, both ways.
+#[tactic(auto, using(crate::proofs::Linking::linking))]
 pub fn link_depot(links: &mut [u64], words: usize, code: u8, neighbours: &[u8])
     requires { (base.words ≤ words) × (words < 513) × (words * (64 * words) ≤ length links.old) }
     ensures { let before = links.old in
@@ -91,6 +94,7 @@ pub fn link_depot(links: &mut [u64], words: usize, code: u8, neighbours: &[u8])
 // ---- a link between two depots
 
 // The first of the refusals 4, 13 and 14 that holds.
+#[tactic(auto, using(crate::proofs::Links::refusals, crate::proofs::Linking::in_table))]
 pub fn link_refusal(
     members: &[u64],
     links: &[u64],
@@ -120,6 +124,7 @@ pub fn link_refusal(
 }
 
 // Links two codes, both ways.
+#[tactic(auto, using(crate::proofs::Linking::in_table))]
 pub fn link_codes(links: &mut [u64], words: usize, first: u8, second: u8)
     requires { (base.words ≤ words) × (words < 513) × (words * (64 * words) ≤ length links.old) }
     ensures { let before = links.old in

@@ -130,7 +130,6 @@ impl Visit<'_> {
     ghost use Rattle.frontier.specs.Visits.{Goes, IsSameVisit};
 
     // Visits one member, bit b of word w of a layer: it gets the hop k, and the codes linked to it come into the four words from word j on.
-
     fn reach_one(&mut self, from: Four, w: usize, b: usize, j: usize) -> Four
         requires { (w < self.old.words) × (b < 64) × (j < self.old.words) }
         ensures { Goes j (λ u. eqb u (64 * w + b)) self.old from self.new result }

@@ -30,13 +30,6 @@ pub sound_plain : (W : ℕ) (members yards links : List ℕ) (number : ℕ) → 
 sound_plain W members yards links number e =
     sound_yardless (row_bit W yards) (network_of W members links) (sound_by W members yards links number e) (network_yardless W members links)
 
--- the stored figures, where the call goes by them
-pub not-figured : (figured b : Bool) → figured ≡ false → true ≡ (not figured || b)
-not-figured figured b q = rw q
-
-pub is_figured : (figured : Bool) {r b : Bool} → figured ≡ true → r ≡ b → r ≡ (not figured || b)
-is_figured figured q e = rw q e
-
 -- ---- by the code's tests, the figures by a check that knows no links
 
 module _ (K : Shape) (rec : Record) (links pairs : List ℕ) where
@@ -82,6 +75,9 @@ module _ (K : Shape) (rec : Record) (links pairs : List ℕ) where
   unfolding lent_refusal lent_faults first_of
   refused_never true a b c d = rw (a, b, by_stored, c, by-plain, d)
   refused_never false a b c d = rw (a, b, by-plain, d)
+
+-- the first test that fails is the answer; sound links are the plain network's too
+pub ruleset refusals = (sound_plain, refused_short, refused_links, refused_figures, refused_apart, refused_never)
 
 -- ---- by the published words, before whatever a call looks at besides
 

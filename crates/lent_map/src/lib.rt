@@ -21,6 +21,7 @@ use outcome::Refusal;
 // ---- connectedness
 
 // Whether the code v is closed or has a hop.
+#[tactic(auto, using(crate::proofs::Connects::reached_closed, crate::proofs::Connects::reached_open))]
 fn is_reached(members: &[u64], hops: &[u16], words: usize, v: usize) -> bool
     requires { (64 * words ≤ length hops.now) × (words ≤ length members.now) × (v < 64 * words) }
     ensures { result ≡ (not (row_bit words members.now v) || ltb (get_or hops.now v 0) unreached) }
@@ -41,6 +42,7 @@ fn all_reached(members: &[u64], hops: &[u16], words: usize) -> bool
 
 // Whether the depots are connected: a search from the lowest open code, in the memory lent for it, reaches every one.
 // What stands in that memory afterwards is free.
+#[tactic(auto, using(crate::proofs::Connects::none_open))]
 pub fn is_connected(
     members: &[u64],
     links: &[u64],
@@ -96,6 +98,7 @@ pub fn map_is_connected(members: &[u64], links: &[u64]) -> bool
 
 // Whether the stored figures are sound, where the call goes by them, and so is lent the pairs. Only there the yards are taken out of a copy of the open
 // set: the check asks for the depots that deliver.
+#[tactic(auto, using(checks::proofs::Theorems::figures_delivering))]
 fn stored_are_sound(rec: Record, pairs: Option<&[u64]>) -> bool
     requires { is_some pairs ≡ true → table_words base ≤ length (pairs_in pairs) }
     ensures { let G = map_network base rec [] in
@@ -112,6 +115,7 @@ fn stored_are_sound(rec: Record, pairs: Option<&[u64]>) -> bool
 
 // The first refusal of lent memory that holds, whatever the call is asked. It only reads: `long` tells whether every buffer has its named size; a call that
 // goes by the stored figures lends the pairs besides.
+#[tactic(auto, using(crate::proofs::Refuses::refusals))]
 pub fn map_refusal(
     rec: Record,
     links: &[u64],

@@ -28,6 +28,7 @@ pub struct Returned {
 // ---- refusals
 
 // The first refusal of the lent memory, whatever is asked. It only reads.
+#[tactic(auto, using(map::proofs::Longs::are_long_lem, crate::proofs::Refuses::refused_map))]
 pub fn map_refusal(rec: Record, links: &[u64], room: &Room<'_>) -> Result<(), Refusal>
     ensures { refused_by result ≡ map_refusal base rec links.now room.now.pairs.now (room_sizes (length links.now) room.now) }
 {
