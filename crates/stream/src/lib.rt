@@ -32,6 +32,7 @@ pub struct Fed {
 }
 
 // Begins a stream: the map is emptied, and no line is read.
+#[tactic(auto, using(crate::proofs::Begins::emptying), unfolding(crate::specs::Feeding::begin_call, map::specs::Empty::empty_given))]
 pub fn begin(links: &mut [u64], pairs: &mut [u64]) -> Progress
     requires { (table_words base ≤ length links.old) × (table_words base ≤ length pairs.old) }
     ensures { stream_begun result links.new pairs.new ≡ begin_call links.old pairs.old }
@@ -48,6 +49,7 @@ pub fn begin(links: &mut [u64], pairs: &mut [u64]) -> Progress
 // ---- a line's answer
 
 // Answers a frame by its kind: the opening of a depot or a yard, or the link of two depots.
+#[tactic(auto, using(notice::proofs::Readings::behind), unfolding(transcript::specs::Transcript::update_in))]
 fn answer_frame(rec: Record, links: &mut [u64], room: &mut Room<'_>, frame: &[u8]) -> Returned
     requires { let long = room_sizes (length links.old) room.old in
         (map_refusal base rec links.old room.old.pairs.now long ≡ 0) × (3 ≤ length frame.now) }
@@ -79,6 +81,7 @@ fn answer_line(rec: Record, links: &mut [u64], room: &mut Room<'_>, text: &[u8])
 }
 
 // Answers the line that is held, and reports it.
+#[tactic(auto, unfolding(crate::specs::Feeding::took_line))]
 fn take_line(fed: Fed, links: &mut [u64], room: &mut Room<'_>, line: &[u8], out: &mut [u8]) -> Fed
     requires { let long = room_sizes (length links.old) room.old in
         (map_refusal base fed.progress.rec links.old room.old.pairs.now long ≡ 0)
@@ -110,6 +113,7 @@ fn take_line(fed: Fed, links: &mut [u64], room: &mut Room<'_>, line: &[u8], out:
 
 // Feeds a piece of the input: answers each line that ends in it, holds what is left, and writes the reports from the start of `out`. It
 // stops before a line whose report might not fit and after the last line of a stream; what is not used is to be fed again.
+#[tactic(auto, using(crate::proofs::Feeds::bytes), unfolding(crate::specs::Feeding::feed_call, line_buffer::specs::Lines::is_stopped, map::specs::Room::sizes_of))]
 pub fn feed(
     progress: Progress,
     links: &mut [u64],
@@ -155,6 +159,7 @@ pub fn feed(
 }
 
 // Ends the stream: a last stretch that is held is a line too.
+#[tactic(auto, unfolding(crate::specs::Feeding::finish_call, line_buffer::specs::Lines::is_stopped, map::specs::Room::sizes_of))]
 pub fn finish(
     progress: Progress,
     links: &mut [u64],
