@@ -13,6 +13,7 @@ ghost use Rattle.transcript.specs.Transcript.{lines_limit, update_in};
 ghost use Rattle.stream.specs.Feeding.{stream_begun, begin_call, answer_to, IsReady, feeding, took_line, feed_call, finish_call};
 
 use map::{Record, Room};
+use opening::Notice;
 use update::Returned;
 
 // How far a stream has come: the map's record, the lines answered, and the bytes that the line buffer holds of the next one.
@@ -59,8 +60,12 @@ fn answer_frame(rec: Record, links: &mut [u64], room: &mut Room<'_>, frame: &[u8
 {
     let code = frame[1];
     if notice::opens_depot(frame[0]) {
-        let yard = notice::opens_yard(frame[0]);
-        return opening::open_sound(rec, links, room, yard, code, &frame[3..]);
+        let asked = Notice {
+            yard: notice::opens_yard(frame[0]),
+            code,
+            neighbours: &frame[3..],
+        };
+        return opening::open_sound(rec, links, room, asked);
     }
     linking::link_sound(rec, links, room, code, frame[2])
 }
