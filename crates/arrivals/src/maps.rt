@@ -91,14 +91,12 @@ impl Map {
             even: &mut scratch.even,
             odd: &mut scratch.odd,
         };
-        let got = lent_opening::open_value(
-            self.rec,
-            &mut self.links,
-            &mut room,
-            false,
+        let asked = opening::Notice {
+            yard: false,
             code,
             neighbours,
-        );
+        };
+        let got = lent_opening::open_value(self.rec, &mut self.links, &mut room, asked);
         self.keep(got)
     }
 

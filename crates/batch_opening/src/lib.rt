@@ -90,8 +90,12 @@ fn take_line(
     ensures taken { result.taken ≡ word_of 64 (λ k. eqb k fit.number || bit progress.taken k) }
 {
     let yard = notice::opens_yard(frame[0]);
-    let neighbours = &frame[3..fit.length];
-    let got = opening::open_sound(progress.after, links, room, yard, frame[1], neighbours);
+    let asked = opening::Notice {
+        yard,
+        code: frame[1],
+        neighbours: &frame[3..fit.length],
+    };
+    let got = opening::open_sound(progress.after, links, room, asked);
     BatchProgress {
         after: got.after,
         taken: words::with_bit(progress.taken, fit.number as usize),

@@ -3,10 +3,12 @@ ghost use Rattle.std.specs.Prelude.{◌≡◌, true, false, ◌≤◌, length};
 ghost use Rattle.map.specs.Slices.{lent_in, lent_before, lent_after, IsSameRoom};
 ghost use Rattle.graph.specs.Updates.{opens, joins};
 ghost use Rattle.graph.specs.Opening.{notice_of};
+ghost use Rattle.opening.specs.Asked.{asked};
 ghost use Rattle.c_values.specs.Words.{record_words};
 ghost use Rattle.c_updates.specs.UpdateOuts.{handed, handed_by, update_out, updated_out};
 
 use map::Room;
+use opening::Notice;
 use outcome::{Outcome, Refusal};
 use update::Returned;
 
@@ -33,22 +35,19 @@ fn open_depot(
     links: &mut [u64],
     room: &mut Room<'_>,
     searches: &mut u16,
-    yard: bool,
-    code: u8,
-    neighbours: &[u8],
+    notice: Notice<'_>,
 ) -> u8
     ensures same { IsSameRoom room.old room.new }
     ensures left { let before = lent_in room.old in
         let after = lent_in room.new in
-        let asked = opens (notice_of yard code neighbours.now) in
         updated_out result words.new searches.new links.new after
-        ≡ update_out words.old links.old before asked searches.old }
+        ≡ update_out words.old links.old before (asked notice.entry) searches.old }
 {
     if words.len() < c_values::RECORD_WORDS {
         return Refusal::Short.number();
     }
     let rec = c_values::record_of(&*words);
-    let got = opening::open_step(rec, links, room, yard, code, neighbours);
+    let got = opening::open_step(rec, links, room, notice);
     hand_over(words, searches, got)
 }
 
@@ -81,7 +80,12 @@ pub extern "C" fn zorpedi_open(
         even,
         odd,
     };
-    open_depot(words, links, &mut room, searches, false, code, neighbours)
+    let notice = Notice {
+        yard: false,
+        code,
+        neighbours,
+    };
+    open_depot(words, links, &mut room, searches, notice)
 }
 
 // The opening of a yard, which makes no chain grow. 75 (K, kept) or 83 (S, shrank), and the number of searches; or the number of the refusal.
@@ -113,7 +117,12 @@ pub extern "C" fn zorpedi_open_yard(
         even,
         odd,
     };
-    open_depot(words, links, &mut room, searches, true, code, neighbours)
+    let notice = Notice {
+        yard: true,
+        code,
+        neighbours,
+    };
+    open_depot(words, links, &mut room, searches, notice)
 }
 
 // The link of two open depots. 75 (K, kept) or 83 (S, shrank), and the number of searches; or the number of the refusal.

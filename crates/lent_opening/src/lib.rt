@@ -3,29 +3,22 @@
 #![tactic(auto)]
 
 ghost use Rattle.std.specs.Prelude.{◌≡◌};
-ghost use Rattle.graph.specs.Opening.{notice_of};
-ghost use Rattle.graph.specs.Updates.{opens};
 ghost use Rattle.map.specs.Memory.{base};
 ghost use Rattle.map.specs.Slices.{lent_in, IsSameRoom};
 ghost use Rattle.update.specs.UpdateCall.{left_of, update_left, update_call};
+ghost use Rattle.opening.specs.Asked.{asked};
 
 use map::{Record, Room};
+use opening::Notice;
 use update::{Report, Returned};
 
 // The opening of a depot, or of a yard, on a record that is lent, and is brought up to date (rule 4.1).
-pub fn open(
-    rec: &mut Record,
-    links: &mut [u64],
-    room: &mut Room<'_>,
-    yard: bool,
-    code: u8,
-    neighbours: &[u8],
-) -> Report
+pub fn open(rec: &mut Record, links: &mut [u64], room: &mut Room<'_>, notice: Notice<'_>) -> Report
     ensures same { IsSameRoom room.old room.new }
     ensures left { left_of result rec.new links.new (lent_in room.new)
-        ≡ update_call base rec.old links.old (lent_in room.old) (opens (notice_of yard code neighbours.now)) }
+        ≡ update_call base rec.old links.old (lent_in room.old) (asked notice.entry) }
 {
-    let got = opening::open_step(*rec, links, room, yard, code, neighbours);
+    let got = opening::open_step(*rec, links, room, notice);
     *rec = got.after;
     got.report
 }
@@ -35,15 +28,13 @@ pub fn open_value(
     rec: Record,
     links: &mut [u64],
     room: &mut Room<'_>,
-    yard: bool,
-    code: u8,
-    neighbours: &[u8],
+    notice: Notice<'_>,
 ) -> Returned
     ensures same { IsSameRoom room.old room.new }
     ensures left { update_left result links.new (lent_in room.new)
-        ≡ update_call base rec links.old (lent_in room.old) (opens (notice_of yard code neighbours.now)) }
+        ≡ update_call base rec links.old (lent_in room.old) (asked notice.entry) }
 {
     let mut own = rec;
-    let report = open(&mut own, links, room, yard, code, neighbours);
+    let report = open(&mut own, links, room, notice);
     Returned { report, after: own }
 }

@@ -11,11 +11,20 @@ ghost use Rattle.map.specs.Memory.{base};
 ghost use Rattle.map.specs.Slices.{lent_in, room_sizes, IsSameRoom};
 ghost use Rattle.update.specs.UpdateCall.{update_refusal, update_left, update_given, update_call};
 ghost use Rattle.update.specs.Steps.{map_refusal};
+ghost use Rattle.opening.specs.Asked.{asked};
 
 use map::{Record, Room};
 use outcome::Outcome;
 use rounds::Plan;
 use update::{Report, Returned};
+
+// What a notice line says: whether a yard is to open, its code, and its neighbours. The calls hand the three on together.
+#[derive(Clone, Copy)]
+pub struct Notice<'a> {
+    pub yard: bool,
+    pub code: u8,
+    pub neighbours: &'a [u8],
+}
 
 // ---- the opening
 
@@ -40,7 +49,8 @@ fn put_yard(yards: &mut [u64], yard: bool, code: u8)
     }
 }
 
-// The opening of a notice that nothing refuses: its links in place, then the figures.
+// The opening of a notice that nothing refuses: its links in place, then the figures. It takes the notice apart: that the neighbours are bytes is known of an
+// argument at each place below, and of a struct's field only as long as it is used.
 #[tactic(auto, using(crate::proofs::Placed::room_for_one))]
 fn open_map(
     rec: Record,
@@ -88,19 +98,24 @@ pub fn open_sound(
     rec: Record,
     links: &mut [u64],
     room: &mut Room<'_>,
-    yard: bool,
-    code: u8,
-    neighbours: &[u8],
+    notice: Notice<'_>,
 ) -> Returned
     requires { let long = room_sizes (length links.old) room.old in
         map_refusal base rec links.old room.old.pairs.now long ≡ 0 }
     ensures same { IsSameRoom room.old room.new }
     ensures left { update_left result links.new (lent_in room.new)
-        ≡ update_call base rec links.old (lent_in room.old) (opens (notice_of yard code neighbours.now)) }
+        ≡ update_call base rec links.old (lent_in room.old) (asked notice.entry) }
 {
     let members = rec.members;
-    match admission::notice_refusal(&members, map::WORDS, code, neighbours) {
-        Ok(()) => open_map(rec, links, room, yard, code, neighbours),
+    match admission::notice_refusal(&members, map::WORDS, notice.code, notice.neighbours) {
+        Ok(()) => open_map(
+            rec,
+            links,
+            room,
+            notice.yard,
+            notice.code,
+            notice.neighbours,
+        ),
         Err(refusal) => update::refused(rec, refusal.number()),
     }
 }
@@ -111,16 +126,14 @@ pub fn open_step(
     rec: Record,
     links: &mut [u64],
     room: &mut Room<'_>,
-    yard: bool,
-    code: u8,
-    neighbours: &[u8],
+    notice: Notice<'_>,
 ) -> Returned
     ensures same { IsSameRoom room.old room.new }
     ensures left { update_left result links.new (lent_in room.new)
-        ≡ update_call base rec links.old (lent_in room.old) (opens (notice_of yard code neighbours.now)) }
+        ≡ update_call base rec links.old (lent_in room.old) (asked notice.entry) }
 {
     match update::map_refusal(rec, &*links, &*room) {
-        Ok(()) => open_sound(rec, links, room, yard, code, neighbours),
+        Ok(()) => open_sound(rec, links, room, notice),
         Err(refusal) => update::refused(rec, refusal.number()),
     }
 }

@@ -2,10 +2,10 @@
 use mathlib.Core.Path.{◌≡◌}
 use mathlib.Core.Bool.{Bool, true, false, cond}
 use mathlib.Core.List.{List}
-use Prim.Native.Nat.{ℕ, ◌-◌, ◌<◌}
+use Prim.Native.Nat.{ℕ, ◌<◌}
 use native.Mathlib.Omega.{arith}
 use lib.Dec.{eqb}
-use lib.ListN.{length, get_or, take, drop}
+use lib.ListN.{get_or, take, drop}
 use borrow.Author.Tests.{ltb-true}
 use Rattle.lists.proofs.Scans.{all-at}
 use Rattle.outcome.specs.Numbers.{garbled_line}
@@ -18,7 +18,7 @@ use Rattle.hexadecimal.specs.Hex.{is_byte}
 use Rattle.notice.specs.Lines.{yard_kind, opens_depot, garbled, frame, read_line}
 use Rattle.notice.proofs.Tests.{frame_parts}
 use Rattle.notice.proofs.Theorems.{read_frame}
-use Rattle.notice.proofs.Readings.{behind, FrameStands}
+use Rattle.notice.proofs.Readings.{FrameStands}
 use Rattle.update.specs.UpdateCall.{UpdateLeft, update_left, update_call, IsWithin}
 use Rattle.update.specs.Steps.{refused_with}
 use Rattle.update.specs.declared.Returned.{Returned}
@@ -38,16 +38,6 @@ read-within text f u e = go (opens_depot (get_or f 0 0))
     go : (b : Bool) → IsWithin base (cond b (opens (notice_of (eqb (get_or f 0 0) yard_kind) (get_or f 1 0) (drop 3 f))) (joins (get_or f 1 0) (get_or f 2 0)))
     go true = low
     go false = tt
-
-pub answered-opening : (rec : Record) (links : List ℕ) (B : Lent) (f : List ℕ) {x : UpdateLeft} → opens_depot (get_or f 0 0) ≡ true
-    → x ≡ update_call base rec links B (opens (notice_of (eqb (get_or f 0 0) yard_kind) (get_or f 1 0) (take (length f - 3) (drop 3 f)))) → x ≡ update_call base rec links B (update_in f)
-unfolding update_in
-answered-opening rec links B f k e = rw (k, ← behind f 3) e
-
-pub answered-link : (rec : Record) (links : List ℕ) (B : Lent) (f : List ℕ) {x : UpdateLeft} → opens_depot (get_or f 0 0) ≡ false
-    → x ≡ update_call base rec links B (joins (get_or f 1 0) (get_or f 2 0)) → x ≡ update_call base rec links B (update_in f)
-unfolding update_in
-answered-link rec links B f k e = rw k e
 
 -- ---- a line
 

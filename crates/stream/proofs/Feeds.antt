@@ -3,14 +3,14 @@
 use mathlib.Core.Path.{◌≡◌, refl, sym, ap, ◌∙◌, subst}
 use mathlib.Core.Bool.{Bool, true, false, cond}
 use mathlib.Core.List.{List, [], ◌∷◌}
-use Prim.Native.Nat.{ℕ, suc, ◌+◌, ◌≤◌, ◌<◌, zero-le}
+use Prim.Native.Nat.{ℕ, suc, ◌+◌, ◌≤◌, ◌<◌}
 use native.Mathlib.Omega.{arith}
 use lib.Dec.{eqb, ltb}
 use lib.ListN.{length, get_or, take, drop, set, length-drop, drop_of_length-le}
 use lib.Seq.{drop-cons, drop-drop}
 use borrow.Author.Tests.{ltb-true}
 use Rattle.lists.proofs.Tests.{clash}
-use Rattle.map.specs.Room.{tables, Lent, lent, sizes, sizes_of}
+use Rattle.map.specs.Room.{Lent, sizes_of}
 use Rattle.map.specs.Memory.{base}
 use Rattle.map.specs.declared.Record.{Record}
 use Rattle.notice.specs.Lines.{line_limit, line_end, Line, garbled, frame, read_line}
@@ -18,9 +18,8 @@ use Rattle.update.specs.Steps.{map_refusal}
 use Rattle.update.proofs.Keeps.{map_kept}
 use Rattle.transcript.specs.Transcript.{update_in}
 use Rattle.line_buffer.specs.Lines.{Holding, holding, hold_byte, PartLeft, part_from}
-use Rattle.stream.specs.Feeding.{IsReady, answer_to, Feeding, feeding, progress_of, fed_of, stopped, took_line, held_byte, take_byte, feed_bytes, feed_call}
+use Rattle.stream.specs.Feeding.{answer_to, Feeding, feeding, progress_of, fed_of, stopped, took_line, held_byte, take_byte, feed_bytes}
 use Rattle.stream.proofs.Answers.{read-within}
-use Rattle.stream.specs.declared.Progress.{Progress}
 use Rattle.map.proofs.Theorems.{base_shape}
 
 -- ---- a part of the piece
@@ -167,6 +166,14 @@ part_most at h (b ∷ bs) l = go (eqb b line_end) (hold_most b h l) (part_most (
     go true p q = p
     go false p q = q
 
+-- a line's answer uses no more of the piece
+pub took_used : (F : Feeding) → (took_line F).fed.used ≡ F.fed.used
+unfolding took_line
+took_used F = refl
+
+-- what is known of a part
+pub ruleset parts = (part_most, part_more, part_within, took_used)
+
 -- ---- the loop
 
 -- nothing refuses F's map
@@ -191,83 +198,42 @@ pub took_free : (F : Feeding) → IsFree F → IsFree (took_line F)
 unfolding took_line
 took_free F free = answer_free (take F.fed.progress.held F.line) F.fed.progress.rec F.links F.lent free (read_line (take F.fed.progress.held F.line)) refl
 
-pub took_used : (F : Feeding) → (took_line F).fed.used ≡ F.fed.used
-unfolding took_line
-took_used F = refl
-
-took_held : (F : Feeding) → (took_line F).fed.progress.held ≡ 0
+pub took_held : (F : Feeding) → (took_line F).fed.progress.held ≡ 0
 unfolding took_line
 took_held F = refl
 
--- the sizes of the seven buffers, as the contracts have them
-pub free_sizes : (rec : Record) (links pairs hops bounds skips even odd : List ℕ) → map_refusal base rec links pairs (sizes_of links (lent pairs (tables hops even odd) bounds skips)) ≡ 0
-    → map_refusal base rec links pairs (sizes (length links) (length pairs) (length hops) (length bounds) (length skips) (length even) (length odd)) ≡ 0
-unfolding sizes_of
-free_sizes rec links pairs hops bounds skips even odd e = e
+-- the step stops, or the piece is used up
+pub bytes_stop : (bs : List ℕ) (F : Feeding) → stopped F ≡ true → feed_bytes bs F ≡ F
+unfolding feed_bytes
+bytes_stop [] F e = refl
+bytes_stop (b ∷ bs) F e = rw (e)
 
--- the start
-pub at_start_lem : (piece : List ℕ) (p : Progress) (links : List ℕ) (B : Lent) (line out : List ℕ) → IsReady p links B line
-    → AtTurn piece (feeding (fed_of p 0 0) links B line out) (feeding (fed_of p 0 0) links B line out)
-at_start_lem piece p links B line out ready = record { going = refl; free = ready.free; held = ready.held }
+pub bytes_over : (piece : List ℕ) (k : ℕ) (F : Feeding) → length piece ≤ k → feed_bytes (drop k piece) F ≡ F
+bytes_over piece k F l = ap (λ (bs : List ℕ). feed_bytes bs F) (drop_of_length-le piece l) ∙ sym (bytes_none F)
 
--- and what is left is ready for the next call
-pub ready_turn : (piece : List ℕ) (F₀ F : Feeding) → AtTurn piece F₀ F → line_limit ≤ length F.line → IsReady F.fed.progress F.links F.lent F.line
-ready_turn piece F₀ F turn room = record { free = turn.free; room = room; held = turn.held }
-
--- the call is the loop's whole
-pub call_is : (p : Progress) (links : List ℕ) (B : Lent) (line out piece : List ℕ) → feed_bytes piece (feeding (fed_of p 0 0) links B line out) ≡ feed_call p links B line out piece
-unfolding feed_call
-call_is p links B line out piece = refl
-
-module _ (piece : List ℕ) (F₀ F : Feeding) (turn : AtTurn piece F₀ F) where
+-- a part of the rest of the piece: all of it is held, or it ends a line and the bytes behind it go on
+module _ (piece : List ℕ) (F : Feeding) (on : stopped F ≡ false) where
   abbrev P : PartLeft
   P = part_from F.fed.used (holding F.line F.fed.progress.held) (drop F.fed.used piece)
 
-  -- the piece is used up, or the step stops
-  pub turn_end : length piece ≤ F.fed.used → F ≡ feed_bytes piece F₀
-  turn_end l = bytes_none F ∙ sym (ap (λ (bs : List ℕ). feed_bytes bs F) (drop_of_length-le piece l)) ∙ turn.going
+  fed : IsFed piece (drop F.fed.used piece) F P
+  fed = part_fed piece (drop F.fed.used piece) F refl on
 
-  bytes_stopped : (b : ℕ) (bs : List ℕ) → stopped F ≡ true → F ≡ feed_bytes (b ∷ bs) F
-  unfolding feed_bytes
-  bytes_stopped b bs e = rw (e)
+  pub part_held_all : P.ended ≡ false → feed_bytes (drop F.fed.used piece) F ≡ with_part P F
+  part_held_all e = sym (fed.all e)
 
-  pub turn_stopped : F.fed.used < length piece → stopped F ≡ true → F ≡ feed_bytes piece F₀
-  turn_stopped l e = bytes_stopped (get_or piece F.fed.used 0) (drop (suc F.fed.used) piece) e ∙ sym (ap (λ (bs : List ℕ). feed_bytes bs F) (drop-cons piece F.fed.used 0 l)) ∙ turn.going
+  pub part_line : P.ended ≡ true → feed_bytes (drop F.fed.used piece) F ≡ feed_bytes (drop P.at piece) (took_line (with_part P F))
+  part_line e = sym (fed.line e)
 
-  -- Q is the part that the code took
-  module _ (Q : PartLeft) (same : Q ≡ part_from F.fed.used (holding F.line F.fed.progress.held) (drop F.fed.used piece)) (on : stopped F ≡ false) where
-    fed : IsFed piece (drop F.fed.used piece) F Q
-    fed = subst (IsFed piece (drop F.fed.used piece) F) (sym same) (part_fed piece (drop F.fed.used piece) F refl on)
+  -- where a line was taken, which left N, it holds of N what holds at each turn
+  pub turn_next : {F₀ N : Feeding} {Q : PartLeft} → AtTurn piece F₀ F → Q ≡ P → Q.ended ≡ true → N ≡ took_line (with_part Q F) → AtTurn piece F₀ N
+  turn_next {F₀} turn same e is =
+      let T : Feeding = took_line (with_part P F) in
+      subst (AtTurn piece F₀) (sym (is ∙ ap (λ (R : PartLeft). took_line (with_part R F)) same)) (record {
+        going = ap (λ (k : ℕ). feed_bytes (drop k piece) T) (took_used (with_part P F)) ∙ sym (part_line (sym (ap (λ (R : PartLeft). R.ended) same) ∙ e)) ∙ turn.going;
+        free = took_free (with_part P F) turn.free;
+        held = omega (arith, took_held (with_part P F));
+      })
 
-    pub turn_held : Q.ended ≡ false → with_part Q F ≡ feed_bytes piece F₀
-    turn_held e = fed.all e ∙ turn.going
-
-    pub part_free : IsFree (with_part Q F)
-    part_free = turn.free
-
-    pub part_held : (with_part Q F).fed.progress.held ≤ line_limit
-    part_held = subst (λ (R : PartLeft). R.buffer.held ≤ line_limit) (sym same) (part_most F.fed.used (holding F.line F.fed.progress.held) (drop F.fed.used piece) turn.held)
-
-    pub part_beyond : F.fed.used < length piece → F.fed.used < Q.at
-    part_beyond l = subst (λ (R : PartLeft). F.fed.used < R.at) (sym same) (part_more F.fed.used (holding F.line F.fed.progress.held) piece l)
-
-    pub part_inside : F.fed.used ≤ length piece → Q.at ≤ length piece
-    part_inside l = subst (λ (R : PartLeft). R.at ≤ length piece) (sym same) (part_within F.fed.used (holding F.line F.fed.progress.held) piece l)
-
-    pub turn_next : Q.ended ≡ true → AtTurn piece F₀ (took_line (with_part Q F))
-    turn_next e = record {
-      going = ap (λ (k : ℕ). feed_bytes (drop k piece) (took_line (with_part Q F))) (took_used (with_part Q F)) ∙ fed.line e ∙ turn.going;
-      free = took_free (with_part Q F) part_free;
-      held = subst (λ (n : ℕ). n ≤ line_limit) (sym (took_held (with_part Q F))) zero-le;
-    }
-
--- ---- the endings of the call
-
-module _ (p : Progress) (links : List ℕ) (B : Lent) (line out piece : List ℕ) (F : Feeding) (turn : AtTurn piece (feeding (fed_of p 0 0) links B line out) F) where
-  -- the piece is used up
-  pub call_ended : length piece ≤ F.fed.used → F ≡ feed_call p links B line out piece
-  call_ended l = turn_end piece (feeding (fed_of p 0 0) links B line out) F turn l ∙ call_is p links B line out piece
-
-  -- the stream has stopped, which b says
-  pub call_stopped : {b : Bool} → F.fed.used < length piece → b ≡ stopped F → b ≡ true → F ≡ feed_call p links B line out piece
-  call_stopped l s e = turn_stopped piece (feeding (fed_of p 0 0) links B line out) F turn l (sym s ∙ e) ∙ call_is p links B line out piece
+-- what is known of the bytes that are left
+pub ruleset bytes = (parts, bytes_stop, bytes_over, part_held_all)

@@ -2,8 +2,6 @@
 pub mod Begins
 -- What the reader's answer says of the line, and the answer to it.
 pub mod Answers
--- A line taken, and the end of the stream.
-pub mod Turns
 -- The bytes of a piece, part by part; what holds at each turn of the loop.
 pub mod Feeds
 -- The lines of an input, and the held bytes of a line.

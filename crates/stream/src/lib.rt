@@ -13,6 +13,7 @@ ghost use Rattle.transcript.specs.Transcript.{lines_limit, update_in};
 ghost use Rattle.stream.specs.Feeding.{stream_begun, begin_call, answer_to, IsReady, feeding, took_line, feed_call, finish_call};
 
 use map::{Record, Room};
+use opening::Notice;
 use update::Returned;
 
 // How far a stream has come: the map's record, the lines answered, and the bytes that the line buffer holds of the next one.
@@ -32,6 +33,7 @@ pub struct Fed {
 }
 
 // Begins a stream: the map is emptied, and no line is read.
+#[tactic(auto, using(crate::proofs::Begins::emptying), unfolding(crate::specs::Feeding::begin_call, map::specs::Empty::empty_given))]
 pub fn begin(links: &mut [u64], pairs: &mut [u64]) -> Progress
     requires { (table_words base ≤ length links.old) × (table_words base ≤ length pairs.old) }
     ensures { stream_begun result links.new pairs.new ≡ begin_call links.old pairs.old }
@@ -48,6 +50,7 @@ pub fn begin(links: &mut [u64], pairs: &mut [u64]) -> Progress
 // ---- a line's answer
 
 // Answers a frame by its kind: the opening of a depot or a yard, or the link of two depots.
+#[tactic(auto, using(notice::proofs::Readings::behind), unfolding(transcript::specs::Transcript::update_in))]
 fn answer_frame(rec: Record, links: &mut [u64], room: &mut Room<'_>, frame: &[u8]) -> Returned
     requires { let long = room_sizes (length links.old) room.old in
         (map_refusal base rec links.old room.old.pairs.now long ≡ 0) × (3 ≤ length frame.now) }
@@ -57,8 +60,12 @@ fn answer_frame(rec: Record, links: &mut [u64], room: &mut Room<'_>, frame: &[u8
 {
     let code = frame[1];
     if notice::opens_depot(frame[0]) {
-        let yard = notice::opens_yard(frame[0]);
-        return opening::open_sound(rec, links, room, yard, code, &frame[3..]);
+        let asked = Notice {
+            yard: notice::opens_yard(frame[0]),
+            code,
+            neighbours: &frame[3..],
+        };
+        return opening::open_sound(rec, links, room, asked);
     }
     linking::link_sound(rec, links, room, code, frame[2])
 }
@@ -79,6 +86,7 @@ fn answer_line(rec: Record, links: &mut [u64], room: &mut Room<'_>, text: &[u8])
 }
 
 // Answers the line that is held, and reports it.
+#[tactic(auto, unfolding(crate::specs::Feeding::took_line))]
 fn take_line(fed: Fed, links: &mut [u64], room: &mut Room<'_>, line: &[u8], out: &mut [u8]) -> Fed
     requires { let long = room_sizes (length links.old) room.old in
         (map_refusal base fed.progress.rec links.old room.old.pairs.now long ≡ 0)
@@ -110,6 +118,7 @@ fn take_line(fed: Fed, links: &mut [u64], room: &mut Room<'_>, line: &[u8], out:
 
 // Feeds a piece of the input: answers each line that ends in it, holds what is left, and writes the reports from the start of `out`. It
 // stops before a line whose report might not fit and after the last line of a stream; what is not used is to be fed again.
+#[tactic(auto, using(crate::proofs::Feeds::bytes), unfolding(crate::specs::Feeding::feed_call, line_buffer::specs::Lines::is_stopped, map::specs::Room::sizes_of))]
 pub fn feed(
     progress: Progress,
     links: &mut [u64],
@@ -155,6 +164,7 @@ pub fn feed(
 }
 
 // Ends the stream: a last stretch that is held is a line too.
+#[tactic(auto, unfolding(crate::specs::Feeding::finish_call, line_buffer::specs::Lines::is_stopped, map::specs::Room::sizes_of))]
 pub fn finish(
     progress: Progress,
     links: &mut [u64],

@@ -6,7 +6,7 @@ use Prim.Native.Nat.{ℕ, zero, suc, ◌+◌, ◌-◌, ◌*◌, ◌^◌, ◌≤�
 use native.Mathlib.Nat.{mul-le-mul, le_refl}
 use native.Mathlib.Omega.{arith}
 use lib.ListN.{length, take, length-append}
-use lib.Seq.{take-take}
+use lib.Seq.{length-take-le, take-take}
 use Rattle.std.specs.Prelude.{Result, Ok, Err}
 use Rattle.std.specs.Result.{MatchResult, IsErrAnd}
 use Rattle.outcome.specs.Refusals.{number_of}
@@ -113,13 +113,16 @@ pasted_long : (text out : List ℕ) → 0 + length text ≤ length (pasted text 
 unfolding pasted overwrite
 pasted_long text out = simp length-append (omega arith)
 
-pub file_fits : (t : Totals) (a : Summing) (out : List ℕ) {r : FilePut} {new : List ℕ} → file_left r new ≡ file_call t a 0 out → r.at ≤ length new
+pub file_fits : (t : Totals) (a : Summing) (out : List ℕ) → (file_call t a 0 out).at ≤ length (file_call t a 0 out).out
 unfolding file_call
-file_fits t a out e = subst (λ (x : FileLeft). x.at ≤ length x.out) (sym e) (pasted_long (summing_text a) out)
+file_fits t a out = pasted_long (summing_text a) out
 
-pub total_fits : (t : Totals) (out : List ℕ) {end : ℕ} {new : List ℕ} → total_left end new ≡ total_call t 0 out → end ≤ length new
+pub total_fits : (t : Totals) (out : List ℕ) → (total_call t 0 out).at ≤ length (total_call t 0 out).out
 unfolding total_call
-total_fits t out e = subst (λ (x : TotalLeft). x.at ≤ length x.out) (sym e) (pasted_long (total_line t) out)
+total_fits t out = pasted_long (total_line t) out
+
+-- for a caller that writes that part
+pub ruleset written_part = (file_fits, total_fits, length-take-le)
 
 -- ---- THE FIRST 1,000 FILES
 

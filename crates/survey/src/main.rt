@@ -47,6 +47,7 @@ fn follow_file(
 }
 
 // Reports on the file that argument i names, followed from an empty map, and adds it to the totals; none if its line cannot be written.
+#[tactic(auto, using(summaries::proofs::Theorems::written_part))]
 fn survey_file(
     rt: &HostRuntime,
     out: &mut [u8],
@@ -103,6 +104,7 @@ fn survey_files(rt: &HostRuntime, out: &mut [u8], input: &mut [u8], count: u32) 
     Some(totals)
 }
 
+#[tactic(auto, using(summaries::proofs::Theorems::written_part))]
 fn main(rt: HostRuntime) {
     let mut out = [0u8; 65536];
     let mut input = [0u8; 65536];

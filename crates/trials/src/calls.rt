@@ -95,14 +95,12 @@ impl Lent {
             even: &mut self.scratch.even,
             odd: &mut odd[..words],
         };
-        let got = lent_opening::open_value(
-            self.rec,
-            &mut self.links,
-            &mut room,
-            false,
-            notice.code,
-            notice.neighbours.items(),
-        );
+        let asked = opening::Notice {
+            yard: false,
+            code: notice.code,
+            neighbours: notice.neighbours.items(),
+        };
+        let got = lent_opening::open_value(self.rec, &mut self.links, &mut room, asked);
         self.rec = got.after;
         Opening {
             answer: answer_of(got.report.outcome),

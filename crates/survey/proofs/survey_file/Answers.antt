@@ -1,9 +1,8 @@
 -- `survey::survey_file` begins each file's stream on zeros of the named sizes, so that it is ready; its line lies in the buffer, and the totals are
 -- those of one file more.
-use Rattle.std.proofs.Common.{◌≤◌, length, arith, rules, tests}
-use Rattle.std.proofs.Math.Seq.{length-take-le}
+use Rattle.std.proofs.Common.{arith, rules, tests}
 use Rattle.stream.proofs.Theorems.{begun_ready}
-use Rattle.summaries.proofs.Theorems.{put_of_files, answered_as, file_fits}
+use Rattle.summaries.proofs.Theorems.{put_of_files, answered_as}
 use Rattle.survey.proofs.survey_file.Goals as goal
 
 pub follow_file-followed-requires : goal.follow_file-followed-requires
@@ -18,14 +17,6 @@ put_file-put-requires c = (
   answered_as _ _ _ _ _ _ c.summarise-answer.ensures.left c.map_err.ensures.cases (λ k n p. search (rules, tests)),
   c.requires.2,
 )
-
-pub slice_bounds-write_out-end : goal.slice_bounds-write_out-end
-slice_bounds-write_out-end c = file_fits _ _ _ c.put_file-put.ensures
-
-pub slice_bounds-write_out-end-2 : goal.slice_bounds-write_out-end-2
-slice_bounds-write_out-end-2 c =
-    let fits : c.put_file-put.result.at ≤ length c.put_file-put.new.out = file_fits _ _ _ c.put_file-put.ensures in
-    search (length-take-le, rules)
 
 pub returns-then-told : goal.returns-then-told
 returns-then-told c = put_of_files _ _ _ _ c.put_file-put.ensures c.requires.1

@@ -1,0 +1,2 @@
+-- what a notice that is handed on asks for
+pub mod Asked
