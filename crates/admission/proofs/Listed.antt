@@ -6,16 +6,16 @@ use Prim.Native.Nat.{ℕ, zero, suc, ◌<◌}
 use native.Mathlib.Omega.{arith}
 use lib.Dec.{ltb}
 use lib.ListN.{length, get_or}
+use Rattle.std.proofs.lemmas.Bool.{and_from}
 use Rattle.std.specs.List.{IsAllAdjacentAnswer}
 use Rattle.std.proofs.Math.Numerals.{add-one}
-use Rattle.lists.proofs.Tests.{and_intro}
 use Rattle.graph.specs.Opening.{strictly_rising}
 
 rising_all : (xs : List ℕ) → ((k : ℕ) → suc k < length xs → ltb (get_or xs k 0) (get_or xs (suc k) 0) ≡ true) → strictly_rising xs ≡ true
 unfolding strictly_rising
 rising_all [] h = refl
 rising_all (x ∷ []) h = refl
-rising_all (x ∷ y ∷ ys) h = and_intro (h 0 (omega arith)) (rising_all (y ∷ ys) (λ k l. h (suc k) (omega arith)))
+rising_all (x ∷ y ∷ ys) h = and_from _ _ (h 0 (omega arith)) (rising_all (y ∷ ys) (λ k l. h (suc k) (omega arith)))
 
 rising_fault : (xs : List ℕ) (k : ℕ) → suc k < length xs → ltb (get_or xs k 0) (get_or xs (suc k) 0) ≡ false → strictly_rising xs ≡ false
 unfolding strictly_rising

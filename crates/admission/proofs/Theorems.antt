@@ -8,8 +8,9 @@ use native.Mathlib.Omega.{arith}
 use lib.Dec.{T, eqb}
 use lib.ListN.{length, get_or}
 use borrow.Author.Tests.{eqb-true}
+use Rattle.std.proofs.lemmas.Bool.{and_parts, or_cases}
 use Rattle.lists.specs.Lists.{range, filterb, anyb, memb, insert_by, overwrite}
-use Rattle.lists.proofs.Tests.{t→true, true→t, clash, and-true, or_true}
+use Rattle.lists.proofs.Tests.{t→true, true→t, clash}
 use Rattle.lists.proofs.Distinct.{insert_filter}
 use Rattle.graph.specs.Opening.{notice_of, open_faults, by_code, with_depot}
 use Rattle.rows.specs.Rows.{row_bit, table_bit, encode_table}
@@ -36,7 +37,7 @@ linked_is W members yards links y code ns = refl
 memb_below : (n v : ℕ) (ns : List ℕ) → ((k : ℕ) → k < length ns → get_or ns k 0 < n) → memb v ns ≡ true → v < n
 unfolding memb anyb
 memb_below n v [] h e = absurd (clash e refl)
-memb_below n v (x ∷ xs) h e = go (or_true (eqb v x) (memb v xs) e) (memb_below n v xs (λ k l. h (suc k) (omega arith)))
+memb_below n v (x ∷ xs) h e = go (or_cases (eqb v x) (memb v xs) e) (memb_below n v xs (λ k l. h (suc k) (omega arith)))
   where
     go : (eqb v x ≡ true) ⊎ (memb v xs ≡ true) → (memb v xs ≡ true → v < n) → v < n
     go (inl q) rest = let l : x < n = h 0 (omega arith) in omega (arith, eqb-true v x q)
@@ -46,19 +47,19 @@ module _ (W code : ℕ) (ns : List ℕ) (low : code < 64 * W) (lows : (k : ℕ) 
   -- every link lies within the table
   link_below : (u v : ℕ) → (eqb u code && memb v ns) ≡ true → (u < 64 * W) × (v < 64 * W)
   link_below u v e =
-      let b = and-true (eqb u code) (memb v ns) e in
+      let b = and_parts (eqb u code) (memb v ns) e in
       (omega (arith, eqb-true u code b.0), memb_below (64 * W) v ns lows b.1)
 
   links_below : (links : List ℕ) (u v : ℕ) → T ((eqb u code && memb v ns) || (eqb v code && memb u ns) || table_bit W links u v) → (u < 64 * W) × (v < 64 * W)
   unfolding network_of
-  links_below links u v t = go (or_true _ (table_bit W links u v) (t→true _ t))
+  links_below links u v t = go (or_cases _ (table_bit W links u v) (t→true _ t))
     where
       new : ((eqb u code && memb v ns) ≡ true) ⊎ ((eqb v code && memb u ns) ≡ true) → (u < 64 * W) × (v < 64 * W)
       new (inl e) = link_below u v e
       new (inr e) = let l = link_below v u e in (l.1, l.0)
 
       go : (((eqb u code && memb v ns) || (eqb v code && memb u ns)) ≡ true) ⊎ (table_bit W links u v ≡ true) → (u < 64 * W) × (v < 64 * W)
-      go (inl e) = new (or_true (eqb u code && memb v ns) (eqb v code && memb u ns) e)
+      go (inl e) = new (or_cases (eqb u code && memb v ns) (eqb v code && memb u ns) e)
       go (inr e) = network_linked_below W [] links u v (true→t e)
 
   -- THE NEW NETWORK: an open set with the code put, a yard set with it too where a yard opens, and the table that `link_depot` leaves

@@ -11,8 +11,9 @@ use native.Mathlib.Omega.{arith}
 use lib.Dec.{eqb}
 use lib.ListN.{length, get_or, drop}
 use borrow.Author.Tests.{ltb-true}
+use Rattle.std.proofs.lemmas.Bool.{and_parts}
 use Rattle.lists.specs.Lists.{from, range, filterb, allb}
-use Rattle.lists.proofs.Tests.{and-true, clash}
+use Rattle.lists.proofs.Tests.{clash}
 use Rattle.lists.proofs.Members.{filter-ext, filter-all, filter-twice}
 use Rattle.lists.proofs.Scans.{all-at}
 use Rattle.words.specs.Bits.{bit, word_of}
@@ -122,7 +123,7 @@ entries_codes input e m = entry_code 0 (lines_of input) m
 pub entries_length : (n : ℕ) (ls : List (List ℕ)) → allb is_opening ls ≡ true → length (entries_from n ls) ≡ length ls
 unfolding entries_from entry_before allb
 entries_length n [] h = refl
-entries_length n (l ∷ ls) h = go (notice_in (read_line l)) refl (and-true (is_opening l) (allb is_opening ls) h) (λ a. entries_length (suc n) ls a)
+entries_length n (l ∷ ls) h = go (notice_in (read_line l)) refl (and_parts (is_opening l) (allb is_opening ls) h) (λ a. entries_length (suc n) ls a)
   where
     go : (x : Option Notice) → notice_in (read_line l) ≡ x → (is_opening l ≡ true) × (allb is_opening ls ≡ true) → (allb is_opening ls ≡ true → length (entries_from (suc n) ls) ≡ length ls)
         → length (entries_from n (l ∷ ls)) ≡ suc (length ls)
@@ -133,7 +134,7 @@ entries_length n (l ∷ ls) h = go (notice_in (read_line l)) refl (and-true (is_
 waiting_numbers : (taken n : ℕ) (ls : List (List ℕ)) → allb is_opening ls ≡ true → numbers_of (waiting_of taken (entries_from n ls)) ≡ filterb (λ i. not (bit taken i)) (from n (length ls))
 unfolding entries_from entry_before allb waiting_of filterb from numbers_of
 waiting_numbers taken n [] h = refl
-waiting_numbers taken n (l ∷ ls) h = go (notice_in (read_line l)) refl (and-true (is_opening l) (allb is_opening ls) h) (λ a. waiting_numbers taken (suc n) ls a)
+waiting_numbers taken n (l ∷ ls) h = go (notice_in (read_line l)) refl (and_parts (is_opening l) (allb is_opening ls) h) (λ a. waiting_numbers taken (suc n) ls a)
   where
     others : List ℕ
     others = filterb (λ i. not (bit taken i)) (from (suc n) (length ls))

@@ -8,10 +8,10 @@ use native.Mathlib.Omega.{arith}
 use lib.Dec.{eqb}
 use lib.ListN.{length, get_or, take, drop, take-append-drop, length-append, length-drop, drop_of_length-le}
 use lib.Seq.{append_snoc, drop-drop}
+use Rattle.std.proofs.lemmas.Bool.{and_parts}
 use Rattle.std.specs.Prelude.{Some, None}
 use Rattle.std.specs.Bool.{then_some}
 use Rattle.lists.specs.Lists.{allb}
-use Rattle.lists.proofs.Tests.{and-true}
 use Rattle.lists.proofs.Appends.{append_none, append_append}
 use Rattle.graph.specs.Opening.{notice_of}
 use Rattle.graph.specs.Batch.{entry_of}
@@ -31,7 +31,7 @@ lines_digits : (ds rest : List ℕ) → allb is_digit ds ≡ true → lines_of (
 unfolding lines_of onto allb
 lines_digits [] rest h = refl
 lines_digits (d ∷ ds) rest h =
-    let p = and-true (is_digit d) (allb is_digit ds) h in
+    let p = and_parts (is_digit d) (allb is_digit ds) h in
     rw (digit_no_end d p.0) (ap (onto d) (lines_digits ds rest p.1))
 
 -- the line of a frame is the first, whatever stands behind it

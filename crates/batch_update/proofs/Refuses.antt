@@ -6,8 +6,8 @@ use Prim.Native.Nat.{ℕ, ◌≤◌, ◌<◌}
 use lib.Dec.{leb, ltb}
 use lib.ListN.{length}
 use borrow.Author.Tests.{not-false, leb-true, ltb-true, ltb-false}
+use Rattle.std.proofs.lemmas.Bool.{and_parts}
 use Rattle.lists.specs.Lists.{allb, first_of}
-use Rattle.lists.proofs.Tests.{and-true}
 use Rattle.lists.proofs.Members.{first_zero, first_kept, first_passed}
 use Rattle.rows.specs.Rows.{table_bit}
 use Rattle.graph.specs.Network.{Network}
@@ -26,7 +26,7 @@ use Rattle.batch_update.specs.BatchCall.{batch_refusal}
 -- ---- the sizes
 
 pub long_both : (K : Shape) (z : Sizes) (m : ℕ) {b : Bool} → b ≡ (leb batch_limit m && long_enough K z) → b ≡ true → long_enough K z ≡ true
-long_both K z m e h = (and-true (leb batch_limit m) (long_enough K z) (sym e ∙ h)).1
+long_both K z m e h = (and_parts (leb batch_limit m) (long_enough K z) (sym e ∙ h)).1
 
 -- what no refusal says: the places, the lent map, the lines
 pub record IsGranted (K : Shape) (rec : Record) (links pairs : List ℕ) (z : Sizes) (m : ℕ) (input : List ℕ) : Type 0 where
@@ -71,8 +71,8 @@ module _ (K : Shape) (rec : Record) (links pairs : List ℕ) (z : Sizes) (m : �
       let d = first_zero (ltb batch_limit (length (lines_of input))) 10 _ c.1 in
       let e = first_zero (not (ltb 0 (length (vertices G)))) 11 _ d.1 in
       let f = first_zero (not (allb is_opening (lines_of input))) 8 _ e.1 in
-      let s = and-true (sound_links (places K) G rec.number) (sound_figures (places K) G (table_bit K.words pairs) rec.chain rec.count) (not-false sound b.0) in
-      let l = and-true (leb batch_limit m) (long_enough K z) (not-false long a.0) in
+      let s = and_parts (sound_links (places K) G rec.number) (sound_figures (places K) G (table_bit K.words pairs) rec.chain rec.count) (not-false sound b.0) in
+      let l = and_parts (leb batch_limit m) (long_enough K z) (not-false long a.0) in
       record {
         room = leb-true batch_limit m l.0;
         free = sym (refused_never K rec links pairs z l.1 s.0 s.1 (not-false (connected G) c.0));

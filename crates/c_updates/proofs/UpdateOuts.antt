@@ -5,8 +5,8 @@ use mathlib.Core.List.{List, ◌∷◌}
 use Prim.Native.Nat.{ℕ, zero, suc, ◌≤◌, ◌<◌}
 use lib.ListN.{length, get_or}
 use borrow.Author.Tests.{lt-ltb, le-ltb, not-false}
+use Rattle.std.proofs.lemmas.Bool.{and_parts}
 use Rattle.lists.specs.Lists.{overwrite, first_of}
-use Rattle.lists.proofs.Tests.{and-true}
 use Rattle.lists.proofs.Members.{first_zero}
 use Rattle.graph.specs.Distance.{connected}
 use Rattle.graph.specs.Updates.{Update, update_faults}
@@ -67,7 +67,7 @@ module _ (l links : List ℕ) (B : Lent) (o : Update) (old : ℕ) where
       let P = table_bit 4 B.pairs in
       let a = first_zero (not (long_enough base (sizes_of links B))) 0 _ e in
       let b = first_zero (not (sound_links 256 N (get_or l 4 0) && sound_figures 256 N P (get_or l 5 0) (get_or l 6 0))) 1 _ a.1 in
-      let c = and-true (sound_links 256 N (get_or l 4 0)) (sound_figures 256 N P (get_or l 5 0) (get_or l 6 0)) (not-false _ b.0) in
+      let c = and_parts (sound_links 256 N (get_or l 4 0)) (sound_figures 256 N P (get_or l 5 0) (get_or l 6 0)) (not-false _ b.0) in
       let f = figures-fit N P (get_or l 5 0) (get_or l 6 0) c.1 in
       rw (number_fits N (get_or l 4 0) c.0, f.0, f.1)
 

@@ -9,8 +9,8 @@ use native.Mathlib.Omega.{arith}
 use lib.Dec.{eqb, ltb, leb}
 use lib.ListN.{get_or, take, drop}
 use borrow.Author.Tests.{leb-true, leb-false, eqb-true, ltb-true, ne_eqb, le-ltb, not-false}
+use Rattle.std.proofs.lemmas.Bool.{and_parts}
 use Rattle.lists.specs.Lists.{range, countb, first_of}
-use Rattle.lists.proofs.Tests.{and-true}
 use Rattle.lists.proofs.Counts.{count_le_length}
 use Rattle.lists.proofs.Members.{length-range, first_zero}
 use Rattle.graph.specs.Network.{Network}
@@ -72,15 +72,15 @@ module _ (G : Network) where
   unfolding sound_links
   number_fits n e =
       let opened = countb G.is_open (range 256) in
-      let a = and-true (eqb n opened && sound_yards 256 G) (all_set 256 G.linked (sound_link G)) e in
-      let q = eqb-true n opened (and-true (eqb n opened) (sound_yards 256 G) a.0).0 in
+      let a = and_parts (eqb n opened && sound_yards 256 G) (all_set 256 G.linked (sound_link G)) e in
+      let q = eqb-true n opened (and_parts (eqb n opened) (sound_yards 256 G) a.0).0 in
       omega (arith, q, few_open)
 
   pub figures-fit : (P : Pairs) (c k : ℕ) → sound_figures 256 G P c k ≡ true → (min c 65535 ≡ c) × (min k 4294967295 ≡ k)
   unfolding sound_figures
   figures-fit P c k e =
-      let a = and-true (all_set 256 P (sound_pair G) && eqb k (count_pairs (range 256) P)) (ltb c 256) e in
-      let b = and-true (all_set 256 P (sound_pair G)) (eqb k (count_pairs (range 256) P)) a.0 in
+      let a = and_parts (all_set 256 P (sound_pair G) && eqb k (count_pairs (range 256) P)) (ltb c 256) e in
+      let b = and_parts (all_set 256 P (sound_pair G)) (eqb k (count_pairs (range 256) P)) a.0 in
       let q = eqb-true k (count_pairs (range 256) P) b.1 in
       let r = ltb-true c 256 a.1 in
       (omega (arith, r), omega (arith, q, few_pairs P))
@@ -121,6 +121,6 @@ module _ (l links pairs : List ℕ) (z : Sizes) where
       let figures-sound = sound_figures 256 N P (get_or l 5 0) (get_or l 6 0) in
       let a = first_zero (not (long_enough base z)) 0 ((not (links-sound && figures-sound), 2) ∷ (not (connected N), 3) ∷ []) e in
       let b = first_zero (not (links-sound && figures-sound)) 1 ((not (connected N), 3) ∷ []) a.1 in
-      let c = and-true links-sound figures-sound (not-false _ b.0) in
+      let c = and_parts links-sound figures-sound (not-false _ b.0) in
       let f = figures-fit N P (get_or l 5 0) (get_or l 6 0) c.1 in
       rw (number_fits N (get_or l 4 0) c.0, f.0, f.1)

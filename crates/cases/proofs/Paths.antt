@@ -8,8 +8,9 @@ use native.Mathlib.Omega.{arith}
 use lib.Dec.{T, eqb, ltb}
 use lib.ListN.{length}
 use borrow.Author.Tests.{ltb-true, lt-ltb, le-ltb, eqb-true, eq-eqb}
+use Rattle.std.proofs.lemmas.Bool.{and_parts, and_from, or_cases, or_left, or_right}
 use Rattle.lists.specs.Lists.{range, filterb, memb, distinct}
-use Rattle.lists.proofs.Tests.{t→true, true→t, and-true, and_intro, or_true, or_left, or_right}
+use Rattle.lists.proofs.Tests.{t→true, true→t}
 use Rattle.lists.proofs.Members.{filter-all, range_out, length-range}
 use Rattle.lists.proofs.Distinct.{memb-range, distinct-range}
 use Rattle.graph.specs.Network.{IsSound, Walk, stay, step}
@@ -25,9 +26,9 @@ use Rattle.update.proofs.Memories.{IsHeld}
 linked_is : (k u v : ℕ) → T ((path k).linked u v) → (u < k) × (v < k) × ((suc u ≡ v) ⊎ (u ≡ suc v))
 unfolding path
 linked_is k u v h =
-    let p = and-true (ltb u k && ltb v k) (eqb (suc u) v || eqb u (suc v)) (t→true (ltb u k && ltb v k && (eqb (suc u) v || eqb u (suc v))) h) in
-    let q = and-true (ltb u k) (ltb v k) p.0 in
-    (ltb-true u k q.0, ltb-true v k q.1, go (or_true (eqb (suc u) v) (eqb u (suc v)) p.1))
+    let p = and_parts (ltb u k && ltb v k) (eqb (suc u) v || eqb u (suc v)) (t→true (ltb u k && ltb v k && (eqb (suc u) v || eqb u (suc v))) h) in
+    let q = and_parts (ltb u k) (ltb v k) p.0 in
+    (ltb-true u k q.0, ltb-true v k q.1, go (or_cases (eqb (suc u) v) (eqb u (suc v)) p.1))
   where
     go : (eqb (suc u) v ≡ true) ⊎ (eqb u (suc v) ≡ true) → (suc u ≡ v) ⊎ (u ≡ suc v)
     go (inl e) = inl (eqb-true (suc u) v e)
@@ -35,11 +36,11 @@ linked_is k u v h =
 
 linked_by_lem : (k u v : ℕ) → u < k → v < k → (suc u ≡ v) ⊎ (u ≡ suc v) → T ((path k).linked u v)
 unfolding path
-linked_by_lem k u v l m e = true→t (and_intro (and_intro (lt-ltb u k l) (lt-ltb v k m)) (go e))
+linked_by_lem k u v l m e = true→t (and_from _ _ (and_from _ _ (lt-ltb u k l) (lt-ltb v k m)) (go e))
   where
     go : (suc u ≡ v) ⊎ (u ≡ suc v) → (eqb (suc u) v || eqb u (suc v)) ≡ true
-    go (inl e) = or_left (eqb u (suc v)) (eq-eqb (suc u) v e)
-    go (inr e) = or_right (eqb (suc u) v) (eq-eqb u (suc v) e)
+    go (inl e) = or_left _ (eqb u (suc v)) (eq-eqb (suc u) v e)
+    go (inr e) = or_right (eqb (suc u) v) _ (eq-eqb u (suc v) e)
 
 open_is : (k u : ℕ) → T ((path k).is_open u) → u < k
 unfolding path

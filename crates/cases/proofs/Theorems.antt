@@ -9,8 +9,8 @@ use Prim.Native.Nat.{ℕ, suc, ◌≤◌, zero-le}
 use lib.Dec.{eqb, ltb, lit≤}
 use lib.ListN.{length}
 use borrow.Author.Tests.{le-ltb, le-leb, ltb-true}
+use Rattle.std.proofs.lemmas.Bool.{and_parts}
 use Rattle.lists.specs.Lists.{range, allb, countb, mapl, overwrite, first_of}
-use Rattle.lists.proofs.Tests.{and-true}
 use Rattle.lists.proofs.Members.{filter-ext, filter_none}
 use Rattle.rows.specs.Rows.{encode_row, encode_table}
 use Rattle.graph.specs.Chart.{chart, count_pairs}
@@ -97,7 +97,7 @@ opens_bytes (joins a b) = true
 within_of : (cs : List LentUpdate) → allb opens_bytes (updates_of cs) ≡ true → AreWithin cs
 unfolding updates_of allb opens_bytes
 within_of [] h c m = absurd (Memᴰ.not-nil m)
-within_of (d ∷ cs) h c m = go (and-true (opens_bytes d.update) (allb opens_bytes (updates_of cs)) h) (Memᴰ.cases_cons m) (within_of cs)
+within_of (d ∷ cs) h c m = go (and_parts (opens_bytes d.update) (allb opens_bytes (updates_of cs)) h) (Memᴰ.cases_cons m) (within_of cs)
   where
     low : (u : Update) → opens_bytes u ≡ true → IsWithin base u
     low (opens o) k = ltb-true o.code 256 k

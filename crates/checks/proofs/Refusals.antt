@@ -6,7 +6,7 @@ use Prim.Native.Nat.{ℕ, ◌*◌, ◌<◌}
 use native.Mathlib.Omega.{arith}
 use lib.ListN.{length}
 use borrow.Author.Tests.{not-true, not-false}
-use Rattle.lists.proofs.Tests.{and-true}
+use Rattle.std.proofs.lemmas.Bool.{and_parts}
 use Rattle.lists.proofs.Conditions.{Decides, decides_iff, decides_not, decides_nand, Tells}
 use Rattle.graph.specs.Network.{Network}
 use Rattle.graph.specs.Distance.{vertices, unreached, connected}
@@ -53,4 +53,4 @@ module _ (W : ℕ) (most : W < 513) (members yards links : List ℕ) (number : �
         let a = sound_links (64 * W) G number in
         let b = sound_figures (64 * W) G P chain count in
         let figures = decides_iff (sound_figures_iff (64 * W) G P chain count) in
-        (refl, decides_nand a b decides_links figures, λ f. (refl, decides_apart (and-true a b (not-false (a && b) f)).0, λ g. rest))
+        (refl, decides_nand a b decides_links figures, λ f. (refl, decides_apart (and_parts a b (not-false (a && b) f)).0, λ g. rest))

@@ -10,7 +10,8 @@ use native.Mathlib.Omega.{arith}
 use lib.Dec.{eqb}
 use lib.ListN.{get_or}
 use borrow.Author.Tests.{ne_eqb}
-use Rattle.lists.proofs.Tests.{clash, lt_or_ge, eq_or_ne, and-true}
+use Rattle.std.proofs.lemmas.Bool.{cases_lt, cases_eq, and_parts}
+use Rattle.lists.proofs.Tests.{clash}
 use Rattle.words.specs.Bits.{bit}
 use Rattle.words.specs.Least.{IsLeast, WithoutLeast}
 use Rattle.words.proofs.Bits.{bit_of_zero, bit-word_of}
@@ -55,8 +56,8 @@ pub bits_next : {test : ℕ → ℕ → Bool} {u w x₀ x y b : ℕ} {f r : Bool
     → r ≡ test u (64 * w + b) → r ≡ true → BitsDone test u w x₀ f y
 bits_next {test} {u} {w} {x₀} {x} {y} {b} i l d a ok = record {
   fine = i.fine;
-  inside = λ k m h. i.inside k m (and-true (bit x k) (not (eqb k b)) (sym (left k m) ∙ h)).0;
-  passed = λ k m h. on k m (eq_or_ne k b) (i.passed k m h);
+  inside = λ k m h. i.inside k m (and_parts (bit x k) (not (eqb k b)) (sym (left k m) ∙ h)).0;
+  passed = λ k m h. on k m (cases_eq k b) (i.passed k m h);
 }
   where
     left : (k : ℕ) → k < 64 → bit y k ≡ (bit x k && not (eqb k b))
@@ -84,7 +85,7 @@ words_next {W} {t} {test} {u} {w} {x} i j z d h = record {
   fine = j.fine;
   within = omega arith;
   fits = i.fits;
-  passed = λ v l e. go v e (lt_or_ge v (64 * w)) l;
+  passed = λ v l e. go v e (cases_lt v (64 * w)) l;
 }
   where
     here : (b : ℕ) → b < 64 → table_bit W t u (64 * w + b) ≡ true → test u (64 * w + b) ≡ true
@@ -108,7 +109,7 @@ rows_start = record { fine = refl; within = omega arith; passed = λ p v l. absu
 -- no word of the next row is left
 pub rows_next : {W : ℕ} {t : List ℕ} {test : ℕ → ℕ → Bool} {u w : ℕ} {f g : Bool} → RowsDone W t test f u → WordsDone W t test u g w
     → W ≤ w → u < 64 * W → RowsDone W t test g (u + 1)
-rows_next {W} {t} {test} {u} {w} i j z d = record { fine = j.fine; within = omega arith; passed = λ p v l m e. go p v m e (lt_or_ge p u) l }
+rows_next {W} {t} {test} {u} {w} i j z d = record { fine = j.fine; within = omega arith; passed = λ p v l m e. go p v m e (cases_lt p u) l }
   where
     go : (p v : ℕ) → v < 64 * W → table_bit W t p v ≡ true → (p < u) ⊎ (u ≤ p) → p < u + 1 → test p v ≡ true
     go p v m e (inl k) l = i.passed p v k m e

@@ -7,10 +7,11 @@ use Prim.Native.Nat.{ℕ, ◌*◌, ◌<◌}
 use native.Mathlib.Omega.{arith}
 use lib.Dec.{T, eqb, ltb}
 use borrow.Author.Tests.{ltb-true, lt-ltb, eqb-true, eqb-false, eq-eqb, ne_eqb, not-true}
+use Rattle.std.proofs.lemmas.Bool.{cases_Bool, and_parts, and_from, or_cases, or_left, or_right}
 use Rattle.lists.specs.Lists.{range, countb, overwrite}
 use Rattle.lists.proofs.Counts.{count_none, sum_none}
 use Rattle.lists.proofs.Members.{all_intro, all_elim, range_in}
-use Rattle.lists.proofs.Tests.{look, t→true, true→t, false→not, and-true, and_intro, or_true, or_left, or_right}
+use Rattle.lists.proofs.Tests.{t→true, true→t, false→not}
 use Rattle.rows.specs.Rows.{row_bit, table_bit, encode_row}
 use Rattle.graph.specs.Network.{Network, delivers}
 use Rattle.graph.specs.Chart.{Pairs, count_pairs}
@@ -31,7 +32,7 @@ module _ (W : ℕ) (members yards links : List ℕ) (number : ℕ) where
   -- every yard is open: the test, and what it means
   yards_of : sound_yards (64 * W) G ≡ true → (v : ℕ) → T (G.is_yard v) → T (G.is_open v)
   unfolding sound_yards
-  yards_of h v t = go (or_true (not (G.is_yard v)) (G.is_open v) (all_elim (λ v. not (G.is_yard v) || G.is_open v) (range (64 * W)) h (range_in (64 * W) below)))
+  yards_of h v t = go (or_cases (not (G.is_yard v)) (G.is_open v) (all_elim (λ v. not (G.is_yard v) || G.is_open v) (range (64 * W)) h (range_in (64 * W) below)))
     where
       below : v < 64 * W
       below = network_yard_below W members yards links v t
@@ -42,11 +43,11 @@ module _ (W : ℕ) (members yards links : List ℕ) (number : ℕ) where
 
   yards_if : ((v : ℕ) → T (G.is_yard v) → T (G.is_open v)) → sound_yards (64 * W) G ≡ true
   unfolding sound_yards
-  yards_if are = all_intro (λ v. not (G.is_yard v) || G.is_open v) (range (64 * W)) (λ v m. one v (look (G.is_yard v)))
+  yards_if are = all_intro (λ v. not (G.is_yard v) || G.is_open v) (range (64 * W)) (λ v m. one v (cases_Bool (G.is_yard v)))
     where
       one : (v : ℕ) → (G.is_yard v ≡ true) ⊎ (G.is_yard v ≡ false) → (not (G.is_yard v) || G.is_open v) ≡ true
-      one v (inl t) = or_right (not (G.is_yard v)) (t→true (G.is_open v) (are v (true→t t)))
-      one v (inr f) = or_left (G.is_open v) (ap not f)
+      one v (inl t) = or_right (not (G.is_yard v)) _ (t→true (G.is_open v) (are v (true→t t)))
+      one v (inr f) = or_left _ (G.is_open v) (ap not f)
 
   links_sound_of : sound_links (64 * W) G number ≡ true → AreLinksSound (64 * W) G number
   unfolding sound_links sound_link
@@ -63,25 +64,25 @@ module _ (W : ℕ) (members yards links : List ℕ) (number : ℕ) where
   }
     where
       both : (eqb number (countb G.is_open (range (64 * W))) && sound_yards (64 * W) G ≡ true) × (all_set (64 * W) G.linked (sound_link G) ≡ true)
-      both = and-true (eqb number (countb G.is_open (range (64 * W))) && sound_yards (64 * W) G) (all_set (64 * W) G.linked (sound_link G)) h
+      both = and_parts (eqb number (countb G.is_open (range (64 * W))) && sound_yards (64 * W) G) (all_set (64 * W) G.linked (sound_link G)) h
 
       all : (eqb number (countb G.is_open (range (64 * W))) ≡ true) × (sound_yards (64 * W) G ≡ true)
-      all = and-true (eqb number (countb G.is_open (range (64 * W)))) (sound_yards (64 * W) G) both.0
+      all = and_parts (eqb number (countb G.is_open (range (64 * W)))) (sound_yards (64 * W) G) both.0
 
       parts : (u v : ℕ) → T (G.linked u v) → (G.is_open v ≡ true) × (not (eqb u v) ≡ true) × (G.linked v u ≡ true)
       parts u v l =
           let r = network_linked_below W members links u v l in
           let y : sound_link G u v ≡ true = all_set_elim (64 * W) G.linked (sound_link G) both.1 u v r.0 r.1 (t→true (G.linked u v) l) in
-          let a = and-true (G.is_open u && G.is_open v && not (eqb u v)) (G.linked v u) y in
-          let b = and-true (G.is_open u && G.is_open v) (not (eqb u v)) a.0 in
-          let c = and-true (G.is_open u) (G.is_open v) b.0 in
+          let a = and_parts (G.is_open u && G.is_open v && not (eqb u v)) (G.linked v u) y in
+          let b = and_parts (G.is_open u && G.is_open v) (not (eqb u v)) a.0 in
+          let c = and_parts (G.is_open u) (G.is_open v) b.0 in
           (c.1, b.1, a.1)
 
   links_sound_if : AreLinksSound (64 * W) G number → sound_links (64 * W) G number ≡ true
   unfolding sound_links sound_link
   links_sound_if s =
-      and_intro {a = eqb number (countb G.is_open (range (64 * W))) && sound_yards (64 * W) G}
-      (and_intro {a = eqb number (countb G.is_open (range (64 * W)))} (eq-eqb number (countb G.is_open (range (64 * W))) s.counted) (yards_if s.is_sound.yards))
+      and_from _ _ {a = eqb number (countb G.is_open (range (64 * W))) && sound_yards (64 * W) G}
+      (and_from _ _ {a = eqb number (countb G.is_open (range (64 * W)))} (eq-eqb number (countb G.is_open (range (64 * W))) s.counted) (yards_if s.is_sound.yards))
       (all_set_intro (64 * W) G.linked (sound_link G) (λ u v l m e. one u v e))
     where
       one : (u v : ℕ) → G.linked u v ≡ true → sound_link G u v ≡ true
@@ -128,16 +129,16 @@ module _ (n : ℕ) (G : Network) (P : Pairs) (chain count : ℕ) where
   }
     where
       all : (all_set n P (sound_pair G) && counted ≡ true) × (ltb chain n ≡ true)
-      all = and-true (all_set n P (sound_pair G) && counted) (ltb chain n) h
+      all = and_parts (all_set n P (sound_pair G) && counted) (ltb chain n) h
 
       both : (all_set n P (sound_pair G) ≡ true) × (counted ≡ true)
-      both = and-true (all_set n P (sound_pair G)) counted all.0
+      both = and_parts (all_set n P (sound_pair G)) counted all.0
 
       parts : (u v : ℕ) → u < n → v < n → T (P u v) → (u < v) × T (delivers G u) × T (delivers G v)
       parts u v l m p =
           let y : sound_pair G u v ≡ true = all_set_elim n P (sound_pair G) both.0 u v l m (t→true (P u v) p) in
-          let a = and-true (ltb u v && delivers G u) (delivers G v) y in
-          let b = and-true (ltb u v) (delivers G u) a.0 in
+          let a = and_parts (ltb u v && delivers G u) (delivers G v) y in
+          let b = and_parts (ltb u v) (delivers G u) a.0 in
           (ltb-true u v b.0, true→t b.1, true→t a.1)
 
   figures_sound_if : AreFiguresSound n G P chain count → sound_figures n G P chain count ≡ true

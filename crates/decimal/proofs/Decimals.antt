@@ -7,8 +7,8 @@ use native.Mathlib.Omega.{arith}
 use lib.Dec.{ltb}
 use lib.ListN.{length, length-append}
 use borrow.Author.Tests.{lt-ltb}
+use Rattle.std.proofs.lemmas.Bool.{and_parts, and_from}
 use Rattle.lists.specs.Lists.{allb}
-use Rattle.lists.proofs.Tests.{and-true, and_intro}
 use Rattle.decimal.specs.Decimal.{numeral, spell, decimal}
 
 -- ---- one step
@@ -90,7 +90,7 @@ is_graph c = ltb 32 c
 all_append : (p : ℕ → Bool) (xs ys : List ℕ) → allb p xs ≡ true → allb p ys ≡ true → allb p (xs ++ ys) ≡ true
 unfolding allb
 all_append p [] ys h k = k
-all_append p (x ∷ xs) ys h k = let q = and-true (p x) (allb p xs) h in and_intro q.0 (all_append p xs ys q.1 k)
+all_append p (x ∷ xs) ys h k = let q = and_parts (p x) (allb p xs) h in and_from _ _ q.0 (all_append p xs ys q.1 k)
 
 graph_numeral : (d : ℕ) → allb is_graph (numeral d ∷ []) ≡ true
 unfolding allb is_graph

@@ -10,8 +10,9 @@ use lib.Bits.{bit_or}
 use lib.Dec.{eqb, ltb}
 use lib.ListN.{length, get_or, set}
 use borrow.Author.Tests.{eqb-true, eq-eqb, ne_eqb, lt-ltb, le-ltb}
+use Rattle.std.proofs.lemmas.Bool.{and_parts, and_from, or_cases, or_left, or_right}
 use Rattle.lists.specs.Lists.{range, mapl, anyb, overwrite}
-use Rattle.lists.proofs.Tests.{and-true, and_intro, or_true, or_left, or_right, same_test}
+use Rattle.lists.proofs.Tests.{same_test}
 use Rattle.lists.proofs.Members.{any_none, any_intro, any_elim, any_ext, range_in, range_out}
 use Rattle.lists.proofs.Fills.{fill_ext, fill_at, length_fill, overwrite_twice}
 use Rattle.lists.proofs.Buffers.{fill_whole, fill_put}
@@ -96,7 +97,7 @@ module _ (W : ℕ) (links : List ℕ) (k : ℕ) where
   linked_none v = any_none (λ u. false && table_bit W links u v) (range (64 * W)) (λ u m. refl)
 
   linked_one : (m : ℕ) → m < 64 * W → (v : ℕ) → linked_to (λ u. eqb u m) v ≡ table_bit W links m v
-  linked_one m l v = same_test (linked_to (λ u. eqb u m) v) (table_bit W links m v) to (λ h. any_intro p (range (64 * W)) (range_in (64 * W) l) (and_intro (eq-eqb m m refl) h))
+  linked_one m l v = same_test (linked_to (λ u. eqb u m) v) (table_bit W links m v) to (λ h. any_intro p (range (64 * W)) (range_in (64 * W) l) (and_from _ _ (eq-eqb m m refl) h))
     where
       p : ℕ → Bool
       p u = eqb u m && table_bit W links u v
@@ -104,11 +105,11 @@ module _ (W : ℕ) (links : List ℕ) (k : ℕ) where
       to : linked_to (λ u. eqb u m) v ≡ true → table_bit W links m v ≡ true
       to h =
           let y = any_elim p (range (64 * W)) h in
-          let z = and-true (eqb y.0 m) (table_bit W links y.0 v) y.2 in
+          let z = and_parts (eqb y.0 m) (table_bit W links y.0 v) y.2 in
           subst (λ (u : ℕ). table_bit W links u v ≡ true) (eqb-true y.0 m z.0) z.1
 
   linked_both : (S R : ℕ → Bool) (v : ℕ) → (linked_to S v || linked_to R v) ≡ linked_to (λ u. S u || R u) v
-  linked_both S R v = same_test (linked_to S v || linked_to R v) (linked_to (λ u. S u || R u) v) (λ h. to (or_true (linked_to S v) (linked_to R v) h)) back
+  linked_both S R v = same_test (linked_to S v || linked_to R v) (linked_to (λ u. S u || R u) v) (λ h. to (or_cases (linked_to S v) (linked_to R v) h)) back
     where
       p : (ℕ → Bool) → ℕ → Bool
       p Q u = Q u && table_bit W links u v
@@ -116,22 +117,22 @@ module _ (W : ℕ) (links : List ℕ) (k : ℕ) where
       to : (linked_to S v ≡ true) ⊎ (linked_to R v ≡ true) → linked_to (λ u. S u || R u) v ≡ true
       to (inl h) =
           let y = any_elim (p S) (range (64 * W)) h in
-          let z = and-true (S y.0) (table_bit W links y.0 v) y.2 in
-          any_intro (p (λ u. S u || R u)) (range (64 * W)) y.1 (and_intro (or_left (R y.0) z.0) z.1)
+          let z = and_parts (S y.0) (table_bit W links y.0 v) y.2 in
+          any_intro (p (λ u. S u || R u)) (range (64 * W)) y.1 (and_from _ _ (or_left _ (R y.0) z.0) z.1)
       to (inr h) =
           let y = any_elim (p R) (range (64 * W)) h in
-          let z = and-true (R y.0) (table_bit W links y.0 v) y.2 in
-          any_intro (p (λ u. S u || R u)) (range (64 * W)) y.1 (and_intro (or_right (S y.0) z.0) z.1)
+          let z = and_parts (R y.0) (table_bit W links y.0 v) y.2 in
+          any_intro (p (λ u. S u || R u)) (range (64 * W)) y.1 (and_from _ _ (or_right (S y.0) _ z.0) z.1)
 
       back : linked_to (λ u. S u || R u) v ≡ true → (linked_to S v || linked_to R v) ≡ true
       back h =
           let y = any_elim (p (λ u. S u || R u)) (range (64 * W)) h in
-          let z = and-true (S y.0 || R y.0) (table_bit W links y.0 v) y.2 in
-          on y.0 y.1 z.1 (or_true (S y.0) (R y.0) z.0)
+          let z = and_parts (S y.0 || R y.0) (table_bit W links y.0 v) y.2 in
+          on y.0 y.1 z.1 (or_cases (S y.0) (R y.0) z.0)
         where
           on : (u : ℕ) → Memᴰ u (range (64 * W)) → table_bit W links u v ≡ true → (S u ≡ true) ⊎ (R u ≡ true) → (linked_to S v || linked_to R v) ≡ true
-          on u m t (inl a) = or_left (linked_to R v) (any_intro (p S) (range (64 * W)) m (and_intro a t))
-          on u m t (inr a) = or_right (linked_to S v) (any_intro (p R) (range (64 * W)) m (and_intro a t))
+          on u m t (inl a) = or_left _ (linked_to R v) (any_intro (p S) (range (64 * W)) m (and_from _ _ a t))
+          on u m t (inr a) = or_right (linked_to S v) _ (any_intro (p R) (range (64 * W)) m (and_from _ _ a t))
 
   -- ---- one word of what they are linked to
 

@@ -12,8 +12,8 @@ use lib.Dec.{eqb}
 use lib.ListN.{length, get_or, set, length-set}
 use lib.Seq.{get_or-set_same}
 use borrow.Author.Tests.{eq-eqb, ne_eqb}
+use Rattle.std.proofs.lemmas.Bool.{cases_lt}
 use Rattle.lists.specs.Lists.{range, anyb, overwrite}
-use Rattle.lists.proofs.Tests.{lt_or_ge}
 use Rattle.lists.proofs.Members.{any_none, any_intro, range_in, range_out}
 use Rattle.words.specs.Bits.{bit, word_of}
 use Rattle.words.specs.Least.{IsLeast}
@@ -84,8 +84,8 @@ module _ (W : ℕ) (seen next₀ : List ℕ) where
           (let s = or_add_and all x in
           let p = and_le_l all x in
           let q = and_le_r all x in
-          on (omega arith) (omega arith) v m (lt_or_ge v (64 * j)));
-      some = λ m. (let s = or_add_and all x in left m s (lt_or_ge 0 all));
+          on (omega arith) (omega arith) v m (cases_lt v (64 * j)));
+      some = λ m. (let s = or_add_and all x in left m s (cases_lt 0 all));
     }
       where
         on : all ≡ 0 → x ≡ 0 → (v : ℕ) → v < 64 * (j + 1) → (v < 64 * j) ⊎ (64 * j ≤ v) → new v ≡ false
@@ -106,7 +106,7 @@ module _ (W : ℕ) (seen next₀ : List ℕ) where
     -- whether one is left
     pub keep_end : unseen (not (eqb all 0)) next ≡ unseen_of W seen next₀
     unfolding unseen_of
-    keep_end = ap₂ unseen (go (lt_or_ge 0 all)) next_whole
+    keep_end = ap₂ unseen (go (cases_lt 0 all)) next_whole
       where
         under : (v : ℕ) → v < 64 * W → v < 64 * j
         under v n = omega arith

@@ -9,8 +9,9 @@ use native.Mathlib.Omega.{arith}
 use lib.Dec.{eqb, ltb}
 use lib.ListN.{length, get_or, set}
 use borrow.Author.Tests.{eqb-true, eqb-false, eq-eqb, ne_eqb, lt-ltb, le-ltb}
+use Rattle.std.proofs.lemmas.Bool.{cases_Bool, and_parts, cases_lt, cases_eq}
 use Rattle.lists.specs.Lists.{range, mapl, overwrite}
-use Rattle.lists.proofs.Tests.{look, clash, and-true, lt_or_ge, eq_or_ne}
+use Rattle.lists.proofs.Tests.{clash}
 use Rattle.lists.proofs.Fills.{fill_more}
 use Rattle.words.specs.Bits.{bit, word_of}
 use Rattle.words.specs.Least.{IsLeast, WithoutLeast}
@@ -50,7 +51,7 @@ module _ (j : ℕ) where
       left c m = ap (λ (r : ℕ). bit r c) (d.rest b l) ∙ bit-word_of 64 (λ c. bit x c && not (eqb c b)) c m
 
       same_member : (u : ℕ) → eqb (u / 64) w ≡ true → eqb u (64 * w + b) ≡ eqb (u % 64) b
-      same_member u e = go (eqb-true (u / 64) w e) (eq_or_ne (u % 64) b)
+      same_member u e = go (eqb-true (u / 64) w e) (cases_eq (u % 64) b)
         where
           go : u / 64 ≡ w → (u % 64 ≡ b) ⊎ (u % 64 ≢ b) → eqb u (64 * w + b) ≡ eqb (u % 64) b
           go h (inl q) = eq-eqb u (64 * w + b) (omega arith) ∙ sym (eq-eqb (u % 64) b q)
@@ -62,7 +63,7 @@ module _ (j : ℕ) where
       bits_one : ((c : ℕ) → c < 64 → bit x c ≡ true → bit word c ≡ true) → (u : ℕ)
           → ((in_word w word u && not (in_word w x u)) || eqb u (64 * w + b)) ≡ (in_word w word u && not (in_word w y u))
       unfolding in_word
-      bits_one inside u = go (look (eqb (u / 64) w))
+      bits_one inside u = go (cases_Bool (eqb (u / 64) w))
         where
           small : u % 64 < 64
           small = omega arith
@@ -86,7 +87,7 @@ module _ (j : ℕ) where
       pub bits_next : {v : Visit} {from : Four} {now : Visit} {got : Four} (now' : Visit) (got' : Four) → BitsVisited v from now got x
           → Goes j (λ u. eqb u (64 * w + b)) now got now' got' → BitsVisited v from now' got' y
       bits_next now' got' I e = record {
-        inside = λ c n t. I.inside c n (and-true (bit x c) (not (eqb c b)) (sym (left c n) ∙ t)).0;
+        inside = λ c n t. I.inside c n (and_parts (bit x c) (not (eqb c b)) (sym (left c n) ∙ t)).0;
         went =
             goes_ext j (λ u. (in_word w word u && not (in_word w x u)) || eqb u (64 * w + b)) (λ u. in_word w word u && not (in_word w y u))
             (goes_both j (λ u. in_word w word u && not (in_word w x u)) (λ u. eqb u (64 * w + b)) I.went e) (λ u n. bits_one I.inside u);
@@ -124,7 +125,7 @@ module _ (j : ℕ) where
     -- one word more
     words_one : (W w : ℕ) → w < W → (u : ℕ) → u < 64 * W → ((ltb u (64 * w) && row_bit W layer u) || in_word w (get_or layer w 0) u) ≡ (ltb u (64 * (w + 1)) && row_bit W layer u)
     unfolding in_word
-    words_one W w h u l = go (lt_or_ge u (64 * w)) (lt_or_ge u (64 * (w + 1)))
+    words_one W w h u l = go (cases_lt u (64 * w)) (cases_lt u (64 * (w + 1)))
       where
         go : (u < 64 * w) ⊎ (64 * w ≤ u) → (u < 64 * (w + 1)) ⊎ (64 * (w + 1) ≤ u)
             → ((ltb u (64 * w) && row_bit W layer u) || in_word w (get_or layer w 0) u) ≡ (ltb u (64 * (w + 1)) && row_bit W layer u)
@@ -161,7 +162,7 @@ module _ (W : ℕ) (links : List ℕ) (k : ℕ) where
   put_next : (f : ℕ → Bool) (i n x : ℕ) (row₀ row row' : List ℕ) → i + 1 ≡ n → W ≤ length row₀ → row ≡ overwrite (encode_row (up_to i) f) row₀ → x ≡ word_of 64 (λ b. f (64 * i + b))
       → row' ≡ put_word W i x row → row' ≡ overwrite (encode_row (up_to n) f) row₀
   unfolding encode_row
-  put_next f i n x row₀ row row' e m p q s = s ∙ go (lt_or_ge i W)
+  put_next f i n x row₀ row row' e m p q s = s ∙ go (cases_lt i W)
     where
       g : ℕ → ℕ
       g w = word_of 64 (λ b. f (64 * w + b))
@@ -184,7 +185,7 @@ module _ (W : ℕ) (links : List ℕ) (k : ℕ) where
           sym (put_here W i x row h)
           ∙ ap₂ (λ (r : List ℕ) (y : ℕ). set r i y) (p ∙ ap (λ (c : ℕ). overwrite (mapl g (range c)) row₀) (few h)) q
           ∙ fill_more g row₀ i (omega arith)
-          ∙ ap (λ (c : ℕ). overwrite (mapl g (range c)) row₀) (sym (last h (lt_or_ge n W)))
+          ∙ ap (λ (c : ℕ). overwrite (mapl g (range c)) row₀) (sym (last h (cases_lt n W)))
       go (inr h) = sym (put_past W i x row h) ∙ p ∙ ap (λ (c : ℕ). overwrite (mapl g (range c)) row₀) (all h ∙ sym (past h))
 
   module _ (layer : List ℕ) where
@@ -223,7 +224,7 @@ module _ (W : ℕ) (links : List ℕ) (k : ℕ) where
       hops-set = ap (λ (r : Reached). r.hops) e
 
       hops_now : hops' ≡ hop_set W k (row_bit W layer) hops₀
-      hops_now = hops-set ∙ go (eq_or_ne j 0)
+      hops_now = hops-set ∙ go (cases_eq j 0)
         where
           go : (j ≡ 0) ⊎ (j ≢ 0) → hop_set W k (row_bit W layer) hops ≡ hop_set W k (row_bit W layer) hops₀
           go (inl z) = ap (hop_set W k (row_bit W layer)) (I.hops_first z)

@@ -10,7 +10,8 @@ use native.Mathlib.Omega.{arith}
 use lib.Dec.{T, ltb}
 use lib.ListN.{length}
 use borrow.Author.Tests.{ltb-true, lt-ltb}
-use Rattle.lists.proofs.Tests.{look, lt_or_ge, clash}
+use Rattle.std.proofs.lemmas.Bool.{cases_Bool, cases_lt}
+use Rattle.lists.proofs.Tests.{clash}
 use Rattle.lists.proofs.Members.{all-fails}
 use Rattle.graph.specs.Network.{Network, IsSound, Walk}
 use Rattle.graph.specs.Distance.{vertices, unreached, dist, reached_all, connected}
@@ -30,7 +31,7 @@ least_of r (y ∷ ys) = go (least_of y ys)
   where
     go : (m : ℕ) × Memᴰ m (y ∷ ys) × ((u : ℕ) → Memᴰ u (y ∷ ys) → m ≤ u)
         → (m : ℕ) × Memᴰ m (r ∷ y ∷ ys) × ((u : ℕ) → Memᴰ u (r ∷ y ∷ ys) → m ≤ u)
-    go x = lower (lt_or_ge r x.0)
+    go x = lower (cases_lt r x.0)
       where
         lower : (r < x.0) ⊎ (x.0 ≤ r) → (m : ℕ) × Memᴰ m (r ∷ y ∷ ys) × ((u : ℕ) → Memᴰ u (r ∷ y ∷ ys) → m ≤ u)
         lower (inl l) = (r, Memᴰ.head refl, λ u n. at u (Memᴰ.cases_cons n))
@@ -54,7 +55,7 @@ module _ (G : Network) (sound : IsSound G) (small : length (vertices G) < unreac
   -- two depots that no walk joins: the lowest lies apart from one of them
   apart_from : (m : ℕ) → T (G.is_open m) → ((u : ℕ) → T (G.is_open u) → m ≤ u) → (r v : ℕ) → T (G.is_open r) → T (G.is_open v)
       → ((k : ℕ) → Walk G k r v → ⊥) → IsApart G
-  apart_from m om least r v or ov none = go (look (ltb (dist G m r) unreached))
+  apart_from m om least r v or ov none = go (cases_Bool (ltb (dist G m r) unreached))
     where
       go : (ltb (dist G m r) unreached ≡ true) ⊎ (ltb (dist G m r) unreached ≡ false) → IsApart G
       go (inr e) = record { lowest = m; is_open = om; is_lowest = least; depot = r; is_depot = or; no_walk = no_walk_lem m r om e }

@@ -12,8 +12,9 @@ use native.Mathlib.Omega.{arith}
 use lib.Dec.{T, eqb, ltb}
 use lib.ListN.{length}
 use borrow.Author.Tests.{lt-ltb, eqb-true, eq-eqb, ne_eqb, not-false}
+use Rattle.std.proofs.lemmas.Bool.{cases_Bool, or_cases, or_left, or_right, cases_eq}
 use Rattle.lists.specs.Lists.{allb, first_of}
-use Rattle.lists.proofs.Tests.{look, t→true, true→t, clash, or_true, or_left, or_right, eq_or_ne}
+use Rattle.lists.proofs.Tests.{t→true, true→t, clash}
 use Rattle.lists.proofs.Members.{all_intro, all_elim, filter_in, filter_out, first_zero}
 use Rattle.lists.proofs.Counts.{count_lt, count_le_length, length_count}
 use Rattle.lists.proofs.Distinct.{insert_length}
@@ -28,15 +29,15 @@ after G o = applied G (opens o)
 
 added_within : (G : Network) (o : Notice) → AreOpenIn G (after G o)
 unfolding applied with_depot add_depot
-added_within G o c h = true→t (or_right (eqb c o.code) (t→true (G.is_open c) h))
+added_within G o c h = true→t (or_right (eqb c o.code) _ (t→true (G.is_open c) h))
 
 added_open : (G : Network) (o : Notice) → (after G o).is_open o.code ≡ true
 unfolding applied with_depot add_depot
-added_open G o = or_left (G.is_open o.code) (eq-eqb o.code o.code refl)
+added_open G o = or_left _ (G.is_open o.code) (eq-eqb o.code o.code refl)
 
 added_cases : (G : Network) (o : Notice) (c : ℕ) → T ((after G o).is_open c) → (c ≡ o.code) ⊎ T (G.is_open c)
 unfolding applied with_depot add_depot
-added_cases G o c h = go (or_true (eqb c o.code) (G.is_open c) (t→true (eqb c o.code || G.is_open c) h))
+added_cases G o c h = go (or_cases (eqb c o.code) (G.is_open c) (t→true (eqb c o.code || G.is_open c) h))
   where
     go : (eqb c o.code ≡ true) ⊎ (G.is_open c ≡ true) → (c ≡ o.code) ⊎ T (G.is_open c)
     go (inl q) = inl (eqb-true c o.code q)
@@ -91,7 +92,7 @@ fit_take G x es h = ap (λ (b : Bool). cond b (some x) (first_fit G es)) h
 
 pub fit_none : (G : Network) (es : List Entry) → first_fit G es ≡ none → {e : Entry} → Memᴰ e es → accepts G e.notice ≡ false
 fit_none G [] q m = absurd (Memᴰ.not-nil m)
-fit_none G (x ∷ es) q {e} m = go (look (accepts G x.notice)) (Memᴰ.cases_cons m) (λ h n. fit_none G es h n)
+fit_none G (x ∷ es) q {e} m = go (cases_Bool (accepts G x.notice)) (Memᴰ.cases_cons m) (λ h n. fit_none G es h n)
   where
     go : (accepts G x.notice ≡ true) ⊎ (accepts G x.notice ≡ false) → (e ≡ x) ⊎ Memᴰ e es → (first_fit G es ≡ none → Memᴰ e es → accepts G e.notice ≡ false) → accepts G e.notice ≡ false
     go (inl h) c ih = let r : some x ≡ none = sym (fit_take G x es h) ∙ q in let z : ◌≡◌ {A = ℕ} 0 1 = cc in absurd (lt_irrefl 0 (omega arith))
@@ -145,7 +146,7 @@ batch_closed (suc k) G es l d = go (first_fit G es) refl (λ H fs a b. batch_clo
     step : (f : Entry) → first_fit G es ≡ some f → (F : Network) → F ≡ (batch_by (suc k) G es).network
         → AreOpenIn (after G f.notice) F × IsClosed F (without f.number es) → AreOpenIn G F × IsClosed F es
     step f q F r c =
-        (λ x h. c.0 x (added_within G f.notice x h), record { each = λ {e} m. each e m (eq_or_ne e.number f.number) })
+        (λ x h. c.0 x (added_within G f.notice x h), record { each = λ {e} m. each e m (cases_eq e.number f.number) })
       where
         each : (e : Entry) → Memᴰ e es → (e.number ≡ f.number) ⊎ (e.number ≢ f.number) → (F.is_open e.notice.code ≡ true) ⊎ (accepts F e.notice ≡ false)
         each e m (inl n) =
@@ -172,10 +173,10 @@ offered-take R o os b h = ap (λ (x : Bool). offered (cond x (after R o) R) os) 
 pub offered_within : (F : Network) (es : List Entry) → IsClosed F es → (os : List Notice) → AreOffers es os → (R : Network) → 0 < length (vertices R) → AreOpenIn R F → AreOpenIn (offered R os) F
 unfolding offered
 offered_within F es c [] are R s w = w
-offered_within F es c (o ∷ os) are R s w = go (look (accepts R o)) (λ S t v. offered_within F es c os (λ x m. are x (Memᴰ.tail m)) S t v)
+offered_within F es c (o ∷ os) are R s w = go (cases_Bool (accepts R o)) (λ S t v. offered_within F es c os (λ x m. are x (Memᴰ.tail m)) S t v)
   where
     code_in : accepts R o ≡ true → F.is_open o.code ≡ true
-    code_in h = at (look (F.is_open o.code)) (are o (Memᴰ.head refl))
+    code_in h = at (cases_Bool (F.is_open o.code)) (are o (Memᴰ.head refl))
       where
         at : (F.is_open o.code ≡ true) ⊎ (F.is_open o.code ≡ false) → (e : Entry) × Memᴰ e es × (e.notice ≡ o) → F.is_open o.code ≡ true
         at (inl y) x = y
@@ -255,7 +256,7 @@ batch_parts (suc k) G es d {e} m = go (first_fit G es) refl (λ H fs a n. batch_
         → ((H : Network) (fs : List Entry) → AreNumbered fs → Memᴰ e fs → Memᴰ e (batch_by k H fs).accepted ⊎ Memᴰ e (batch_by k H fs).left)
         → Memᴰ e (or_end (first_fit G es) (batch_end G es) rest).accepted ⊎ Memᴰ e (or_end (first_fit G es) (batch_end G es) rest).left
     go none q ih = rw q (inr m)
-    go (some f) q ih = rw q (by (eq_or_ne e.number f.number))
+    go (some f) q ih = rw q (by (cases_eq e.number f.number))
       where
         more : Memᴰ e (rest f).accepted ⊎ Memᴰ e (rest f).left → Memᴰ e (f ∷ (rest f).accepted) ⊎ Memᴰ e (rest f).left
         more (inl n) = inl (Memᴰ.tail n)

@@ -9,7 +9,8 @@ use native.Mathlib.Omega.{arith}
 use lib.Dec.{T, eqb, ltb}
 use lib.ListN.{length}
 use borrow.Author.Tests.{ltb-true, lt-ltb, eqb-true, eq-eqb}
-use Rattle.lists.proofs.Tests.{t→true, true→t, and-true, and_intro, same_test}
+use Rattle.std.proofs.lemmas.Bool.{and_parts, and_from}
+use Rattle.lists.proofs.Tests.{t→true, true→t, same_test}
 use Rattle.graph.specs.Network.{Network, IsDist, delivers, IsGreatest, IsEcc, IsDiameter, IsFarthest}
 use Rattle.graph.specs.Distance.{vertices, dist}
 use Rattle.graph.specs.Chart.{chart, ecc, greatest_ecc, diameter, Pairs, farthest}
@@ -138,11 +139,11 @@ module _ (G : Network) (net : IsNet G) where
     upper = λ u v tu tv. subst (λ (n : ℕ). (chart G).distance u v ≤ n) dia (greatest_pair (chart G) M u v tu tv);
     attained = subst (λ (n : ℕ). (n ≡ 0) ⊎ ((u v : ℕ) × (delivers G u ≡ true) × (delivers G v ≡ true) × ((chart G).distance u v ≡ n))) dia (greatest_at (chart G) M);
     is_far = λ u v h.
-        let p = and-true (ltb u v && delivers G u && delivers G v) (eqb ((chart G).distance u v) (diameter G)) h in
-        let q = and-true (ltb u v && delivers G u) (delivers G v) p.0 in
-        let r = and-true (ltb u v) (delivers G u) q.0 in
+        let p = and_parts (ltb u v && delivers G u && delivers G v) (eqb ((chart G).distance u v) (diameter G)) h in
+        let q = and_parts (ltb u v && delivers G u) (delivers G v) p.0 in
+        let r = and_parts (ltb u v) (delivers G u) q.0 in
         record { before = ltb-true u v r.0; first = r.1; second = q.1; far = eqb-true ((chart G).distance u v) (diameter G) p.1 };
-    is_pair = λ u v p. and_intro (and_intro (and_intro (lt-ltb u v p.before) p.first) p.second) (eq-eqb ((chart G).distance u v) (diameter G) p.far);
+    is_pair = λ u v p. and_from _ _ (and_from _ _ (and_from _ _ (lt-ltb u v p.before) p.first) p.second) (eq-eqb ((chart G).distance u v) (diameter G) p.far);
   }
     where
       M : IsMetric (chart G)

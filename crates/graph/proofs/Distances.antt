@@ -10,8 +10,9 @@ use native.Mathlib.Omega.{arith}
 use lib.Dec.{T, eqb, leb}
 use lib.ListN.{length}
 use borrow.Author.Tests.{lt-ltb, le-ltb, leb-true, le-leb, lt-leb, eqb-true, eq-eqb}
+use Rattle.std.proofs.lemmas.Bool.{cases_Bool, and_parts, and_from}
 use Rattle.lists.specs.Lists.{anyb, countb}
-use Rattle.lists.proofs.Tests.{look, t→true, true→t, clash, and-true, and_intro}
+use Rattle.lists.proofs.Tests.{t→true, true→t, clash}
 use Rattle.lists.proofs.Members.{any_intro, any_elim, memb_in, in_memb}
 use Rattle.lists.proofs.Counts.{count_le_length, count_lt}
 use Rattle.graph.specs.Network.{Network, IsSound, Walk, IsDist}
@@ -70,7 +71,7 @@ module _ (G : Network) (u : ℕ) (vs : List ℕ) where
 module _ (G : Network) (sound : IsSound G) (vs : List ℕ) (all : (v : ℕ) → T (G.is_open v) → Memᴰ v vs) (u : ℕ) where
   layer_suc : (k : ℕ) → suc k < unreached → IsLayered G u vs k → IsLayered G u vs (suc k)
   unfolding linked_to
-  layer_suc k b I = record { reached = λ v. reach v (dec_lt (h v) unreached) (look (near v)); complete = λ v. comp v (dec_lt (h v) unreached) (look (near v)) }
+  layer_suc k b I = record { reached = λ v. reach v (dec_lt (h v) unreached) (cases_Bool (near v)); complete = λ v. comp v (dec_lt (h v) unreached) (cases_Bool (near v)) }
     where
       h : ℕ → ℕ
       h = hops vs G.linked u k
@@ -106,7 +107,7 @@ module _ (G : Network) (sound : IsSound G) (vs : List ℕ) (all : (v : ℕ) → 
       is_near : (v w : ℕ) → h w ≡ k → T (G.linked w v) → near v ≡ true
       is_near v w e a =
           any_intro (λ w. eqb (h w) k && G.linked w v) vs (all w (sound.ends v w (sound.symmetric w v a)))
-          (and_intro (eq-eqb (h w) k e) (t→true (G.linked w v) a))
+          (and_from _ _ (eq-eqb (h w) k e) (t→true (G.linked w v) a))
 
       reach : (v : ℕ) → Dec (h v < unreached) → (near v ≡ true) ⊎ (near v ≡ false) → h' v < unreached → (h' v ≤ suc k) × IsDist G u v (h' v)
       reach v (yes p) o l =
@@ -114,7 +115,7 @@ module _ (G : Network) (sound : IsSound G) (vs : List ℕ) (all : (v : ℕ) → 
           subst (λ (n : ℕ). (n ≤ suc k) × IsDist G u v n) (sym (hops-suc G u vs k v ∙ next_old vs G.linked k h v p)) (omega arith, r.1)
       reach v (no p) (inl e) l =
           let x = any_elim (λ w. eqb (h w) k && G.linked w v) vs e in
-          let y = and-true (eqb (h x.0) k) (G.linked x.0 v) x.2 in
+          let y = and_parts (eqb (h x.0) k) (G.linked x.0 v) x.2 in
           subst (λ (n : ℕ). (n ≤ suc k) × IsDist G u v n) (sym (hops-suc G u vs k v ∙ next_new vs G.linked k h v (omega arith) e))
           (le_refl (suc k), new_dist v x.0 (omega arith) (eqb-true (h x.0) k y.0) (true→t y.1))
       reach v (no p) (inr e) l =

@@ -8,7 +8,8 @@ use native.Mathlib.Decide.{dec_le, ℕ_discrete}
 use native.Mathlib.Omega.{arith}
 use lib.Dec.{T, eqb}
 use borrow.Author.Tests.{ne_eqb}
-use Rattle.lists.proofs.Tests.{t→true, true→t, or_right}
+use Rattle.std.proofs.lemmas.Bool.{or_right}
+use Rattle.lists.proofs.Tests.{t→true, true→t}
 use Rattle.graph.specs.Network.{Network, Walk, stay, step, IsDist}
 use Rattle.graph.specs.Opening.{add_depot}
 use Rattle.graph.proofs.Walks.{cast, append, dist_unique, dist_self}
@@ -81,6 +82,6 @@ module _ (G G' : Network) (a b : ℕ) (at_a : IsGrownAt G G' a) (at_b : IsGrownA
 pub opened_grown : (key : ℕ → ℕ) (G : Network) (y : Bool) (a : ℕ) (beside : ℕ → Bool) → IsGrownAt G (add_depot key G y a beside) a
 unfolding add_depot
 opened_grown key G y a beside = record {
-  more = λ u v l. true→t (or_right ((eqb u a && beside v) || (eqb v a && beside u)) (t→true (G.linked u v) l));
+  more = λ u v l. true→t (or_right ((eqb u a && beside v) || (eqb v a && beside u)) _ (t→true (G.linked u v) l));
   only = λ u v p q l. rw (ne_eqb u a p, ne_eqb v a q) at l;
 }

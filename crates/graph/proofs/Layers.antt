@@ -8,8 +8,8 @@ use native.Mathlib.Nat.{zero-add, suc-add, le_refl, lt_irrefl}
 use native.Mathlib.Omega.{arith}
 use lib.Dec.{eqb, ltb}
 use borrow.Author.Tests.{ltb-false, eqb-true}
+use Rattle.std.proofs.lemmas.Bool.{cases_Bool, and_parts}
 use Rattle.lists.specs.Lists.{anyb}
-use Rattle.lists.proofs.Tests.{look, and-true}
 use Rattle.lists.proofs.Members.{any_elim}
 use Rattle.graph.specs.Distance.{unreached, next_hop, hops}
 
@@ -33,7 +33,7 @@ module _ (vs : List ℕ) (adj : ℕ → ℕ → Bool) (u : ℕ) where
   -- no depot stands at distance k: the next layer adds nothing
   quiet_step : (k : ℕ) → k < unreached → ((w : ℕ) → Memᴰ w vs → hops vs adj u k w ≡ k → ⊥) → (v : ℕ) → hops vs adj u (suc k) v ≡ hops vs adj u k v
   unfolding hops next_hop
-  quiet_step k small none-at v = go (look (ltb (hops vs adj u k v) unreached)) (look (anyb (λ w. eqb (hops vs adj u k w) k && adj w v) vs)) (hops-range k v)
+  quiet_step k small none-at v = go (cases_Bool (ltb (hops vs adj u k v) unreached)) (cases_Bool (anyb (λ w. eqb (hops vs adj u k w) k && adj w v) vs)) (hops-range k v)
     where
       go : (ltb (hops vs adj u k v) unreached ≡ true) ⊎ (ltb (hops vs adj u k v) unreached ≡ false)
           → (anyb (λ w. eqb (hops vs adj u k w) k && adj w v) vs ≡ true) ⊎ (anyb (λ w. eqb (hops vs adj u k w) k && adj w v) vs ≡ false)
@@ -42,7 +42,7 @@ module _ (vs : List ℕ) (adj : ℕ → ℕ → Bool) (u : ℕ) where
       go (inl a) b c = rw a
       go (inr a) (inl b) c =
           let x = any_elim (λ w. eqb (hops vs adj u k w) k && adj w v) vs b in
-          let y = and-true (eqb (hops vs adj u k x.0) k) (adj x.0 v) x.2 in
+          let y = and_parts (eqb (hops vs adj u k x.0) k) (adj x.0 v) x.2 in
           absurd (none-at x.0 x.1 (eqb-true (hops vs adj u k x.0) k y.0))
       go (inr a) (inr b) (inl l) = let m : unreached ≤ hops vs adj u k v = ltb-false (hops vs adj u k v) unreached a in absurd (lt_irrefl k (omega arith))
       go (inr a) (inr b) (inr e) = rw (a, b) (sym e)

@@ -10,8 +10,9 @@ use native.Mathlib.Omega.{arith}
 use lib.Dec.{T, eqb}
 use lib.ListN.{length}
 use borrow.Author.Tests.{eqb-true, eq-eqb, eqb-false, not-false}
+use Rattle.std.proofs.lemmas.Bool.{and_parts, and_from, or_cases, or_left, or_right}
 use Rattle.lists.specs.Lists.{memb, distinct, first_of}
-use Rattle.lists.proofs.Tests.{t→true, true→t, and-true, and_intro, or_true, or_left, or_right}
+use Rattle.lists.proofs.Tests.{t→true, true→t}
 use Rattle.lists.proofs.Members.{first_zero}
 use Rattle.graph.specs.Network.{Network, IsSound, IsDist, delivers}
 use Rattle.graph.specs.Distance.{vertices, unreached}
@@ -36,7 +37,7 @@ unfolding link_faults
 linkable_of G a b ok =
     let f4 = first_zero _ 3 _ ok in
     let f13 = first_zero _ 12 _ f4.1 in
-    let both = and-true (G.is_open a) (G.is_open b) (not-false (G.is_open a && G.is_open b) f4.0) in
+    let both = and_parts (G.is_open a) (G.is_open b) (not-false (G.is_open a && G.is_open b) f4.0) in
     record { first = true→t both.0; second = true→t both.1; apart = eqb-false a b f13.0 }
 
 -- ---- the links after it: the further ones are at a alone, and at b alone
@@ -46,21 +47,21 @@ module _ (G : Network) (a b : ℕ) where
   pub either_link : (u v : ℕ) → T ((add_link G a b).linked u v) → ((u ≡ a) × (v ≡ b)) ⊎ (((u ≡ b) × (v ≡ a)) ⊎ T (G.linked u v))
   unfolding add_link
   either_link u v l =
-      go (or_true ((eqb u a && eqb v b) || (eqb v a && eqb u b)) (G.linked u v)
+      go (or_cases ((eqb u a && eqb v b) || (eqb v a && eqb u b)) (G.linked u v)
       (t→true ((eqb u a && eqb v b) || (eqb v a && eqb u b) || G.linked u v) l))
     where
       inner : ((eqb u a && eqb v b) ≡ true) ⊎ ((eqb v a && eqb u b) ≡ true) → ((u ≡ a) × (v ≡ b)) ⊎ (((u ≡ b) × (v ≡ a)) ⊎ T (G.linked u v))
-      inner (inl h) = let k = and-true (eqb u a) (eqb v b) h in inl (eqb-true u a k.0, eqb-true v b k.1)
-      inner (inr h) = let k = and-true (eqb v a) (eqb u b) h in inr (inl (eqb-true u b k.1, eqb-true v a k.0))
+      inner (inl h) = let k = and_parts (eqb u a) (eqb v b) h in inl (eqb-true u a k.0, eqb-true v b k.1)
+      inner (inr h) = let k = and_parts (eqb v a) (eqb u b) h in inr (inl (eqb-true u b k.1, eqb-true v a k.0))
 
       go : (((eqb u a && eqb v b) || (eqb v a && eqb u b)) ≡ true) ⊎ (G.linked u v ≡ true)
           → ((u ≡ a) × (v ≡ b)) ⊎ (((u ≡ b) × (v ≡ a)) ⊎ T (G.linked u v))
-      go (inl h) = inner (or_true (eqb u a && eqb v b) (eqb v a && eqb u b) h)
+      go (inl h) = inner (or_cases (eqb u a && eqb v b) (eqb v a && eqb u b) h)
       go (inr h) = inr (inr (true→t h))
 
   old_link : (u v : ℕ) → T (G.linked u v) → T ((add_link G a b).linked u v)
   unfolding add_link
-  old_link u v l = true→t (or_right ((eqb u a && eqb v b) || (eqb v a && eqb u b)) (t→true (G.linked u v) l))
+  old_link u v l = true→t (or_right ((eqb u a && eqb v b) || (eqb v a && eqb u b)) _ (t→true (G.linked u v) l))
 
   pub grown_first : IsGrownAt G (add_link G a b) a
   grown_first = record { more = old_link; only = λ u v p q l. go u v p q (either_link u v l) }
@@ -111,11 +112,11 @@ module _ (G : Network) (net : IsNet G) (a b : ℕ) (good : IsLinkable G a b) whe
 
   link_there : (u v : ℕ) → u ≡ a → v ≡ b → T (H.linked u v)
   unfolding add_link
-  link_there u v p q = true→t (or_left (G.linked u v) (or_left (eqb v a && eqb u b) (and_intro (eq-eqb u a p) (eq-eqb v b q))))
+  link_there u v p q = true→t (or_left _ (G.linked u v) (or_left _ (eqb v a && eqb u b) (and_from _ _ (eq-eqb u a p) (eq-eqb v b q))))
 
   link_back : (u v : ℕ) → u ≡ b → v ≡ a → T (H.linked u v)
   unfolding add_link
-  link_back u v p q = true→t (or_left (G.linked u v) (or_right (eqb u a && eqb v b) (and_intro (eq-eqb v a q) (eq-eqb u b p))))
+  link_back u v p q = true→t (or_left _ (G.linked u v) (or_right (eqb u a && eqb v b) _ (and_from _ _ (eq-eqb v a q) (eq-eqb u b p))))
 
   linked_sound : IsSound H
   linked_sound = record {

@@ -10,8 +10,9 @@ use native.Mathlib.Omega.{arith}
 use lib.Dec.{eqb, ltb}
 use lib.ListN.{length}
 use borrow.Author.Tests.{ltb-false, le-ltb, eqb-true, eqb-false, not-true}
+use Rattle.std.proofs.lemmas.Bool.{and_parts, and_from, or_cases, or_parts}
 use Rattle.lists.specs.Lists.{anyb}
-use Rattle.lists.proofs.Tests.{clash, and-true, and_intro, or_true}
+use Rattle.lists.proofs.Tests.{clash}
 use Rattle.lists.proofs.Members.{any_intro, any_elim}
 use Rattle.graph.specs.Chart.{Chart, greatest_ecc, Pairs}
 use Rattle.graph.specs.Rounds.{rounds}
@@ -30,10 +31,6 @@ pub record IsJoined (C₀ C : Chart) (a b : ℕ) : Type 0 where
   pub apart : a ≡ b → ⊥
   pub same : (v : ℕ) → C.is_destination v ≡ C₀.is_destination v
   pub through : (u v : ℕ) → C₀.is_destination u ≡ true → C₀.is_destination v ≡ true → C.distance u v ≡ min (C₀.distance u v) (via_either C a b u v)
-
-or_false : (x y : Bool) → (x || y) ≡ false → (x ≡ false) × (y ≡ false)
-or_false true y q = absurd (clash refl q)
-or_false false y q = (refl, q)
 
 module _ (C₀ C : Chart) (metric : IsMetric C) (a b D : ℕ) (P : Pairs) (was : IsRight C₀ D P) (j : IsJoined C₀ C a b) where
   was_one : (v : ℕ) → C.is_destination v ≡ true → C₀.is_destination v ≡ true
@@ -59,7 +56,7 @@ module _ (C₀ C : Chart) (metric : IsMetric C) (a b D : ℕ) (P : Pairs) (was :
   left→far : (u v : ℕ) → pairs_left C a b D P u v ≡ true → IsFar C D u v
   unfolding staying_pairs
   left→far u v h =
-      let k = and-true (P u v) (not (ltb (via_either C a b u v) D)) h in
+      let k = and_parts (P u v) (not (ltb (via_either C a b u v) D)) h in
       let p = was.is_far u v k.0 in
       let l : D ≤ via_either C a b u v = ltb-false (via_either C a b u v) D (not-true (ltb (via_either C a b u v) D) k.1) in
       let s : C.distance u v ≡ min D (via_either C a b u v) = stored u v p in
@@ -73,7 +70,7 @@ module _ (C₀ C : Chart) (metric : IsMetric C) (a b D : ℕ) (P : Pairs) (was :
       let t : C.distance u v ≡ min (C₀.distance u v) (via_either C a b u v) = j.through u v tu tv in
       let w : C₀.distance u v ≤ D = was.upper u v tu tv in
       let f : C.distance u v ≡ D = q.far in
-      and_intro (was.is_pair u v record { before = q.before; first = tu; second = tv; far = omega arith })
+      and_from _ _ (was.is_pair u v record { before = q.before; first = tu; second = tv; far = omega arith })
       (not_of (ltb (via_either C a b u v) D) (le-ltb (via_either C a b u v) D (omega arith)))
     where
       not_of : (b : Bool) → b ≡ false → not b ≡ true
@@ -97,7 +94,7 @@ module _ (C₀ C : Chart) (metric : IsMetric C) (a b D : ℕ) (P : Pairs) (was :
   case_kept h = record {
     right = record {
       upper = between;
-      attained = attained (or_true (any_pair C.depots (pairs_left C a b D P)) (eqb D 0) h);
+      attained = attained (or_cases (any_pair C.depots (pairs_left C a b D P)) (eqb D 0) h);
       is_far = left→far;
       is_pair = far→left;
     };
@@ -132,7 +129,7 @@ module _ (C₀ C : Chart) (metric : IsMetric C) (a b D : ℕ) (P : Pairs) (was :
       let S = rounds C (length C.depots) (first_two C a b c) in
       let x = two_settled C metric (greatest_ecc C) (greatest_ge C metric) (greatest_small C metric) a b j.first j.second j.apart c link_candidate_le in
       let r = settled C metric S x.0 x.1 in
-      let k = or_false (any_pair C.depots (pairs_left C a b D P)) (eqb D 0) h in
+      let k = or_parts (any_pair C.depots (pairs_left C a b D P)) (eqb D 0) h in
       record { right = r; letter = right_below C metric S.candidate D S.pairs r (positive (dec_lt 0 D) k.1) between (none_left k.0) }
     where
       positive : Dec (0 < D) → eqb D 0 ≡ false → 0 < D

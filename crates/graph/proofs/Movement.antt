@@ -8,8 +8,9 @@ use native.Mathlib.Omega.{arith}
 use lib.Dec.{T, eqb}
 use lib.ListN.{length}
 use borrow.Author.Tests.{eqb-true, eq-eqb}
+use Rattle.std.proofs.lemmas.Bool.{and_from, or_cases, or_left}
 use Rattle.lists.specs.Lists.{memb, first_of}
-use Rattle.lists.proofs.Tests.{t→true, true→t, and_intro, or_true, or_left}
+use Rattle.lists.proofs.Tests.{t→true, true→t}
 use Rattle.graph.specs.Network.{Network, HasNoYard, delivers, Walk, stay, step, IsDist, IsEcc, IsDiameter}
 use Rattle.graph.specs.Distance.{vertices, unreached}
 use Rattle.graph.specs.Chart.{chart}
@@ -71,11 +72,11 @@ module _ (G : Network) (net : IsNet G) (without : HasNoYard G) (o : Notice) (roo
 
   first_link : (w : ℕ) → memb w o.neighbours ≡ true → T (H.linked a w)
   unfolding with_depot add_depot
-  first_link w m = true→t (or_left (G.linked a w) (or_left (eqb w a && memb a o.neighbours) (and_intro (eq-eqb a a refl) m)))
+  first_link w m = true→t (or_left _ (G.linked a w) (or_left _ (eqb w a && memb a o.neighbours) (and_from _ _ (eq-eqb a a refl) m)))
 
   open_cases : (v : ℕ) → T (H.is_open v) → (v ≡ a) ⊎ T (G.is_open v)
   unfolding with_depot add_depot
-  open_cases v ov = go (or_true (eqb v a) (G.is_open v) (t→true (eqb v a || G.is_open v) ov))
+  open_cases v ov = go (or_cases (eqb v a) (G.is_open v) (t→true (eqb v a || G.is_open v) ov))
     where
       go : (eqb v a ≡ true) ⊎ (G.is_open v ≡ true) → (v ≡ a) ⊎ T (G.is_open v)
       go (inl q) = inl (eqb-true v a q)

@@ -9,8 +9,9 @@ use native.Mathlib.Nat.{lt_irrefl}
 use native.Mathlib.Omega.{arith}
 use lib.Dec.{T, eqb, ltb, leb}
 use borrow.Author.Tests.{leb-true, le-leb, ltb-true, ltb-false, eqb-true, eq-eqb}
+use Rattle.std.proofs.lemmas.Bool.{cases_Bool, or_cases, and_parts, or_left, or_right, and_from}
 use Rattle.lists.specs.Lists.{filterb, anyb}
-use Rattle.lists.proofs.Tests.{look, clash, t→true, true→t, or_true, and-true, or_left, or_right, and_intro}
+use Rattle.lists.proofs.Tests.{clash, t→true, true→t}
 use Rattle.lists.proofs.Members.{any_elim, filter_in, filter_out}
 use Rattle.graph.specs.Network.{Network, IsDist, Walk}
 use Rattle.graph.specs.Distance.{vertices, dist}
@@ -68,7 +69,7 @@ module _ (h : ℕ → ℕ) where
   nearer_cases : (c v : ℕ)
       → ((nearer_of h c v ≡ v) × (h v ≤ h c) × (h v ≡ h c → v ≤ c)) ⊎ ((nearer_of h c v ≡ c) × (h c ≤ h v) × (h c ≡ h v → c ≤ v))
   unfolding nearer_of
-  nearer_cases c v = go (look (ltb (h v) (h c) || (eqb (h v) (h c) && ltb v c)))
+  nearer_cases c v = go (cases_Bool (ltb (h v) (h c) || (eqb (h v) (h c) && ltb v c)))
     where
       test : Bool
       test = ltb (h v) (h c) || (eqb (h v) (h c) && ltb v c)
@@ -76,27 +77,27 @@ module _ (h : ℕ → ℕ) where
       taken : (ltb (h v) (h c) ≡ true) ⊎ ((eqb (h v) (h c) && ltb v c) ≡ true) → (h v ≤ h c) × (h v ≡ h c → v ≤ c)
       taken (inl t) = let l : h v < h c = ltb-true (h v) (h c) t in (omega arith, λ e. absurd (lt_irrefl (h v) (omega arith)))
       taken (inr t) =
-          let p = and-true (eqb (h v) (h c)) (ltb v c) t in
+          let p = and_parts (eqb (h v) (h c)) (ltb v c) t in
           let e : h v ≡ h c = eqb-true (h v) (h c) p.0 in
           let l : v < c = ltb-true v c p.1 in
           (omega arith, λ q. omega arith)
 
       first : test ≡ false → ltb (h v) (h c) ≡ false
-      first f = miss (look (ltb (h v) (h c)))
+      first f = miss (cases_Bool (ltb (h v) (h c)))
         where
           miss : (ltb (h v) (h c) ≡ true) ⊎ (ltb (h v) (h c) ≡ false) → ltb (h v) (h c) ≡ false
-          miss (inl t) = absurd (clash (or_left (eqb (h v) (h c) && ltb v c) t) f)
+          miss (inl t) = absurd (clash (or_left _ (eqb (h v) (h c) && ltb v c) t) f)
           miss (inr n) = n
 
       second : test ≡ false → h c ≡ h v → ltb v c ≡ false
-      second f e = miss (look (ltb v c))
+      second f e = miss (cases_Bool (ltb v c))
         where
           miss : (ltb v c ≡ true) ⊎ (ltb v c ≡ false) → ltb v c ≡ false
-          miss (inl t) = absurd (clash (or_right (ltb (h v) (h c)) (and_intro (eq-eqb (h v) (h c) (sym e)) t)) f)
+          miss (inl t) = absurd (clash (or_right (ltb (h v) (h c)) _ (and_from _ _ (eq-eqb (h v) (h c) (sym e)) t)) f)
           miss (inr n) = n
 
       go : (test ≡ true) ⊎ (test ≡ false) → ((cond test v c ≡ v) × (h v ≤ h c) × (h v ≡ h c → v ≤ c)) ⊎ ((cond test v c ≡ c) × (h c ≤ h v) × (h c ≡ h v → c ≤ v))
-      go (inl t) = let x = taken (or_true (ltb (h v) (h c)) (eqb (h v) (h c) && ltb v c) t) in inl (rw t, x.0, x.1)
+      go (inl t) = let x = taken (or_cases (ltb (h v) (h c)) (eqb (h v) (h c) && ltb v c) t) in inl (rw t, x.0, x.1)
       go (inr f) = inr (rw f, ltb-false (h v) (h c) (first f), λ e. ltb-false v c (second f e))
 
   -- the head of a list exchanged for the nearer of it and one more

@@ -9,8 +9,9 @@ use native.Mathlib.Omega.{arith}
 use lib.Dec.{T, eqb, ltb}
 use lib.ListN.{length}
 use borrow.Author.Tests.{lt-ltb, eqb-true, eq-eqb, not-false}
+use Rattle.std.proofs.lemmas.Bool.{and_parts, and_from, or_cases, or_left, or_right}
 use Rattle.lists.specs.Lists.{allb, memb, distinct, first_of}
-use Rattle.lists.proofs.Tests.{t→true, true→t, false→not, clash, and-true, and_intro, or_true, or_left, or_right, not→false}
+use Rattle.lists.proofs.Tests.{t→true, true→t, false→not, clash, not→false}
 use Rattle.lists.proofs.Members.{first_zero, all_elim, memb_in, in_memb}
 use Rattle.lists.proofs.Distinct.{insert_memb, insert_distinct, insert_length}
 use Rattle.graph.specs.Network.{Network, IsSound, Walk, stay, delivers}
@@ -69,15 +70,15 @@ module _ (key : ℕ → ℕ) (G : Network) (net : IsNet G) (y : Bool) (a : ℕ) 
 
   open_old : (v : ℕ) → T (G.is_open v) → T (H.is_open v)
   unfolding add_depot
-  open_old v o = true→t (or_right (eqb v a) (t→true (G.is_open v) o))
+  open_old v o = true→t (or_right (eqb v a) _ (t→true (G.is_open v) o))
 
   open_new : T (H.is_open a)
   unfolding add_depot
-  open_new = true→t (or_left (G.is_open a) (eq-eqb a a refl))
+  open_new = true→t (or_left _ (G.is_open a) (eq-eqb a a refl))
 
   open_cases : (v : ℕ) → T (H.is_open v) → (v ≡ a) ⊎ T (G.is_open v)
   unfolding add_depot
-  open_cases v o = go (or_true (eqb v a) (G.is_open v) (t→true (eqb v a || G.is_open v) o))
+  open_cases v o = go (or_cases (eqb v a) (G.is_open v) (t→true (eqb v a || G.is_open v) o))
     where
       go : (eqb v a ≡ true) ⊎ (G.is_open v ≡ true) → (v ≡ a) ⊎ T (G.is_open v)
       go (inl h) = inl (eqb-true v a h)
@@ -86,39 +87,39 @@ module _ (key : ℕ → ℕ) (G : Network) (net : IsNet G) (y : Bool) (a : ℕ) 
   -- a yard is the new depot, or an old one
   yard_cases : (v : ℕ) → T (H.is_yard v) → ((y ≡ true) × (v ≡ a)) ⊎ T (G.is_yard v)
   unfolding add_depot
-  yard_cases v t = go (or_true (y && eqb v a) (G.is_yard v) (t→true ((y && eqb v a) || G.is_yard v) t))
+  yard_cases v t = go (or_cases (y && eqb v a) (G.is_yard v) (t→true ((y && eqb v a) || G.is_yard v) t))
     where
       go : ((y && eqb v a) ≡ true) ⊎ (G.is_yard v ≡ true) → ((y ≡ true) × (v ≡ a)) ⊎ T (G.is_yard v)
-      go (inl h) = let k = and-true y (eqb v a) h in inl (k.0, eqb-true v a k.1)
+      go (inl h) = let k = and_parts y (eqb v a) h in inl (k.0, eqb-true v a k.1)
       go (inr h) = inr (true→t h)
 
   yard_old : (v : ℕ) → T (G.is_yard v) → T (H.is_yard v)
   unfolding add_depot
-  yard_old v t = true→t (or_right (y && eqb v a) (t→true (G.is_yard v) t))
+  yard_old v t = true→t (or_right (y && eqb v a) _ (t→true (G.is_yard v) t))
 
   link_cases : (u v : ℕ) → T (H.linked u v) → ((u ≡ a) × (beside v ≡ true)) ⊎ (((v ≡ a) × (beside u ≡ true)) ⊎ T (G.linked u v))
   unfolding add_depot
-  link_cases u v l = go (or_true ((eqb u a && beside v) || (eqb v a && beside u)) (G.linked u v) (t→true ((eqb u a && beside v) || (eqb v a && beside u) || G.linked u v) l))
+  link_cases u v l = go (or_cases ((eqb u a && beside v) || (eqb v a && beside u)) (G.linked u v) (t→true ((eqb u a && beside v) || (eqb v a && beside u) || G.linked u v) l))
     where
       inner : ((eqb u a && beside v) ≡ true) ⊎ ((eqb v a && beside u) ≡ true) → ((u ≡ a) × (beside v ≡ true)) ⊎ (((v ≡ a) × (beside u ≡ true)) ⊎ T (G.linked u v))
-      inner (inl h) = let k = and-true (eqb u a) (beside v) h in inl (eqb-true u a k.0, k.1)
-      inner (inr h) = let k = and-true (eqb v a) (beside u) h in inr (inl (eqb-true v a k.0, k.1))
+      inner (inl h) = let k = and_parts (eqb u a) (beside v) h in inl (eqb-true u a k.0, k.1)
+      inner (inr h) = let k = and_parts (eqb v a) (beside u) h in inr (inl (eqb-true v a k.0, k.1))
 
       go : (((eqb u a && beside v) || (eqb v a && beside u)) ≡ true) ⊎ (G.linked u v ≡ true) → ((u ≡ a) × (beside v ≡ true)) ⊎ (((v ≡ a) × (beside u ≡ true)) ⊎ T (G.linked u v))
-      go (inl h) = inner (or_true (eqb u a && beside v) (eqb v a && beside u) h)
+      go (inl h) = inner (or_cases (eqb u a && beside v) (eqb v a && beside u) h)
       go (inr h) = inr (inr (true→t h))
 
   link_from : (u v : ℕ) → u ≡ a → beside v ≡ true → T (H.linked u v)
   unfolding add_depot
-  link_from u v q m = true→t (or_left (G.linked u v) (or_left (eqb v a && beside u) (and_intro (eq-eqb u a q) m)))
+  link_from u v q m = true→t (or_left _ (G.linked u v) (or_left _ (eqb v a && beside u) (and_from _ _ (eq-eqb u a q) m)))
 
   link_to : (u v : ℕ) → v ≡ a → beside u ≡ true → T (H.linked u v)
   unfolding add_depot
-  link_to u v q m = true→t (or_left (G.linked u v) (or_right (eqb u a && beside v) (and_intro (eq-eqb v a q) m)))
+  link_to u v q m = true→t (or_left _ (G.linked u v) (or_right (eqb u a && beside v) _ (and_from _ _ (eq-eqb v a q) m)))
 
   link_kept : (u v : ℕ) → T (G.linked u v) → T (H.linked u v)
   unfolding add_depot
-  link_kept u v l = true→t (or_right ((eqb u a && beside v) || (eqb v a && beside u)) (t→true (G.linked u v) l))
+  link_kept u v l = true→t (or_right ((eqb u a && beside v) || (eqb v a && beside u)) _ (t→true (G.linked u v) l))
 
   pub opened_sound : IsSound H
   opened_sound = record {

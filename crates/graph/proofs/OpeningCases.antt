@@ -10,8 +10,9 @@ use lib.Dec.{eqb, ltb}
 use lib.ListN.{length}
 use lib.Arith.{lt_of_le-ne}
 use borrow.Author.Tests.{ltb-true, ltb-false, lt-ltb, le-ltb, eqb-true, eqb-false, not-true}
+use Rattle.std.proofs.lemmas.Bool.{cases_Bool, and_parts, and_from, or_cases, or_left, or_right}
 use Rattle.lists.specs.Lists.{anyb, memb}
-use Rattle.lists.proofs.Tests.{look, clash, and-true, and_intro, or_true, or_left, or_right}
+use Rattle.lists.proofs.Tests.{clash}
 use Rattle.lists.proofs.Members.{any_intro, any_elim}
 use Rattle.lists.proofs.Counts.{count_le_length}
 use Rattle.graph.specs.Chart.{Chart, ecc, greatest_ecc, Pairs, own_pairs}
@@ -119,7 +120,7 @@ module _ (C₀ C : Chart) (metric : IsMetric C) (a D : ℕ) (P : Pairs) (was : I
   left→far : (u v : ℕ) → staying_pairs (via C a) D P u v ≡ true → IsFar C D u v
   unfolding staying_pairs
   left→far u v h =
-      let k = and-true (P u v) (not (ltb (via C a u v) D)) h in
+      let k = and_parts (P u v) (not (ltb (via C a u v) D)) h in
       let p = was.is_far u v k.0 in
       let l : D ≤ via C a u v = ltb-false (via C a u v) D (not-true (ltb (via C a u v) D) k.1) in
       let s : C.distance u v ≡ min D (via C a u v) = stored u v k.0 in
@@ -131,7 +132,7 @@ module _ (C₀ C : Chart) (metric : IsMetric C) (a D : ℕ) (P : Pairs) (was : I
       let t : C.distance u v ≡ min (C₀.distance u v) (C.distance a u + C.distance a v) = ins.through u v tu tv in
       let w : C₀.distance u v ≤ D = was.upper u v tu tv in
       let f : C.distance u v ≡ D = p.far in
-      and_intro (was.is_pair u v record { before = p.before; first = tu; second = tv; far = omega arith })
+      and_from _ _ (was.is_pair u v record { before = p.before; first = tu; second = tv; far = omega arith })
       (not_of (ltb (via C a u v) D) (le-ltb (via C a u v) D (omega arith)))
     where
       not_of : (b : Bool) → b ≡ false → not b ≡ true
@@ -169,7 +170,7 @@ module _ (C₀ C : Chart) (metric : IsMetric C) (a D : ℕ) (P : Pairs) (was : I
     right = record {
       upper = upper_by D (le_refl D) (most q);
       attained = attained q (ecc_at C metric a);
-      is_far = λ u v h. far u v (or_true (staying_pairs (via C a) D P u v) (own_pairs C a D u v) h);
+      is_far = λ u v h. far u v (or_cases (staying_pairs (via C a) D P u v) (own_pairs C a D u v) h);
       is_pair = λ u v p. pair u v p (ends D u v p);
     };
     letter = refl;
@@ -190,8 +191,8 @@ module _ (C₀ C : Chart) (metric : IsMetric C) (a D : ℕ) (P : Pairs) (was : I
       far u v (inr h) = own→far D u v h
 
       pair : (u v : ℕ) → IsFar C D u v → (((u ≡ a) × (C.distance a v ≡ D)) ⊎ ((v ≡ a) × (C.distance a u ≡ D))) ⊎ ((C₀.is_destination u ≡ true) × (C₀.is_destination v ≡ true)) → (staying_pairs (via C a) D P u v || own_pairs C a D u v) ≡ true
-      pair u v p (inl x) = or_right (staying_pairs (via C a) D P u v) (far→own D u v p x)
-      pair u v p (inr x) = or_left (own_pairs C a D u v) (far→left u v p x.0 x.1)
+      pair u v p (inl x) = or_right (staying_pairs (via C a) D P u v) _ (far→own D u v p x)
+      pair u v p (inr x) = or_left _ (own_pairs C a D u v) (far→left u v p x.0 x.1)
 
   -- below, e < D if a is a destination: a has no pair at distance D
   low_pair : (C.is_destination a ≡ true → e < D) → (u v : ℕ) → IsFar C D u v → staying_pairs (via C a) D P u v ≡ true
@@ -270,7 +271,7 @@ module _ (C₀ C : Chart) (metric : IsMetric C) (a D : ℕ) (P : Pairs) (was : I
 
   grows_is : grows_by C a D ≡ true → (C.is_destination a ≡ true) × (D < e)
   unfolding grows_by e
-  grows_is p = let h = and-true (C.is_destination a) (ltb D (ecc C a)) p in (h.0, ltb-true D (ecc C a) h.1)
+  grows_is p = let h = and_parts (C.is_destination a) (ltb D (ecc C a)) p in (h.0, ltb-true D (ecc C a) h.1)
 
   kept_is : kept_by C a D ≡ true → ((C.is_destination a ≡ true) × (e ≡ D)) ⊎ ((C.is_destination a ≡ false) × (D ≡ 0))
   unfolding kept_by e
@@ -287,7 +288,7 @@ module _ (C₀ C : Chart) (metric : IsMetric C) (a D : ℕ) (P : Pairs) (was : I
 
   positive : grows_by C a D ≡ false → kept_by C a D ≡ false → 0 < D
   unfolding kept_by
-  positive p q = go (look (C.is_destination a))
+  positive p q = go (cases_Bool (C.is_destination a))
     where
       go : (C.is_destination a ≡ true) ⊎ (C.is_destination a ≡ false) → 0 < D
       go (inl t) = let l : e < D = low p q t in omega arith

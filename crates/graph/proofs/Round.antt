@@ -10,8 +10,9 @@ use native.Mathlib.Decide.{dec_lt}
 use native.Mathlib.Omega.{arith}
 use lib.Dec.{eqb, ltb}
 use borrow.Author.Tests.{ltb-true, ltb-false, eqb-true, eqb-false, eq-eqb, ne_eqb}
+use Rattle.std.proofs.lemmas.Bool.{and_parts, and_from, or_cases, or_left, or_right}
 use Rattle.lists.specs.Lists.{memb}
-use Rattle.lists.proofs.Tests.{clash, and-true, and_intro, or_true, or_left, or_right}
+use Rattle.lists.proofs.Tests.{clash}
 use Rattle.lists.proofs.Members.{memb_snoc}
 use Rattle.lists.proofs.Distinct.{IsCounted, counted_snoc}
 use Rattle.graph.specs.Distance.{unreached}
@@ -28,7 +29,7 @@ module _ (C : Chart) (metric : IsMetric C) where
   Fine c refs v (searched e) = (memb v refs ≡ true) × (e ≡ ecc C v) × (C.is_destination v ≡ true → ecc C v ≤ c)
 
   more : (g : ℕ) (refs : List ℕ) (r : ℕ) → memb g refs ≡ true → memb g (refs ++ (r ∷ [])) ≡ true
-  more g refs r h = memb_snoc g refs r ∙ or_left (eqb g r) h
+  more g refs r h = memb_snoc g refs r ∙ or_left _ (eqb g r) h
 
   other : (v : ℕ) (refs : List ℕ) (r : ℕ) → (v ≡ r → ⊥) → memb v (refs ++ (r ∷ [])) ≡ memb v refs
   other v refs r n = memb_snoc v refs r ∙ go (memb v refs) (ne_eqb v r n)
@@ -62,7 +63,7 @@ module _ (C : Chart) (metric : IsMetric C) where
         keep e (inr y) = let l : b ≤ x = ltb-false x b e in let z : b ≡ ecc C g + C.distance g v = y.1 in inr (more g refs r y.0, omega arith)
 
         give : (t : Bool) → ltb x b ≡ t → (min x b ≡ unreached) ⊎ ((memb (cond t r g) refs' ≡ true) × (min x b ≡ ecc C (cond t r g) + C.distance (cond t r g) v))
-        give true e = let l : x < b = ltb-true x b e in inr (memb_snoc r refs r ∙ or_right (memb r refs) (eq-eqb r r refl), omega arith)
+        give true e = let l : x < b = ltb-true x b e in inr (memb_snoc r refs r ∙ or_right (memb r refs) _ (eq-eqb r r refl), omega arith)
         give false e = keep e h.2
 
         low : (t : Bool) → min x b < c' → (min x b ≡ unreached) ⊎ ((memb (cond t r g) refs' ≡ true) × (min x b ≡ ecc C (cond t r g) + C.distance (cond t r g) v))
@@ -96,22 +97,22 @@ module _ (C : Chart) (metric : IsMetric C) where
   pub own_is : (r e u v : ℕ) → own_pairs C r e u v ≡ true → (ltb u v ≡ true) × (C.is_destination u ≡ true) × (C.is_destination v ≡ true) × (((u ≡ r) × (C.distance r v ≡ e)) ⊎ ((v ≡ r) × (C.distance r u ≡ e)))
   unfolding own_pairs
   own_is r e u v h =
-      let p = and-true (ltb u v && C.is_destination u && C.is_destination v) ((eqb u r && eqb (C.distance r v) e) || (eqb v r && eqb (C.distance r u) e)) h in
-      let q = and-true (ltb u v && C.is_destination u) (C.is_destination v) p.0 in
-      let s = and-true (ltb u v) (C.is_destination u) q.0 in
-      (s.0, s.1, q.1, go (or_true (eqb u r && eqb (C.distance r v) e) (eqb v r && eqb (C.distance r u) e) p.1))
+      let p = and_parts (ltb u v && C.is_destination u && C.is_destination v) ((eqb u r && eqb (C.distance r v) e) || (eqb v r && eqb (C.distance r u) e)) h in
+      let q = and_parts (ltb u v && C.is_destination u) (C.is_destination v) p.0 in
+      let s = and_parts (ltb u v) (C.is_destination u) q.0 in
+      (s.0, s.1, q.1, go (or_cases (eqb u r && eqb (C.distance r v) e) (eqb v r && eqb (C.distance r u) e) p.1))
     where
       go : ((eqb u r && eqb (C.distance r v) e) ≡ true) ⊎ ((eqb v r && eqb (C.distance r u) e) ≡ true) → ((u ≡ r) × (C.distance r v ≡ e)) ⊎ ((v ≡ r) × (C.distance r u ≡ e))
-      go (inl k) = let a = and-true (eqb u r) (eqb (C.distance r v) e) k in inl (eqb-true u r a.0, eqb-true (C.distance r v) e a.1)
-      go (inr k) = let a = and-true (eqb v r) (eqb (C.distance r u) e) k in inr (eqb-true v r a.0, eqb-true (C.distance r u) e a.1)
+      go (inl k) = let a = and_parts (eqb u r) (eqb (C.distance r v) e) k in inl (eqb-true u r a.0, eqb-true (C.distance r v) e a.1)
+      go (inr k) = let a = and_parts (eqb v r) (eqb (C.distance r u) e) k in inr (eqb-true v r a.0, eqb-true (C.distance r u) e a.1)
 
   pub own_left : (r e v : ℕ) → ltb r v ≡ true → C.is_destination r ≡ true → C.is_destination v ≡ true → C.distance r v ≡ e → own_pairs C r e r v ≡ true
   unfolding own_pairs
-  own_left r e v l t w f = and_intro (and_intro (and_intro l t) w) (or_left (eqb v r && eqb (C.distance r r) e) (and_intro (eq-eqb r r refl) (eq-eqb (C.distance r v) e f)))
+  own_left r e v l t w f = and_from _ _ (and_from _ _ (and_from _ _ l t) w) (or_left _ (eqb v r && eqb (C.distance r r) e) (and_from _ _ (eq-eqb r r refl) (eq-eqb (C.distance r v) e f)))
 
   pub own_right : (r e u : ℕ) → ltb u r ≡ true → C.is_destination u ≡ true → C.is_destination r ≡ true → C.distance r u ≡ e → own_pairs C r e u r ≡ true
   unfolding own_pairs
-  own_right r e u l t w f = and_intro (and_intro (and_intro l t) w) (or_right (eqb u r && eqb (C.distance r r) e) (and_intro (eq-eqb r r refl) (eq-eqb (C.distance r u) e f)))
+  own_right r e u l t w f = and_from _ _ (and_from _ _ (and_from _ _ l t) w) (or_right (eqb u r && eqb (C.distance r r) e) _ (and_from _ _ (eq-eqb r r refl) (eq-eqb (C.distance r u) e f)))
 
   module _ (S : State) (r : ℕ) (mr : Memᴰ r C.depots) where
     refs⁺ : List ℕ
@@ -127,7 +128,7 @@ module _ (C : Chart) (metric : IsMetric C) where
 
     was : (v : ℕ) → memb v refs⁺ ≡ true → (memb v S.references ≡ true) ⊎ (v ≡ r)
     unfolding refs⁺
-    was v h = go (or_true (memb v S.references) (eqb v r) (sym (memb_snoc v S.references r) ∙ h))
+    was v h = go (or_cases (memb v S.references) (eqb v r) (sym (memb_snoc v S.references r) ∙ h))
       where
         go : (memb v S.references ≡ true) ⊎ (eqb v r ≡ true) → (memb v S.references ≡ true) ⊎ (v ≡ r)
         go (inl k) = inl k
@@ -163,7 +164,7 @@ module _ (C : Chart) (metric : IsMetric C) where
         far tu tv (inr x) = metric.symmetric u v (metric.inside u tu) (metric.inside v tv) ∙ ap (λ (w : ℕ). C.distance w u) x.0 ∙ x.1
 
         self : (w : ℕ) → w ≡ r → memb w refs⁺ ≡ true
-        self w q = memb_snoc w S.references r ∙ or_right (memb w S.references) (eq-eqb w r q)
+        self w q = memb_snoc w S.references r ∙ or_right (memb w S.references) _ (eq-eqb w r q)
 
         hit : ((u ≡ r) × (C.distance r v ≡ e)) ⊎ ((v ≡ r) × (C.distance r u ≡ e)) → (memb u refs⁺ ≡ true) ⊎ (memb v refs⁺ ≡ true)
         hit (inl x) = inl (self u x.0)
@@ -264,14 +265,14 @@ module _ (C : Chart) (metric : IsMetric C) where
             to (omega arith) (own→pair (ecc C r) u v (omega arith) h)
         sound true false true false t a s n h =
             let q : ecc C r ≡ S.candidate = eqb-true (ecc C r) S.candidate s in
-            to (omega arith) (both q (positive_of n) (or_true (S.pairs u v) (own_pairs C r (ecc C r) u v) h))
+            to (omega arith) (both q (positive_of n) (or_cases (S.pairs u v) (own_pairs C r (ecc C r) u v) h))
         sound true false true true t a s n h =
             let q : ecc C r ≡ S.candidate = eqb-true (ecc C r) S.candidate s in
             to (omega arith) (old h)
         sound true false false nil t a s n h =
             let l : ecc C r ≤ S.candidate = ltb-false S.candidate (ecc C r) a in
             to (omega arith) (old h)
-        sound false above true false t a s n h = only t (or_true (S.pairs u v) (own_pairs C r (ecc C r) u v) h) (positive_of n)
+        sound false above true false t a s n h = only t (or_cases (S.pairs u v) (own_pairs C r (ecc C r) u v) h) (positive_of n)
         sound false above true true t a s n h = old h
         sound false above false nil t a s n h = old h
 
@@ -290,8 +291,8 @@ module _ (C : Chart) (metric : IsMetric C) where
         adds p q = go (narrow S.candidate u v p)
           where
             go : ((memb u S.references ≡ true) ⊎ (memb v S.references ≡ true)) ⊎ ((u ≡ r) ⊎ (v ≡ r)) → (S.pairs u v || own_pairs C r (ecc C r) u v) ≡ true
-            go (inl h) = or_left (own_pairs C r (ecc C r) u v) (old_in p h)
-            go (inr x) = or_right (S.pairs u v) (pair→own (ecc C r) u v (to (sym q) p) x)
+            go (inl h) = or_left _ (own_pairs C r (ecc C r) u v) (old_in p h)
+            go (inr x) = or_right (S.pairs u v) _ (pair→own (ecc C r) u v (to (sym q) p) x)
 
         alone : (c : ℕ) → S.candidate < c → c ≡ ecc C r → IsPair c refs⁺ u v → own_pairs C r (ecc C r) u v ≡ true
         alone c l q p = go (narrow c u v p)
@@ -318,7 +319,7 @@ module _ (C : Chart) (metric : IsMetric C) where
             let l : ecc C r ≤ S.candidate = ltb-false S.candidate (ecc C r) a in
             let p' = to {d = S.candidate} (omega arith) p in
             stays p' (λ x. let m : S.candidate ≤ ecc C r = own_near S.candidate u v p' x in eqb-false (ecc C r) S.candidate s (omega arith))
-        complete false above true false t a s n p = or_left (own_pairs C r (ecc C r) u v) (stays p (no_own S.candidate u v t p))
+        complete false above true false t a s n p = or_left _ (own_pairs C r (ecc C r) u v) (stays p (no_own S.candidate u v t p))
         complete false above true true t a s n p = stays p (no_own S.candidate u v t p)
         complete false above false nil t a s n p = stays p (no_own S.candidate u v t p)
 
@@ -359,7 +360,7 @@ module _ (C : Chart) (metric : IsMetric C) where
             go : (b : Bool) → eqb v r ≡ b → Fine (raise C r (ecc C r) S.candidate) refs⁺ v (cond b (searched (ecc C r)) (offer (raise C r (ecc C r) S.candidate) r (ecc C r + C.distance r v) (S.status v)))
             go true q =
                 let w = eqb-true v r q in
-                (memb_snoc v S.references r ∙ or_right (memb v S.references) q, ap (ecc C) (sym w), λ t. le_trans (le_of_eq (ap (ecc C) w)) (raise_own (ap C.is_destination (sym w) ∙ t)))
+                (memb_snoc v S.references r ∙ or_right (memb v S.references) _ q, ap (ecc C) (sym w), λ t. le_trans (le_of_eq (ap (ecc C) w)) (raise_own (ap C.is_destination (sym w) ∙ t)))
             go false q = offer_fine S.references r mr S.candidate (raise C r (ecc C r) S.candidate) raise_le (le_trans raise_top top_small) v m (eqb-false v r q) (S.status v) (I.fine v m)
 
         pub round_keeps : Invariant top (round C r S)

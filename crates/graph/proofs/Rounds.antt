@@ -10,8 +10,9 @@ use native.Mathlib.Nat.{lt_irrefl}
 use native.Mathlib.Omega.{arith}
 use lib.Dec.{ltb}
 use borrow.Author.Tests.{lt-ltb}
+use Rattle.std.proofs.lemmas.Bool.{cases_Bool}
 use Rattle.lists.specs.Lists.{anyb, countb, memb}
-use Rattle.lists.proofs.Tests.{look, clash}
+use Rattle.lists.proofs.Tests.{clash}
 use Rattle.lists.proofs.Members.{filter_in, filter_out}
 use Rattle.lists.proofs.Counts.{count_lt, count-zero, count_none}
 use Rattle.lists.proofs.Distinct.{counted_nil}
@@ -58,7 +59,7 @@ module _ (C : Chart) (metric : IsMetric C) where
     rounds_right (suc k) S I l = go (pick C (remaining C S)) refl (rounds_right k)
       where
         none_left : pick C (remaining C S) ≡ none → waiting_count S ≡ 0
-        none_left q = count_none (λ v. is_waiting (S.status v)) C.depots (λ v m. at v m (look (is_waiting (S.status v))))
+        none_left q = count_none (λ v. is_waiting (S.status v)) C.depots (λ v m. at v m (cases_Bool (is_waiting (S.status v))))
           where
             at : (v : ℕ) → Memᴰ v C.depots → (is_waiting (S.status v) ≡ true) ⊎ (is_waiting (S.status v) ≡ false) → is_waiting (S.status v) ≡ false
             at v m (inl h) = absurd (pick-none C (remaining C S) q v (filter_in (λ v. is_waiting (S.status v)) C.depots m h))

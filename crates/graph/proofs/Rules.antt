@@ -8,9 +8,10 @@ use native.Mathlib.Nat.{lt_irrefl}
 use native.Mathlib.Omega.{arith}
 use lib.Dec.{T, ltb}
 use borrow.Author.Tests.{ltb-true, lt-ltb, not-false}
+use Rattle.std.proofs.lemmas.Bool.{cases_Bool}
 use Rattle.lists.specs.Lists.{range, anyb, countb, max_of}
 use Rattle.lists.proofs.Counts.{max_ext}
-use Rattle.lists.proofs.Tests.{look, clash, t→true, true→t}
+use Rattle.lists.proofs.Tests.{clash, t→true, true→t}
 use Rattle.lists.proofs.Members.{any_intro}
 use Rattle.lists.proofs.Distinct.{memb-range, distinct-range, count_either}
 use Rattle.graph.specs.Network.{Network, IsSound}
@@ -29,7 +30,7 @@ degree_is G sound n below u =
     (λ v h. memb-range n v ∙ lt-ltb v n (below v (sound.ends u v (true→t h))))
 
 any_out : (p : ℕ → Bool) (xs : List ℕ) → anyb p xs ≡ false → (x : ℕ) → Memᴰ x xs → p x ≡ false
-any_out p xs e x m = go (look (p x))
+any_out p xs e x m = go (cases_Bool (p x))
   where
     go : (p x ≡ true) ⊎ (p x ≡ false) → p x ≡ false
     go (inl t) = absurd (clash (any_intro p xs m t) e)

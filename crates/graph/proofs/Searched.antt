@@ -10,8 +10,8 @@ use native.Mathlib.Omega.{arith}
 use lib.Dec.{eqb}
 use lib.ListN.{length}
 use borrow.Author.Tests.{eqb-true, ne_eqb}
+use Rattle.std.proofs.lemmas.Bool.{or_cases, or_left, or_right}
 use Rattle.lists.specs.Lists.{anyb, memb}
-use Rattle.lists.proofs.Tests.{or_true, or_left, or_right}
 use Rattle.lists.proofs.Counts.{count_le_length}
 use Rattle.lists.proofs.Distinct.{IsCounted, counted_nil, counted_snoc}
 use Rattle.graph.specs.Distance.{unreached}
@@ -165,7 +165,7 @@ module _ (C : Chart) (metric : IsMetric C) where
     twice_references : (c : ℕ) (Q : Pairs) → ReferencesIn C (searched_twice C a b c Q)
     unfolding searched_twice
     twice_references c Q = record {
-      inside = λ v h. in_either v (or_true (eqb v a) (eqb v b) (sym (two_references v) ∙ h));
+      inside = λ v h. in_either v (or_cases (eqb v a) (eqb v b) (sym (two_references v) ∙ h));
       stands = λ v m. go v (eqb v a) (eqb v b) refl refl;
       counted = counted_snoc (a ∷ []) b (counted_snoc [] a counted_nil (no_reference a)) (one_reference a b ∙ ne_eqb b a (λ e. apart (sym e)));
     }
@@ -176,8 +176,8 @@ module _ (C : Chart) (metric : IsMetric C) where
 
         go : (v : ℕ) (s t : Bool) → eqb v a ≡ s → eqb v b ≡ t
             → StandsIn C (a ∷ b ∷ []) v (cond s (searched (ecc C a)) (cond t (searched (ecc C b)) (waiting unreached 0)))
-        go v true t h k = (two_references v ∙ or_left (eqb v b) h, ap (ecc C) (sym (eqb-true v a h)))
-        go v false true h k = (two_references v ∙ or_right (eqb v a) k, ap (ecc C) (sym (eqb-true v b k)))
+        go v true t h k = (two_references v ∙ or_left _ (eqb v b) h, ap (ecc C) (sym (eqb-true v a h)))
+        go v false true h k = (two_references v ∙ or_right (eqb v a) _ k, ap (ecc C) (sym (eqb-true v b k)))
         go v false false h k = two_references v ∙ rw (h, k)
 
     pub linking_references : ReferencesIn C (linking C a b D P).final

@@ -9,7 +9,8 @@ use native.Mathlib.Nat.{lt_of_le_of_lt}
 use native.Mathlib.Omega.{arith}
 use lib.Dec.{T, eqb, ltb}
 use lib.ListN.{length}
-use Rattle.lists.proofs.Tests.{clash, true→t, and-true, or_true}
+use Rattle.std.proofs.lemmas.Bool.{and_parts, or_cases}
+use Rattle.lists.proofs.Tests.{clash, true→t}
 use Rattle.graph.specs.Network.{Network, IsDist, delivers}
 use Rattle.graph.specs.Distance.{vertices}
 use Rattle.graph.specs.Chart.{Chart, chart, ecc, Pairs, own_pairs}
@@ -40,7 +41,7 @@ module _ (C : Chart) (metric : IsMetric C) where
   own_rising r e u v h = let k = own_is C metric r e u v h in (k.0, k.1, k.2)
 
   or_rising : (P Q : Pairs) → JoinRising C P → JoinRising C Q → JoinRising C (λ u v. P u v || Q u v)
-  or_rising P Q p q u v h = go (or_true (P u v) (Q u v) h)
+  or_rising P Q p q u v h = go (or_cases (P u v) (Q u v) h)
     where
       go : (P u v ≡ true) ⊎ (Q u v ≡ true) → (ltb u v ≡ true) × (C.is_destination u ≡ true) × (C.is_destination v ≡ true)
       go (inl x) = p u v x
@@ -48,7 +49,7 @@ module _ (C : Chart) (metric : IsMetric C) where
 
   staying_rising : (way : ℕ → ℕ → ℕ) (D : ℕ) (P : Pairs) → JoinRising C P → JoinRising C (staying_pairs way D P)
   unfolding staying_pairs
-  staying_rising way D P p u v h = p u v (and-true (P u v) (not (ltb (way u v) D)) h).0
+  staying_rising way D P p u v h = p u v (and_parts (P u v) (not (ltb (way u v) D)) h).0
 
   joined_rising : (r e c : ℕ) (P : Pairs) → JoinRising C P → JoinRising C (join_pairs C r e c P)
   unfolding join_pairs
@@ -101,7 +102,7 @@ module _ (C : Chart) (metric : IsMetric C) where
     -- only a destination makes the chain grow
     grown_new : (a D : ℕ) → grows_by C a D ≡ true → C.is_destination a ≡ true
     unfolding grows_by
-    grown_new a D p = (and-true (C.is_destination a) (ltb D (ecc C a)) p).0
+    grown_new a D p = (and_parts (C.is_destination a) (ltb D (ecc C a)) p).0
 
     module _ (a D : ℕ) (P : Pairs) (were : SoundIn C limit D P) where
       pub opening_sound : SoundIn C limit (opening C a D P).final.candidate (opening C a D P).final.pairs

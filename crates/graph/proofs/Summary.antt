@@ -9,8 +9,9 @@ use native.Mathlib.Omega.{arith}
 use lib.Dec.{eqb, ltb}
 use lib.ListN.{length}
 use borrow.Author.Tests.{ltb-true, lt-ltb, le-ltb, eq-eqb, ne_eqb}
+use Rattle.std.proofs.lemmas.Bool.{cases_lt}
 use Rattle.lists.specs.Lists.{range, filterb, countb, sum_of, distinct}
-use Rattle.lists.proofs.Tests.{true→t, lt_or_ge}
+use Rattle.lists.proofs.Tests.{true→t}
 use Rattle.lists.proofs.Members.{filter_out, in_memb, range_out}
 use Rattle.lists.proofs.Counts.{count_ext, length_count, sum_ext, count_one_lem}
 use Rattle.lists.proofs.Distinct.{distinct_filter, count_member}
@@ -47,7 +48,7 @@ sum_most f b xs h = le_trans (sum_le f (λ x. b) xs h) (le_of_eq (sum_equal b xs
 -- ---- the pairs of a list without repeats: each two of its members, once
 
 differ : (u v : ℕ) → (ltb u v || ltb v u) ≡ not (eqb v u)
-differ u v = go (lt_or_ge u v) (lt_or_ge v u)
+differ u v = go (cases_lt u v) (cases_lt v u)
   where
     go : (u < v) ⊎ (v ≤ u) → (v < u) ⊎ (u ≤ v) → (ltb u v || ltb v u) ≡ not (eqb v u)
     go (inl a) b = rw (lt-ltb u v a, ne_eqb v u (λ e. omega arith))
@@ -70,7 +71,7 @@ pairs_twice xs d =
 
 -- two members or more are a pair or more
 pub pairs_some : (xs : List ℕ) → distinct xs ≡ true → 1 < length xs → 0 < count_pairs xs ltb
-pairs_some xs d l = go (lt_or_ge 0 (count_pairs xs ltb))
+pairs_some xs d l = go (cases_lt 0 (count_pairs xs ltb))
   where
     go : (0 < count_pairs xs ltb) ⊎ (count_pairs xs ltb ≤ 0) → 0 < count_pairs xs ltb
     go (inl p) = p

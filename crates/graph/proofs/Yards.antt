@@ -8,7 +8,8 @@ use native.Mathlib.Nat.{lt_irrefl}
 use native.Mathlib.Omega.{arith}
 use lib.Dec.{eqb, ltb}
 use borrow.Author.Tests.{eqb-true, eq-eqb}
-use Rattle.lists.proofs.Tests.{look, t→true, false→not, clash, and-true, or_true}
+use Rattle.std.proofs.lemmas.Bool.{cases_Bool, and_parts, or_cases}
+use Rattle.lists.proofs.Tests.{t→true, false→not, clash}
 use Rattle.outcome.specs.declared.Change.TheVariants.{Grew, Kept}
 use Rattle.graph.specs.Network.{Network, with_yards, IsSound, Walk, stay, step, delivers, HasNoYard}
 use Rattle.graph.specs.Distance.{vertices, dist, reached_all, connected}
@@ -29,17 +30,17 @@ module _ (C : Chart) (a : ℕ) (yard : C.is_destination a ≡ false) where
   -- it has no pairs of its own
   pub own_none : (e u v : ℕ) → own_pairs C a e u v ≡ false
   unfolding own_pairs
-  own_none e u v = go (look (own_pairs C a e u v))
+  own_none e u v = go (cases_Bool (own_pairs C a e u v))
     where
       at : C.is_destination u ≡ true → C.is_destination v ≡ true → ((eqb u a && eqb (C.distance a v) e) ≡ true) ⊎ ((eqb v a && eqb (C.distance a u) e) ≡ true) → ⊥
-      at tu tv (inl h) = clash (ap C.is_destination (sym (eqb-true u a (and-true (eqb u a) (eqb (C.distance a v) e) h).0)) ∙ tu) yard
-      at tu tv (inr h) = clash (ap C.is_destination (sym (eqb-true v a (and-true (eqb v a) (eqb (C.distance a u) e) h).0)) ∙ tv) yard
+      at tu tv (inl h) = clash (ap C.is_destination (sym (eqb-true u a (and_parts (eqb u a) (eqb (C.distance a v) e) h).0)) ∙ tu) yard
+      at tu tv (inr h) = clash (ap C.is_destination (sym (eqb-true v a (and_parts (eqb v a) (eqb (C.distance a u) e) h).0)) ∙ tv) yard
 
       go : (own_pairs C a e u v ≡ true) ⊎ (own_pairs C a e u v ≡ false) → own_pairs C a e u v ≡ false
       go (inl t) =
-          let p = and-true (ltb u v && C.is_destination u && C.is_destination v) _ t in
-          let q = and-true (ltb u v && C.is_destination u) (C.is_destination v) p.0 in
-          absurd (at (and-true (ltb u v) (C.is_destination u) q.0).1 q.1 (or_true (eqb u a && eqb (C.distance a v) e) (eqb v a && eqb (C.distance a u) e) p.1))
+          let p = and_parts (ltb u v && C.is_destination u && C.is_destination v) _ t in
+          let q = and_parts (ltb u v && C.is_destination u) (C.is_destination v) p.0 in
+          absurd (at (and_parts (ltb u v) (C.is_destination u) q.0).1 q.1 (or_cases (eqb u a && eqb (C.distance a v) e) (eqb v a && eqb (C.distance a u) e) p.1))
       go (inr f) = f
 
   -- a round from it

@@ -8,7 +8,7 @@ use native.Mathlib.Omega.{arith}
 use lib.Dec.{eqb, leb}
 use lib.ListN.{length, get_or}
 use borrow.Author.Tests.{leb-true, lt-ltb, le-ltb, le-leb, ne_eqb}
-use Rattle.lists.proofs.Tests.{and-true, and_intro, or_true, or_left, or_right, lt_or_ge}
+use Rattle.std.proofs.lemmas.Bool.{and_parts, and_from, or_cases, or_left, or_right, cases_lt}
 use Rattle.lists.specs.Lists.{allb}
 use Rattle.lists.proofs.Scans.{all-at}
 use Rattle.hexadecimal.specs.Hex.{hex_digit, is_digit, digit_value}
@@ -16,10 +16,10 @@ use Rattle.hexadecimal.specs.Hex.{hex_digit, is_digit, digit_value}
 -- a digit is one of 0 to 9 or of A to F
 pub digit_cases : (c : ℕ) → is_digit c ≡ true → ((48 ≤ c) × (c ≤ 57)) ⊎ ((65 ≤ c) × (c ≤ 70))
 unfolding is_digit
-digit_cases c h = go (or_true (leb 48 c && leb c 57) (leb 65 c && leb c 70) h)
+digit_cases c h = go (or_cases (leb 48 c && leb c 57) (leb 65 c && leb c 70) h)
   where
     within : (a b : ℕ) → (leb a c && leb c b) ≡ true → (a ≤ c) × (c ≤ b)
-    within a b e = let p = and-true (leb a c) (leb c b) e in (leb-true a c p.0, leb-true c b p.1)
+    within a b e = let p = and_parts (leb a c) (leb c b) e in (leb-true a c p.0, leb-true c b p.1)
 
     go : ((leb 48 c && leb c 57) ≡ true) ⊎ ((leb 65 c && leb c 70) ≡ true) → ((48 ≤ c) × (c ≤ 57)) ⊎ ((65 ≤ c) × (c ≤ 70))
     go (inl e) = inl (within 48 57 e)
@@ -69,7 +69,7 @@ digit_value_lem c h = go (digit_cases c h)
     go (inr p) = ap hex_digit (value_letter c (omega arith)) ∙ digit_letter (c - 55) (omega arith) ∙ omega arith
 
 pub value_digit : (d : ℕ) → d < 16 → digit_value (hex_digit d) ≡ d
-value_digit d h = go (lt_or_ge d 10)
+value_digit d h = go (cases_lt d 10)
   where
     go : (d < 10) ⊎ (10 ≤ d) → digit_value (hex_digit d) ≡ d
     go (inl l) = ap digit_value (digit_numeral d l) ∙ value_numeral (48 + d) (omega arith) ∙ omega arith
@@ -77,15 +77,15 @@ value_digit d h = go (lt_or_ge d 10)
 
 pub digit_is : (d : ℕ) → d < 16 → is_digit (hex_digit d) ≡ true
 unfolding is_digit
-digit_is d h = go (lt_or_ge d 10)
+digit_is d h = go (cases_lt d 10)
   where
     go : (d < 10) ⊎ (10 ≤ d) → is_digit (hex_digit d) ≡ true
     go (inl l) =
         ap is_digit (digit_numeral d l)
-        ∙ or_left (leb 65 (48 + d) && leb (48 + d) 70) (and_intro (le-leb 48 (48 + d) (omega arith)) (le-leb (48 + d) 57 (omega arith)))
+        ∙ or_left _ (leb 65 (48 + d) && leb (48 + d) 70) (and_from _ _ (le-leb 48 (48 + d) (omega arith)) (le-leb (48 + d) 57 (omega arith)))
     go (inr l) =
         ap is_digit (digit_letter d l)
-        ∙ or_right (leb 48 (55 + d) && leb (55 + d) 57) (and_intro (le-leb 65 (55 + d) (omega arith)) (le-leb (55 + d) 70 (omega arith)))
+        ∙ or_right (leb 48 (55 + d) && leb (55 + d) 57) _ (and_from _ _ (le-leb 65 (55 + d) (omega arith)) (le-leb (55 + d) 70 (omega arith)))
 
 -- no digit ends a line
 pub digit_no_end : (c : ℕ) → is_digit c ≡ true → eqb c 10 ≡ false

@@ -7,8 +7,8 @@ use native.Mathlib.Omega.{arith}
 use lib.Dec.{ltb}
 use lib.ListN.{length, get_or, set}
 use borrow.Author.Tests.{ltb-true, lt-ltb}
+use Rattle.std.proofs.lemmas.Bool.{and_parts, and_from}
 use Rattle.lists.specs.Lists.{allb}
-use Rattle.lists.proofs.Tests.{and-true, and_intro}
 use Rattle.hexadecimal.specs.Hex.{hex_digit, is_digit, digit_value, is_byte, digits_of, bytes_of}
 use Rattle.lists.proofs.Copies.{Copied, copied_none, copied_more, copied_at, copied_all}
 use Rattle.hexadecimal.proofs.DigitLaws.{value_below, digit_value_lem, value_digit, digit_is}
@@ -70,14 +70,14 @@ pub all_digits : (f : List ℕ) → allb is_byte f ≡ true → allb is_digit (d
 unfolding allb is_byte digits_of
 all_digits [] h = refl
 all_digits (b ∷ bs) h =
-    let p = and-true (ltb b 256) (allb is_byte bs) h in
-    and_intro (digit_is (b / 16) (high_below b (ltb-true b 256 p.0))) (and_intro (digit_is (b % 16) (low_below b)) (all_digits bs p.1))
+    let p = and_parts (ltb b 256) (allb is_byte bs) h in
+    and_from _ _ (digit_is (b / 16) (high_below b (ltb-true b 256 p.0))) (and_from _ _ (digit_is (b % 16) (low_below b)) (all_digits bs p.1))
 
 pub bytes_digits : (f : List ℕ) → allb is_byte f ≡ true → bytes_of (digits_of f) ≡ f
 unfolding allb is_byte digits_of bytes_of
 bytes_digits [] h = refl
 bytes_digits (b ∷ bs) h =
-    let p = and-true (ltb b 256) (allb is_byte bs) h in
+    let p = and_parts (ltb b 256) (allb is_byte bs) h in
     let u : digit_value (hex_digit (b / 16)) ≡ b / 16 = value_digit (b / 16) (high_below b (ltb-true b 256 p.0)) in
     let v : digit_value (hex_digit (b % 16)) ≡ b % 16 = value_digit (b % 16) (low_below b) in
     let e : 16 * digit_value (hex_digit (b / 16)) + digit_value (hex_digit (b % 16)) ≡ b = omega arith in
@@ -88,8 +88,8 @@ unfolding allb digits_of bytes_of
 digits_bytes [] h e = refl
 digits_bytes (c ∷ []) h e = absurd (omega arith)
 digits_bytes (c ∷ d ∷ ds) h e =
-    let p = and-true (is_digit c) (is_digit d && allb is_digit ds) h in
-    let q = and-true (is_digit d) (allb is_digit ds) p.1 in
+    let p = and_parts (is_digit c) (is_digit d && allb is_digit ds) h in
+    let q = and_parts (is_digit d) (allb is_digit ds) p.1 in
     let u : digit_value d < 16 = value_below d q.0 in
     let high : (16 * digit_value c + digit_value d) / 16 ≡ digit_value c = omega arith in
     let low : (16 * digit_value c + digit_value d) % 16 ≡ digit_value d = omega arith in
@@ -101,11 +101,11 @@ unfolding allb is_byte bytes_of
 bytes_below [] h = refl
 bytes_below (c ∷ []) h = refl
 bytes_below (c ∷ d ∷ ds) h =
-    let p = and-true (is_digit c) (is_digit d && allb is_digit ds) h in
-    let q = and-true (is_digit d) (allb is_digit ds) p.1 in
+    let p = and_parts (is_digit c) (is_digit d && allb is_digit ds) h in
+    let q = and_parts (is_digit d) (allb is_digit ds) p.1 in
     let u : digit_value c < 16 = value_below c p.0 in
     let v : digit_value d < 16 = value_below d q.0 in
-    and_intro (lt-ltb (16 * digit_value c + digit_value d) 256 (omega arith)) (bytes_below ds q.1)
+    and_from _ _ (lt-ltb (16 * digit_value c + digit_value d) 256 (omega arith)) (bytes_below ds q.1)
 
 -- ---- one turn of the loops that write them
 

@@ -11,8 +11,9 @@ use native.Mathlib.Omega.{arith}
 use lib.Dec.{T, eqb}
 use lib.ListN.{length}
 use borrow.Author.Tests.{eqb-true, eq-eqb}
+use Rattle.std.proofs.lemmas.Bool.{and_parts, and_from}
 use Rattle.lists.specs.Lists.{range, filterb, anyb, memb}
-use Rattle.lists.proofs.Tests.{t→true, true→t, clash, and-true, and_intro, same_test}
+use Rattle.lists.proofs.Tests.{t→true, true→t, clash, same_test}
 use Rattle.lists.proofs.Members.{any_intro, any_elim}
 use Rattle.graph.specs.Network.{Network}
 use Rattle.graph.specs.Opening.{Notice, empty_network, with_depot}
@@ -157,13 +158,13 @@ plain_yards K fs c = (λ t. found (any_elim (new_yard c) os (sym is ∙ t→true
     is = ap (λ (N : Network). N.is_yard c) (plain_added K empty_network fs) ∙ added_yards empty_network os c ∙ ap (λ (b : Bool). b || anyb (new_yard c) os) none_first
 
     tells : (o : Notice) → T o.yard → o.code ≡ c → new_yard c (opens o) ≡ true
-    tells o y q = and_intro (t→true o.yard y) (eq-eqb c o.code (sym q))
+    tells o y q = and_from _ _ (t→true o.yard y) (eq-eqb c o.code (sym q))
 
     found : (u : Update) × Memᴰ u os × (new_yard c u ≡ true) → (o : Notice) × Memᴰ (opens o) os × T o.yard × (o.code ≡ c)
     found x = by x.0 x.1 x.2
       where
         by : (u : Update) → Memᴰ u os → new_yard c u ≡ true → (o : Notice) × Memᴰ (opens o) os × T o.yard × (o.code ≡ c)
-        by (opens o) m e = let p = and-true o.yard (eqb c o.code) e in (o, m, true→t p.0, sym (eqb-true c o.code p.1))
+        by (opens o) m e = let p = and_parts o.yard (eqb c o.code) e in (o, m, true→t p.0, sym (eqb-true c o.code p.1))
         by (joins a b) m e = absurd (clash e refl)
 
 -- ---- THE ORDER TELLS NOTHING

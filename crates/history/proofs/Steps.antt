@@ -6,9 +6,9 @@ use mathlib.Core.List.{List, ◌∷◌}
 use Prim.Native.Nat.{ℕ, zero, suc, ◌≤◌}
 use lib.Dec.{leb}
 use lib.ListN.{length}
+use Rattle.std.proofs.lemmas.Bool.{and_parts}
 use Rattle.outcome.specs.Numbers.{short_buffer}
 use Rattle.lists.specs.Lists.{overwrite, first_of}
-use Rattle.lists.proofs.Tests.{and-true}
 use Rattle.lists.proofs.Buffers.{overwrite_all}
 use Rattle.lists.proofs.Fills.{overwrite_take}
 use Rattle.rows.specs.Rows.{table_bit, encode_row, encode_table}
@@ -189,7 +189,7 @@ module _ (K : Shape) (shape : IsShape K) (G : Network) (held : IsHeld K G) (c : 
         ap (λ (s : Sizes). batch_refusal K M.rec L B.pairs s (length c.left) lines) sizes_are
         ∙ lent_alike K shape G held (diameter G) (farthest G) (figures_are_sound_lem K shape G held) M.rec L B.pairs
         (leb batch_limit (length c.left) && long_enough K (lent_sizes K c))
-        (λ e. lent_says (and-true (leb batch_limit (length c.left)) (long_enough K (lent_sizes K c)) e).1)
+        (λ e. lent_says (and_parts (leb batch_limit (length c.left)) (long_enough K (lent_sizes K c)) e).1)
         (λ X. batch_faults (length (vertices X)) lines)
 
     module _ (codes : AreCodes K lines) (ok : batch_refusal_lem ≡ 0) where

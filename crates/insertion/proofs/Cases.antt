@@ -9,8 +9,9 @@ use native.Mathlib.Omega.{arith}
 use lib.Dec.{T, eqb, ltb}
 use lib.ListN.{length}
 use borrow.Author.Tests.{eqb-true, eq-eqb, ne_eqb, ltb-true, lt-ltb, le-ltb}
+use Rattle.std.proofs.lemmas.Bool.{cases_Bool, and_parts, or_cases, cases_eq}
 use Rattle.lists.specs.Lists.{overwrite}
-use Rattle.lists.proofs.Tests.{look, true→t, and-true, or_true, eq_or_ne}
+use Rattle.lists.proofs.Tests.{true→t}
 use Rattle.graph.specs.Network.{Network, delivers}
 use Rattle.graph.specs.Distance.{dist}
 use Rattle.graph.specs.Chart.{Pairs, chart, ecc, own_pairs}
@@ -73,11 +74,11 @@ module _ (K : Shape) (shape : IsShape K) (members targets links : List ℕ) (are
 
 own_zero : (G : Network) → IsNet G → (a : ℕ) → T (G.is_open a) → (u v : ℕ) → own_pairs (chart G) a 0 u v ≡ false
 unfolding own_pairs chart
-own_zero G net a o u v = go (look (ltb u v && delivers G u && delivers G v && ((eqb u a && eqb (dist G a v) 0) || (eqb v a && eqb (dist G a u) 0))))
+own_zero G net a o u v = go (cases_Bool (ltb u v && delivers G u && delivers G v && ((eqb u a && eqb (dist G a v) 0) || (eqb v a && eqb (dist G a u) 0))))
   where
     same : (x y : ℕ) → delivers G y ≡ true → (eqb x a && eqb (dist G a y) 0) ≡ true → x ≡ y
     same x y oy h =
-        let k = and-true (eqb x a) (eqb (dist G a y) 0) h in
+        let k = and_parts (eqb x a) (eqb (dist G a y) 0) h in
         eqb-true x a k.0
         ∙ (chart_metric G net).apart a y (depot_in G net a o) (depot_in G net y (delivers_open G y (true→t oy))) (eqb-true (dist G a y) 0 k.1)
 
@@ -90,17 +91,17 @@ own_zero G net a o u v = go (look (ltb u v && delivers G u && delivers G v && ((
         → (ltb u v && delivers G u && delivers G v && ((eqb u a && eqb (dist G a v) 0) || (eqb v a && eqb (dist G a u) 0))) ≡ false
     go (inr h) = h
     go (inl h) =
-        let x = and-true (ltb u v && delivers G u && delivers G v) ((eqb u a && eqb (dist G a v) 0) || (eqb v a && eqb (dist G a u) 0)) h in
-        let y = and-true (ltb u v && delivers G u) (delivers G v) x.0 in
-        let z = and-true (ltb u v) (delivers G u) y.0 in
-        let q : u ≡ v = ends z.1 y.1 (or_true (eqb u a && eqb (dist G a v) 0) (eqb v a && eqb (dist G a u) 0) x.1) in
+        let x = and_parts (ltb u v && delivers G u && delivers G v) ((eqb u a && eqb (dist G a v) 0) || (eqb v a && eqb (dist G a u) 0)) h in
+        let y = and_parts (ltb u v && delivers G u) (delivers G v) x.0 in
+        let z = and_parts (ltb u v) (delivers G u) y.0 in
+        let q : u ≡ v = ends z.1 y.1 (or_cases (eqb u a && eqb (dist G a v) 0) (eqb v a && eqb (dist G a u) 0) x.1) in
         let l : u < v = ltb-true u v z.0 in
         absurd (lt_irrefl u (omega arith))
 
 -- so the pairs of a round at the candidate are those of the opening
 join_same : (G : Network) → IsNet G → (a : ℕ) → T (G.is_open a) → (D : ℕ) (P : Pairs) (u v : ℕ) → join_pairs (chart G) a D D P u v ≡ (P u v || own_pairs (chart G) a D u v)
 unfolding join_pairs
-join_same G net a o D P u v = rw (le-ltb D D (le_refl D), eq-eqb D D refl) (first ((chart G).is_destination a) (look (eqb D 0)))
+join_same G net a o D P u v = rw (le-ltb D D (le_refl D), eq-eqb D D refl) (first ((chart G).is_destination a) (cases_Bool (eqb D 0)))
   where
     keep : (b : Bool) → b ≡ (b || false)
     keep true = refl
@@ -175,7 +176,7 @@ module _ (K : Shape) (members targets links : List ℕ) (B : Lent) (a D : ℕ) (
       go : (b : Bool) → (chart G).is_destination a ≡ b
           → cond ((chart G).is_destination a) (eqb (ecc (chart G) a) D) (eqb D 0) ≡ eqb (cond b (ecc (chart G) a) 0) D
       go true q = rw q
-      go false q = rw q (turned (eq_or_ne D 0))
+      go false q = rw q (turned (cases_eq D 0))
 
   by_tests : (x y z : Bool) → ltb D R.own ≡ x → eqb R.own D ≡ y → any_pair (chart G).depots Left ≡ z
       → figured (open_case x y z (chart G) a D P).change (ran_by K G (open_case x y z (chart G) a D P).final B) ≡ figured_by K G a D B

@@ -8,8 +8,9 @@ use native.Mathlib.Nat.{le_antisymm}
 use native.Mathlib.Omega.{arith}
 use lib.Dec.{T, ltb}
 use lib.ListN.{get_or}
+use Rattle.std.proofs.lemmas.Bool.{cases_Bool, and_parts}
 use Rattle.lists.specs.Lists.{range, anyb, max_of}
-use Rattle.lists.proofs.Tests.{look, t→true, true→t, clash, and-true}
+use Rattle.lists.proofs.Tests.{t→true, true→t, clash}
 use Rattle.lists.proofs.Members.{any_intro, any_elim, range_in, range_out}
 use Rattle.lists.proofs.Counts.{max_ge, max_ext, max_le_of}
 use Rattle.lists.proofs.Fills.{fill_at}
@@ -53,19 +54,19 @@ module _ (W : ℕ) (G : Network) (net : IsNet G) (below : (v : ℕ) → T (G.is_
 
   left_stored : (u v : ℕ) → Left u v ≡ true → T (table_bit W t u v)
   unfolding staying_pairs
-  left_stored u v h = true→t (and-true (table_bit W t u v) (not (ltb (far u v) D)) h).0
+  left_stored u v h = true→t (and_parts (table_bit W t u v) (not (ltb (far u v) D)) h).0
 
   -- ---- the greatest way
 
   closed_row : (u v : ℕ) → G.is_open u ≡ false → table_bit W t u v ≡ false
-  closed_row u v q = go (look (table_bit W t u v))
+  closed_row u v q = go (cases_Bool (table_bit W t u v))
     where
       go : (table_bit W t u v ≡ true) ⊎ (table_bit W t u v ≡ false) → table_bit W t u v ≡ false
       go (inl h) = absurd (clash (t→true (G.is_open u) (delivers_open G u (ends u v (true→t h)).0)) q)
       go (inr h) = h
 
   closed_column : (u v : ℕ) → G.is_open v ≡ false → table_bit W t u v ≡ false
-  closed_column u v q = go (look (table_bit W t u v))
+  closed_column u v q = go (cases_Bool (table_bit W t u v))
     where
       go : (table_bit W t u v ≡ true) ⊎ (table_bit W t u v ≡ false) → table_bit W t u v ≡ false
       go (inl h) = absurd (clash (t→true (G.is_open v) (delivers_open G v (ends u v (true→t h)).1)) q)
@@ -83,7 +84,7 @@ module _ (W : ℕ) (G : Network) (net : IsNet G) (below : (v : ℕ) → T (G.is_
   among : (f : ℕ → ℕ) → ((v : ℕ) → G.is_open v ≡ false → f v ≡ 0) → max_of f (range (64 * W)) ≡ max_of f (chart G).depots
   among f h =
       le_antisymm
-      (max_le_of f (range (64 * W)) (max_of f (chart G).depots) (λ v m. go v (look (G.is_open v))))
+      (max_le_of f (range (64 * W)) (max_of f (chart G).depots) (λ v m. go v (cases_Bool (G.is_open v))))
       (max_le_of f (chart G).depots (max_of f (range (64 * W))) (λ v m. max_ge f (range (64 * W)) (range_in (64 * W) (below v (depot_out G net m)))))
     where
       go : (v : ℕ) → (G.is_open v ≡ true) ⊎ (G.is_open v ≡ false) → f v ≤ max_of f (chart G).depots
@@ -117,7 +118,7 @@ module _ (W : ℕ) (G : Network) (net : IsNet G) (below : (v : ℕ) → T (G.is_
     -- a count of 0 says that no pair is left, any other that one is
     pub none_left : n ≡ 0 → any_pair (chart G).depots Left ≡ false
     unfolding any_pair
-    none_left z = go (look (anyb (λ u. anyb (λ v. Left u v) (chart G).depots) (chart G).depots))
+    none_left z = go (cases_Bool (anyb (λ u. anyb (λ v. Left u v) (chart G).depots) (chart G).depots))
       where
         go : (anyb (λ u. anyb (λ v. Left u v) (chart G).depots) (chart G).depots ≡ true) ⊎ (anyb (λ u. anyb (λ v. Left u v) (chart G).depots) (chart G).depots ≡ false)
             → anyb (λ u. anyb (λ v. Left u v) (chart G).depots) (chart G).depots ≡ false
@@ -129,12 +130,12 @@ module _ (W : ℕ) (G : Network) (net : IsNet G) (below : (v : ℕ) → T (G.is_
 
     pub some_left : (n ≡ 0 → ⊥) → any_pair (chart G).depots Left ≡ true
     unfolding any_pair
-    some_left ne = go (look (anyb (λ u. anyb (λ v. Left u v) (chart G).depots) (chart G).depots))
+    some_left ne = go (cases_Bool (anyb (λ u. anyb (λ v. Left u v) (chart G).depots) (chart G).depots))
       where
         go : (anyb (λ u. anyb (λ v. Left u v) (chart G).depots) (chart G).depots ≡ true) ⊎ (anyb (λ u. anyb (λ v. Left u v) (chart G).depots) (chart G).depots ≡ false)
             → anyb (λ u. anyb (λ v. Left u v) (chart G).depots) (chart G).depots ≡ true
         go (inl h) = h
-        go (inr h) = absurd (ne (count_is ∙ pairs_none (64 * W) Left (λ u v l m. at u v (look (Left u v)))))
+        go (inr h) = absurd (ne (count_is ∙ pairs_none (64 * W) Left (λ u v l m. at u v (cases_Bool (Left u v)))))
           where
             at : (u v : ℕ) → (Left u v ≡ true) ⊎ (Left u v ≡ false) → Left u v ≡ false
             at u v (inr k) = k

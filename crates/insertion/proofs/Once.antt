@@ -7,8 +7,9 @@ use Prim.Native.Nat.{ℕ}
 use lib.Dec.{T, eqb}
 use lib.ListN.{length}
 use borrow.Author.Tests.{eqb-true}
+use Rattle.std.proofs.lemmas.Bool.{cases_Bool}
 use Rattle.lists.specs.Lists.{range, mapl, last_or, overwrite}
-use Rattle.lists.proofs.Tests.{look, t→true}
+use Rattle.lists.proofs.Tests.{t→true}
 use Rattle.lists.proofs.Fills.{fill_ext}
 use Rattle.graph.specs.Network.{Network}
 use Rattle.graph.specs.Distance.{unreached}
@@ -52,7 +53,7 @@ module _ (K : Shape) (G : Network) (S : State) (bound mark : ℕ → ℕ) (bound
 -- the place of an open depot a with the status s, f being what a place says of a status; the other places say it of the status z
 pub at-end : (G : Network) (a : ℕ) → T (G.is_open a) → (f : Status → ℕ) (s z : Status) (x y v : ℕ) → y ≡ cond (G.is_open v) (f z) x
     → cond (eqb v a) (f s) y ≡ cond (G.is_open v) (f (cond (eqb v a) s z)) x
-at-end G a o f s z x y v h = go (look (eqb v a))
+at-end G a o f s z x y v h = go (cases_Bool (eqb v a))
   where
     go : (eqb v a ≡ true) ⊎ (eqb v a ≡ false) → cond (eqb v a) (f s) y ≡ cond (G.is_open v) (f (cond (eqb v a) s z)) x
     go (inl q) = rw (q, ap G.is_open (eqb-true v a q) ∙ t→true (G.is_open a) o)

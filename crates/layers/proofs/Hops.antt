@@ -9,8 +9,9 @@ use native.Mathlib.Numerals.{add-one}
 use native.Mathlib.Omega.{arith}
 use lib.Dec.{eqb, ltb}
 use borrow.Author.Tests.{eqb-true, eqb-false, eq-eqb, ne_eqb, ltb-true, lt-ltb, le-ltb}
+use Rattle.std.proofs.lemmas.Bool.{cases_Bool}
 use Rattle.lists.specs.Lists.{range, anyb, countb}
-use Rattle.lists.proofs.Tests.{look, clash}
+use Rattle.lists.proofs.Tests.{clash}
 use Rattle.lists.proofs.Members.{any_intro, any_elim, range_in}
 use Rattle.lists.proofs.Counts.{count_lt}
 use Rattle.graph.specs.Distance.{unreached, next_hop, hops}
@@ -47,7 +48,7 @@ module _ (n : ℕ) (adjacent : ℕ → ℕ → Bool) (s : ℕ) where
     none : H k v ≡ unreached → near k v ≡ false → H (k + 1) v ≡ unreached → HopCase k v
 
   pub place : (k v : ℕ) → k < unreached → HopCase k v
-  place k v small = go (hops-range (range n) adjacent s k v) (look (near k v))
+  place k v small = go (hops-range (range n) adjacent s k v) (cases_Bool (near k v))
     where
       go : (H k v ≤ k) ⊎ (H k v ≡ unreached) → (near k v ≡ true) ⊎ (near k v ≡ false) → HopCase k v
       go (inl l) b = old l (omega arith) (hop_old k v (omega arith))
@@ -97,7 +98,7 @@ module _ (n : ℕ) (adjacent : ℕ → ℕ → Bool) (s : ℕ) where
 
   -- a visit of layer k makes the hops below k those of k layers
   pub hops_visit : (k v : ℕ) → k < unreached → cond (eqb (H k v) k) k (cond (ltb (H k v) k) (H k v) unreached) ≡ H k v
-  hops_visit k v small = go (hops-range (range n) adjacent s k v) (look (eqb (H k v) k))
+  hops_visit k v small = go (hops-range (range n) adjacent s k v) (cases_Bool (eqb (H k v) k))
     where
       go : (H k v ≤ k) ⊎ (H k v ≡ unreached) → (eqb (H k v) k ≡ true) ⊎ (eqb (H k v) k ≡ false) → cond (eqb (H k v) k) k (cond (ltb (H k v) k) (H k v) unreached) ≡ H k v
       go p (inl e) = rw e (sym (eqb-true (H k v) k e))

@@ -8,8 +8,8 @@ use native.Mathlib.Omega.{arith}
 use lib.Dec.{eqb, ltb}
 use lib.ListN.{get_or}
 use borrow.Author.Tests.{eqb-true, eq-eqb, le-ltb}
+use Rattle.std.proofs.lemmas.Bool.{cases_Bool}
 use Rattle.lists.specs.Lists.{range, mapl, anyb, countb, overwrite}
-use Rattle.lists.proofs.Tests.{look}
 use Rattle.lists.proofs.Members.{any_intro, any_ext, range_in, range_out}
 use Rattle.lists.proofs.Counts.{count_one_lem, count_mono}
 use Rattle.lists.proofs.Fills.{fill_ext, fill_at, overwrite_twice, length_fill}
@@ -64,7 +64,7 @@ module _ (W : ℕ) (links : List ℕ) (s : ℕ) where
   H-zero v = refl
 
   swap : (u v : ℕ) → eqb u v ≡ eqb v u
-  swap u v = go (look (eqb u v)) (look (eqb v u))
+  swap u v = go (cases_Bool (eqb u v)) (cases_Bool (eqb v u))
     where
       go : (eqb u v ≡ true) ⊎ (eqb u v ≡ false) → (eqb v u ≡ true) ⊎ (eqb v u ≡ false) → eqb u v ≡ eqb v u
       go (inl a) b = a ∙ sym (eq-eqb v u (sym (eqb-true u v a)))

@@ -10,8 +10,9 @@ use native.Mathlib.Omega.{arith}
 use lib.Dec.{T, eqb, ltb}
 use lib.ListN.{length}
 use borrow.Author.Tests.{ltb-true, lt-ltb, eqb-true, eq-eqb}
+use Rattle.std.proofs.lemmas.Bool.{cases_Bool, and_parts}
 use Rattle.lists.specs.Lists.{range, anyb, max_of, overwrite}
-use Rattle.lists.proofs.Tests.{look, t→true, true→t, clash, and-true, same_test}
+use Rattle.lists.proofs.Tests.{t→true, true→t, clash, same_test}
 use Rattle.lists.proofs.Members.{any_intro, any_elim, range_in}
 use Rattle.lists.proofs.Counts.{max_ge, max_le_of, max_at}
 use Rattle.lists.proofs.Distinct.{distinct-length}
@@ -46,7 +47,7 @@ module _ (G : Network) (sound : IsSound G) (n : ℕ) (inside : (v : ℕ) → T (
   small : length (vertices G) < unreached
   small = lt_of_le_of_lt enough few
 
-  -- closed codes have no links, so that it is the same to look for neighbours among all codes or among the open ones
+  -- closed codes have no links, so that it is the same to cases_Bool for neighbours among all codes or among the open ones
   near_same : (h : ℕ → ℕ) (k v : ℕ) → anyb (λ w. eqb (h w) k && G.linked w v) (range n) ≡ anyb (λ w. eqb (h w) k && G.linked w v) (vertices G)
   near_same h k v = same_test (anyb p (range n)) (anyb p (vertices G)) to from
     where
@@ -56,7 +57,7 @@ module _ (G : Network) (sound : IsSound G) (n : ℕ) (inside : (v : ℕ) → T (
       to : anyb p (range n) ≡ true → anyb p (vertices G) ≡ true
       to e =
           let x = any_elim p (range n) e in
-          let l = true→t (and-true (eqb (h x.0) k) (G.linked x.0 v) x.2).1 in
+          let l = true→t (and_parts (eqb (h x.0) k) (G.linked x.0 v) x.2).1 in
           any_intro p (vertices G) (vertices_in G sound x.0 (sound.ends v x.0 (sound.symmetric x.0 v l))) x.2
 
       from : anyb p (vertices G) ≡ true → anyb p (range n) ≡ true
@@ -192,7 +193,7 @@ module _ (G : Network) (net : IsNet G) (s : ℕ) (o : T (G.is_open s)) where
           absurd (lt_irrefl k (omega arith))
 
       to : T (row_bit W (overwrite (encode_row W (λ x. eqb (dist G s x) k)) old) v) → IsDist G s v k
-      to h = at (sym read ∙ t→true _ h) (look (G.is_open v))
+      to h = at (sym read ∙ t→true _ h) (cases_Bool (G.is_open v))
 
       back : IsDist G s v k → T (row_bit W (overwrite (encode_row W (λ x. eqb (dist G s x) k)) old) v)
       back d = true→t (read ∙ eq-eqb (dist G s v) k (dist_unique (hop_open G net s o v (walk_open net.sound o d.walk)) d))

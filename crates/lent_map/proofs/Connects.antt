@@ -10,9 +10,10 @@ use native.Mathlib.Omega.{arith}
 use lib.Dec.{T, ltb}
 use lib.ListN.{length, get_or}
 use borrow.Author.Tests.{ltb-true, lt-ltb, not-true, not-false}
+use Rattle.std.proofs.lemmas.Bool.{cases_Bool, or_cases, or_right}
 use Rattle.std.specs.List.{list_all, range_with_len}
 use Rattle.lists.specs.Lists.{from, range, allb}
-use Rattle.lists.proofs.Tests.{look, t→true, true→t, clash, or_true, or_right, same_test}
+use Rattle.lists.proofs.Tests.{t→true, true→t, clash, same_test}
 use Rattle.lists.proofs.Members.{all_intro, all_elim, range_in, range_out}
 use Rattle.lists.proofs.Fills.{fill_at}
 use Rattle.graph.specs.Network.{Network, IsSound, Walk}
@@ -79,7 +80,7 @@ module _ (W : ℕ) (members links : List ℕ) (positive : 0 < W) (most : W < 513
         reach h v ov =
             let l : v < 64 * W = inside v ov in
             let t = all_elim test (range (64 * W)) h (range_in (64 * W) l) in
-            let r : ltb (dist G s v) unreached ≡ true = pick (or_true (not (row_bit W members v)) (ltb (get_or hops v 0) unreached) t) (t→true (G.is_open v) ov) (is v l) in
+            let r : ltb (dist G s v) unreached ≡ true = pick (or_cases (not (row_bit W members v)) (ltb (get_or hops v 0) unreached) t) (t→true (G.is_open v) ov) (is v l) in
             (dist G s v, (dist-reached G sound small s (true→t o) v (ltb-true (dist G s v) unreached r)).walk)
           where
             pick : (not (row_bit W members v) ≡ true) ⊎ (ltb (get_or hops v 0) unreached ≡ true) → row_bit W members v ≡ true → get_or hops v 0 ≡ dist G s v → ltb (dist G s v) unreached ≡ true
@@ -92,14 +93,14 @@ module _ (W : ℕ) (members links : List ℕ) (positive : 0 < W) (most : W < 513
             (λ u v ou ov. let p = reach h u ou in let q = reach h v ov in (p.0 + q.0, append (reverse sound p.1) q.1))
 
         from : connected G ≡ true → allb test (range (64 * W)) ≡ true
-        from h = all_intro test (range (64 * W)) (λ v m. at v (range_out (64 * W) m) (look (row_bit W members v)))
+        from h = all_intro test (range (64 * W)) (λ v m. at v (range_out (64 * W) m) (cases_Bool (row_bit W members v)))
           where
             at : (v : ℕ) → v < 64 * W → (row_bit W members v ≡ true) ⊎ (row_bit W members v ≡ false) → test v ≡ true
             at v l (inr e) = rw e
             at v l (inl e) =
                 let w = (connected_iff G sound small).0 h s v (true→t o) (true→t e) in
                 let d : dist G s v < length (vertices G) = dist_below G sound small s (true→t o) (dist G s v) v (dist_is G sound small s (true→t o) w.0 v w.1) in
-                or_right (not (row_bit W members v)) (ap (λ (x : ℕ). ltb x unreached) (is v l) ∙ lt-ltb (dist G s v) unreached (omega (arith, small)))
+                or_right (not (row_bit W members v)) _ (ap (λ (x : ℕ). ltb x unreached) (is v l) ∙ lt-ltb (dist G s v) unreached (omega (arith, small)))
 
   -- the hop table that a search over the table leaves
   pub hops_of : (s : ℕ) → row_bit W members s ≡ true → (B : Tables) (e : ℕ) (hops even odd : List ℕ) → searched e (tables hops even odd) ≡ search_table W links s B

@@ -7,9 +7,10 @@ use Prim.Native.Nat.{ℕ, ◌<◌}
 use native.Mathlib.Omega.{arith}
 use lib.ListN.{length}
 use borrow.Author.Tests.{not-false}
+use Rattle.std.proofs.lemmas.Bool.{and_parts}
 use Rattle.outcome.specs.Numbers.{short_buffer, spoilt_map, apart_map}
 use Rattle.lists.specs.Lists.{first_of}
-use Rattle.lists.proofs.Tests.{clash, and-true}
+use Rattle.lists.proofs.Tests.{clash}
 use Rattle.lists.proofs.Members.{first_zero}
 use Rattle.graph.specs.Network.{Network}
 use Rattle.graph.specs.Distance.{vertices, unreached, connected}
@@ -51,7 +52,7 @@ pub record IsPassed (K : Shape) (long figured : Bool) (rec : Record) (links pair
 
 -- the figures are looked at where the call goes by them
 by_figures : (figured s f : Bool) → cond figured (s && f) s ≡ true → (s ≡ true) × (figured ≡ true → f ≡ true)
-by_figures true s f e = let b = and-true s f e in (b.0, λ q. b.1)
+by_figures true s f e = let b = and_parts s f e in (b.0, λ q. b.1)
 by_figures false s f e = (e, λ q. absurd (clash q refl))
 
 module _ (K : Shape) (long figured : Bool) (rec : Record) (links pairs : List ℕ) (rest : List (Bool × ℕ)) where

@@ -6,13 +6,13 @@ use Prim.Native.Nat.{ℕ, ◌+◌, ◌-◌, ◌≤◌, ◌<◌}
 use native.Mathlib.Omega.{arith}
 use lib.ListN.{length, get_or, set, length-set, length-append, length-drop, drop_of_length-le}
 use lib.Seq.{ext_get_or, get_or-set_same, get_or-set_other}
+use Rattle.std.proofs.lemmas.Bool.{cases_lt, cases_eq}
 use Rattle.lists.specs.Lists.{range, mapl, overwrite}
-use Rattle.lists.proofs.Tests.{lt_or_ge, eq_or_ne}
 use Rattle.lists.proofs.Fills.{length_fill, fill_at, fill_rest, fill_length}
 
 -- two buffers of one length that agree before place n and from there on
 pub buffer_ext : (n : ℕ) (s t : List ℕ) → length s ≡ length t → ((i : ℕ) → i < n → get_or s i 0 ≡ get_or t i 0) → ((i : ℕ) → n ≤ i → get_or s i 0 ≡ get_or t i 0) → s ≡ t
-buffer_ext n s t e before rest = ext_get_or 0 s t e (λ i l. go i (lt_or_ge i n))
+buffer_ext n s t e before rest = ext_get_or 0 s t e (λ i l. go i (cases_lt i n))
   where
     go : (i : ℕ) → (i < n) ⊎ (n ≤ i) → get_or s i 0 ≡ get_or t i 0
     go i (inl h) = before i h
@@ -31,7 +31,7 @@ length_over new old = simp (length-append, length-drop)
 pub fill_put : (f g : ℕ → ℕ) (n : ℕ) (l : List ℕ) (i x : ℕ) → i < n → x ≡ g i → ((k : ℕ) → k < n → k ≢ i → f k ≡ g k)
     → set (overwrite (mapl f (range n)) l) i x ≡ overwrite (mapl g (range n)) l
 fill_put f g n l i x h e same =
-    buffer_ext n (set s i x) (overwrite (mapl g (range n)) l) (simp length-set (size f ∙ sym (size g))) (λ k m. before k m (eq_or_ne k i))
+    buffer_ext n (set s i x) (overwrite (mapl g (range n)) l) (simp length-set (size f ∙ sym (size g))) (λ k m. before k m (cases_eq k i))
     (λ k m. get_or-set_other s i k x 0 (λ q. omega arith) ∙ fill_rest f l n k 0 m ∙ sym (fill_rest g l n k 0 m))
   where
     s : List ℕ

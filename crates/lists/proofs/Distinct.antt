@@ -9,25 +9,23 @@ use native.Mathlib.Omega.{arith}
 use lib.Dec.{eqb, ltb}
 use lib.ListN.{length, length-append}
 use borrow.Author.Tests.{ltb-true, lt-ltb, le-ltb, eqb-true, eqb-false, eq-eqb, ne_eqb, not-true}
+use Rattle.std.proofs.lemmas.Bool.{and_parts, and_from, or_cases, or_left, or_right, not_from_false}
 use Rattle.lists.specs.Lists.{from, range, filterb, anyb, countb, memb, distinct, insert_by}
-use Rattle.lists.proofs.Tests.{clash, and-true, and_intro, or_true, or_left, or_right, same_test}
+use Rattle.lists.proofs.Tests.{clash, same_test}
 use Rattle.lists.proofs.Members.{filter-ext, filter_in, filter_out, from_out, range_in, range_out, length-range, memb_in, in_memb, memb_snoc}
 use Rattle.lists.proofs.Counts.{length_count, count_ext, count_none, count-or, count_le_length}
 
-not_of : (b : Bool) → b ≡ false → not b ≡ true
-not_of b e = rw e
-
 pub distinct_head : (x : ℕ) (xs : List ℕ) → distinct (x ∷ xs) ≡ true → memb x xs ≡ false
 unfolding distinct
-distinct_head x xs h = not-true (memb x xs) (and-true (not (memb x xs)) (distinct xs) h).0
+distinct_head x xs h = not-true (memb x xs) (and_parts (not (memb x xs)) (distinct xs) h).0
 
 pub distinct_tail : (x : ℕ) (xs : List ℕ) → distinct (x ∷ xs) ≡ true → distinct xs ≡ true
 unfolding distinct
-distinct_tail x xs h = (and-true (not (memb x xs)) (distinct xs) h).1
+distinct_tail x xs h = (and_parts (not (memb x xs)) (distinct xs) h).1
 
 pub distinct_cons : (x : ℕ) (xs : List ℕ) → memb x xs ≡ false → distinct xs ≡ true → distinct (x ∷ xs) ≡ true
 unfolding distinct
-distinct_cons x xs new d = and_intro (not_of (memb x xs) new) d
+distinct_cons x xs new d = and_from _ _ (not_from_false (memb x xs) new) d
 
 pub memb_cons : (v x : ℕ) (xs : List ℕ) → memb v (x ∷ xs) ≡ (eqb v x || memb v xs)
 unfolding memb anyb
@@ -42,8 +40,8 @@ memb_nil v = refl
 pub memb_filter : (p : ℕ → Bool) (xs : List ℕ) (v : ℕ) → memb v (filterb p xs) ≡ (memb v xs && p v)
 memb_filter p xs v =
     same_test (memb v (filterb p xs)) (memb v xs && p v)
-    (λ h. let r = filter_out p xs (memb_in v (filterb p xs) h) in and_intro (in_memb v xs r.0) r.1)
-    (λ h. let r = and-true (memb v xs) (p v) h in in_memb v (filterb p xs) (filter_in p xs (memb_in v xs r.0) r.1))
+    (λ h. let r = filter_out p xs (memb_in v (filterb p xs) h) in and_from _ _ (in_memb v xs r.0) r.1)
+    (λ h. let r = and_parts (memb v xs) (p v) h in in_memb v (filterb p xs) (filter_in p xs (memb_in v xs r.0) r.1))
 
 pub memb-range : (n v : ℕ) → memb v (range n) ≡ ltb v n
 memb-range n v =
@@ -62,13 +60,13 @@ distinct_filter p (x ∷ xs) d = go (p x) (distinct_filter p xs (distinct_tail x
     out = memb_filter p xs x ∙ rw (distinct_head x xs d)
 
     go : (b : Bool) → distinct (filterb p xs) ≡ true → distinct (cond b (x ∷ filterb p xs) (filterb p xs)) ≡ true
-    go true ih = and_intro (not_of (memb x (filterb p xs)) out) ih
+    go true ih = and_from _ _ (not_from_false (memb x (filterb p xs)) out) ih
     go false ih = ih
 
 distinct_from : (i k : ℕ) → distinct (from i k) ≡ true
 unfolding from distinct
 distinct_from i zero = refl
-distinct_from i (suc k) = and_intro (not_of (memb i (from (suc i) k)) (away (memb i (from (suc i) k)) refl)) (distinct_from (suc i) k)
+distinct_from i (suc k) = and_from _ _ (not_from_false (memb i (from (suc i) k)) (away (memb i (from (suc i) k)) refl)) (distinct_from (suc i) k)
   where
     away : (b : Bool) → memb i (from (suc i) k) ≡ b → b ≡ false
     away false e = refl
@@ -134,7 +132,7 @@ count_member a [] d m = absurd (clash m (memb_nil a))
 count_member a (y ∷ ys) d m = go (eqb y a) refl (λ k. count_member a ys (distinct_tail y ys d) k)
   where
     ih : eqb y a ≡ false → memb a ys ≡ true
-    ih e = rest (or_true (eqb a y) (memb a ys) (sym (memb_cons a y ys) ∙ m))
+    ih e = rest (or_cases (eqb a y) (memb a ys) (sym (memb_cons a y ys) ∙ m))
       where
         rest : (eqb a y ≡ true) ⊎ (memb a ys ≡ true) → memb a ys ≡ true
         rest (inl q) = absurd (eqb-false y a e (sym (eqb-true a y q)))
@@ -170,8 +168,8 @@ counted_distinct (x ∷ xs) d vs e l =
     count_ext (λ v. memb v (x ∷ xs)) (λ v. memb v xs || eqb v x) vs (λ v k. memb_cons v x xs ∙ or_comm (eqb v x) (memb v xs)) in
     let b : countb (λ v. memb v xs || eqb v x) vs ≡ countb (λ v. memb v xs) vs + countb (λ v. eqb v x) vs =
     count-or (λ v. memb v xs) (λ v. eqb v x) vs (λ v k. ne_eqb v x (λ q. clash (subst (λ (w : ℕ). memb w xs ≡ true) q k) (distinct_head x xs d))) in
-    let c : countb (λ v. memb v xs) vs ≡ length xs = counted_distinct xs (distinct_tail x xs d) vs e (λ v k. l v (memb_cons v x xs ∙ or_right (eqb v x) k)) in
-    let f : countb (λ v. eqb v x) vs ≡ 1 = count_member x vs e (l x (memb_cons x x xs ∙ or_left (memb x xs) (eq-eqb x x refl))) in
+    let c : countb (λ v. memb v xs) vs ≡ length xs = counted_distinct xs (distinct_tail x xs d) vs e (λ v k. l v (memb_cons v x xs ∙ or_right (eqb v x) _ k)) in
+    let f : countb (λ v. eqb v x) vs ≡ 1 = count_member x vs e (l x (memb_cons x x xs ∙ or_left _ (memb x xs) (eq-eqb x x refl))) in
     omega arith
 
 pub counted_snoc : (xs : List ℕ) (r : ℕ) → IsCounted xs → memb r xs ≡ false → IsCounted (xs ++ (r ∷ []))
@@ -181,8 +179,8 @@ counted_snoc xs r h new vs d l =
     count_ext (λ v. memb v (xs ++ (r ∷ []))) (λ v. memb v xs || eqb v r) vs (λ v k. memb_snoc v xs r) in
     let b : countb (λ v. memb v xs || eqb v r) vs ≡ countb (λ v. memb v xs) vs + countb (λ v. eqb v r) vs =
     count-or (λ v. memb v xs) (λ v. eqb v r) vs (λ v e. ne_eqb v r (λ q. clash (subst (λ (w : ℕ). memb w xs ≡ true) q e) new)) in
-    let c : countb (λ v. memb v xs) vs ≡ length xs = h vs d (λ v e. l v (memb_snoc v xs r ∙ or_left (eqb v r) e)) in
-    let e : countb (λ v. eqb v r) vs ≡ 1 = count_member r vs d (l r (memb_snoc r xs r ∙ or_right (memb r xs) (eq-eqb r r refl))) in
+    let c : countb (λ v. memb v xs) vs ≡ length xs = h vs d (λ v e. l v (memb_snoc v xs r ∙ or_left _ (eqb v r) e)) in
+    let e : countb (λ v. eqb v r) vs ≡ 1 = count_member r vs d (l r (memb_snoc r xs r ∙ or_right (memb r xs) _ (eq-eqb r r refl))) in
     let f : length (xs ++ (r ∷ [])) ≡ length xs + 1 = length-append xs (r ∷ []) in
     omega arith
 
@@ -201,7 +199,7 @@ pub count_either : (p : ℕ → Bool) (xs ys : List ℕ) → distinct xs ≡ tru
 count_either p xs ys d e f g =
     let a : countb (λ v. memb v (filterb p xs)) ys ≡ length (filterb p xs) =
     counted_use (filterb p xs) (counted_distinct (filterb p xs) (distinct_filter p xs d)) ys e
-    (λ v h. g v (and-true (memb v xs) (p v) (sym (memb_filter p xs v) ∙ h)).1) in
+    (λ v h. g v (and_parts (memb v xs) (p v) (sym (memb_filter p xs v) ∙ h)).1) in
     let b : countb (λ v. memb v (filterb p xs)) ys ≡ countb p ys =
     count_ext (λ v. memb v (filterb p xs)) p ys (λ v m. memb_filter p xs v ∙ both (memb v xs) (p v) (f v)) in
     let c : length (filterb p xs) ≡ countb p xs = length_count p xs in

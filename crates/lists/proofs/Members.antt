@@ -10,8 +10,9 @@ use native.Mathlib.Omega.{arith}
 use lib.Dec.{T, eqb, ltb}
 use lib.ListN.{length}
 use borrow.Author.Tests.{eqb-true, eq-eqb, ltb-true}
+use Rattle.std.proofs.lemmas.Bool.{cases_Bool, and_parts, and_from, or_cases, or_left, or_right}
 use Rattle.lists.specs.Lists.{first_of, from, range, filterb, anyb, allb, memb}
-use Rattle.lists.proofs.Tests.{look, clash, and-true, and_intro, or_true, or_left, or_right}
+use Rattle.lists.proofs.Tests.{clash}
 
 module _ {ℓ} {A : Type ℓ} where
   pub any_intro : (p : A → Bool) (xs : List A) {x : A} → Memᴰ x xs → p x ≡ true → anyb p xs ≡ true
@@ -20,13 +21,13 @@ module _ {ℓ} {A : Type ℓ} where
   any_intro p (y ∷ ys) {x} m e = go (Memᴰ.cases_cons m) (λ n. any_intro p ys n e)
     where
       go : (x ≡ y) ⊎ Memᴰ x ys → (Memᴰ x ys → anyb p ys ≡ true) → (p y || anyb p ys) ≡ true
-      go (inl q) ih = or_left (anyb p ys) (ap p (sym q) ∙ e)
-      go (inr n) ih = or_right (p y) (ih n)
+      go (inl q) ih = or_left _ (anyb p ys) (ap p (sym q) ∙ e)
+      go (inr n) ih = or_right (p y) _ (ih n)
 
   pub any_elim : (p : A → Bool) (xs : List A) → anyb p xs ≡ true → (x : A) × Memᴰ x xs × (p x ≡ true)
   unfolding anyb
   any_elim p [] e = absurd (subst T (sym e) tt)
-  any_elim p (y ∷ ys) e = go (or_true (p y) (anyb p ys) e) (λ h. any_elim p ys h)
+  any_elim p (y ∷ ys) e = go (or_cases (p y) (anyb p ys) e) (λ h. any_elim p ys h)
     where
       go : (p y ≡ true) ⊎ (anyb p ys ≡ true) → (anyb p ys ≡ true → (x : A) × Memᴰ x ys × (p x ≡ true)) → (x : A) × Memᴰ x (y ∷ ys) × (p x ≡ true)
       go (inl q) ih = (y, Memᴰ.head refl, q)
@@ -69,12 +70,12 @@ module _ {ℓ} {A : Type ℓ} where
   pub all_intro : (p : A → Bool) (xs : List A) → ((x : A) → Memᴰ x xs → p x ≡ true) → allb p xs ≡ true
   unfolding allb
   all_intro p [] h = refl
-  all_intro p (y ∷ ys) h = and_intro (h y (Memᴰ.head refl)) (all_intro p ys (λ x m. h x (Memᴰ.tail m)))
+  all_intro p (y ∷ ys) h = and_from _ _ (h y (Memᴰ.head refl)) (all_intro p ys (λ x m. h x (Memᴰ.tail m)))
 
   pub all_elim : (p : A → Bool) (xs : List A) → allb p xs ≡ true → {x : A} → Memᴰ x xs → p x ≡ true
   unfolding allb
   all_elim p [] h m = absurd (Memᴰ.not-nil m)
-  all_elim p (y ∷ ys) h {x} m = go (and-true (p y) (allb p ys) h) (Memᴰ.cases_cons m) (λ k n. all_elim p ys k n)
+  all_elim p (y ∷ ys) h {x} m = go (and_parts (p y) (allb p ys) h) (Memᴰ.cases_cons m) (λ k n. all_elim p ys k n)
     where
       go : (p y ≡ true) × (allb p ys ≡ true) → (x ≡ y) ⊎ Memᴰ x ys → (allb p ys ≡ true → Memᴰ x ys → p x ≡ true) → p x ≡ true
       go k (inl q) ih = ap p q ∙ k.0
@@ -84,7 +85,7 @@ module _ {ℓ} {A : Type ℓ} where
 pub all-fails {ℓ} : {A : Type ℓ} (p : A → Bool) (xs : List A) → allb p xs ≡ false → (x : A) × Memᴰ x xs × (p x ≡ false)
 unfolding allb
 all-fails p [] e = absurd (clash refl e)
-all-fails {A = A} p (x ∷ xs) e = go (look (p x)) (all-fails p xs)
+all-fails {A = A} p (x ∷ xs) e = go (cases_Bool (p x)) (all-fails p xs)
   where
     go : (p x ≡ true) ⊎ (p x ≡ false) → (allb p xs ≡ false → (y : A) × Memᴰ y xs × (p y ≡ false)) → (y : A) × Memᴰ y (x ∷ xs) × (p y ≡ false)
     go (inl t) more = let r = more (ap (λ (b : Bool). b && allb p xs) (sym t) ∙ e) in (r.0, Memᴰ.tail r.1, r.2)
@@ -200,11 +201,11 @@ first_kept (c ∷ cs) ys n = go c.0 n (first_kept cs ys)
 pub first_passed : (xs ys : List (Bool × ℕ)) → allb (λ c. ltb 0 c.1) xs ≡ true → first_of xs ≡ 0 → first_of (xs ++ ys) ≡ first_of ys
 unfolding first_of allb
 first_passed [] ys p z = refl
-first_passed (c ∷ cs) ys p z = let q = and-true (ltb 0 c.1) (allb (λ c. ltb 0 c.1) cs) p in go c.0 z (first_passed cs ys q.1)
+first_passed (c ∷ cs) ys p z = let q = and_parts (ltb 0 c.1) (allb (λ c. ltb 0 c.1) cs) p in go c.0 z (first_passed cs ys q.1)
   where
     go : (b : Bool) → cond b c.1 (first_of cs) ≡ 0 → (first_of cs ≡ 0 → first_of (cs ++ ys) ≡ first_of ys) → cond b c.1 (first_of (cs ++ ys)) ≡ first_of ys
     go true z ih =
-        let l : 0 < c.1 = ltb-true 0 c.1 (and-true (ltb 0 c.1) (allb (λ c. ltb 0 c.1) cs) p).0 in
+        let l : 0 < c.1 = ltb-true 0 c.1 (and_parts (ltb 0 c.1) (allb (λ c. ltb 0 c.1) cs) p).0 in
         absurd (lt_irrefl 0 (omega arith))
     go false z ih = ih z
 

@@ -6,8 +6,8 @@ use Prim.Native.Nat.{ℕ, zero, suc, ◌+◌, ◌-◌, ◌*◌, ◌≤◌, ◌<�
 use native.Mathlib.Nat.{not-suc-le-zero, mul-suc}
 use native.Mathlib.Numerals.{add-one}
 use native.Mathlib.Omega.{arith}
+use Rattle.std.proofs.lemmas.Bool.{cases_eq}
 use Rattle.lists.specs.Lists.{from, range, countb, sum_of, max_of}
-use Rattle.lists.proofs.Tests.{eq_or_ne}
 use Rattle.lists.proofs.RangeCounts.{count_same, count_split}
 
 -- ---- one number more
@@ -87,7 +87,7 @@ module _ (f g : ℕ → ℕ) where
   -- that differ at j alone
   pub sum_but : (n j : ℕ) → j < n → ((k : ℕ) → k < n → k ≢ j → f k ≡ g k) → sum_of f (range n) + g j ≡ sum_of g (range n) + f j
   sum_but zero j l h = absurd (not-suc-le-zero l)
-  sum_but (suc n) j l h = go (eq_or_ne j n) (λ m. sum_but n j m (λ k a ne. h k (omega arith) ne))
+  sum_but (suc n) j l h = go (cases_eq j n) (λ m. sum_but n j m (λ k a ne. h k (omega arith) ne))
     where
       go : (j ≡ n) ⊎ (j ≢ n) → (j < n → sum_of f (range n) + g j ≡ sum_of g (range n) + f j) → sum_of f (range (suc n)) + g j ≡ sum_of g (range (suc n)) + f j
       go (inl e) ih = omega (arith, sum_suc f n, sum_suc g n, sum_same n (λ k m. h k (omega arith) (λ q. omega arith)), ap f e, ap g e)
@@ -101,7 +101,7 @@ module _ (f g : ℕ → ℕ) where
   -- that differ at j alone, where the first has 0
   pub max_put : (n j : ℕ) → j < n → ((k : ℕ) → k < n → k ≢ j → f k ≡ g k) → f j ≡ 0 → max_of g (range n) ≡ max (max_of f (range n)) (g j)
   max_put zero j l h z = absurd (not-suc-le-zero l)
-  max_put (suc n) j l h z = go (eq_or_ne j n) (λ m. max_put n j m (λ k a ne. h k (omega arith) ne) z)
+  max_put (suc n) j l h z = go (cases_eq j n) (λ m. max_put n j m (λ k a ne. h k (omega arith) ne) z)
     where
       go : (j ≡ n) ⊎ (j ≢ n) → (j < n → max_of g (range n) ≡ max (max_of f (range n)) (g j)) → max_of g (range (suc n)) ≡ max (max_of f (range (suc n))) (g j)
       go (inl e) ih = omega (arith, max-suc f n, max-suc g n, max_same n (λ k m. h k (omega arith) (λ q. omega arith)), ap f e, ap g e)
@@ -115,7 +115,7 @@ sum_few f b (suc n) h = omega (arith, sum_suc f n, sum_few f b n (λ k l. h k (o
 -- each value is at most the sum
 pub sum_has : (f : ℕ → ℕ) (n j : ℕ) → j < n → f j ≤ sum_of f (range n)
 sum_has f zero j l = absurd (not-suc-le-zero l)
-sum_has f (suc n) j l = go (eq_or_ne j n) (λ m. sum_has f n j m)
+sum_has f (suc n) j l = go (cases_eq j n) (λ m. sum_has f n j m)
   where
     go : (j ≡ n) ⊎ (j ≢ n) → (j < n → f j ≤ sum_of f (range n)) → f j ≤ sum_of f (range (suc n))
     go (inl e) ih = omega (arith, sum_suc f n, ap f e)

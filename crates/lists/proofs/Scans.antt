@@ -7,15 +7,16 @@ use native.Mathlib.Numerals.{add-one}
 use native.Mathlib.Omega.{arith}
 use lib.ListN.{length, get_or, drop, drop_of_length-le}
 use lib.Seq.{drop-cons}
+use Rattle.std.proofs.lemmas.Bool.{and_parts}
 use Rattle.lists.specs.Lists.{filterb, allb}
-use Rattle.lists.proofs.Tests.{and-true}
+
 
 -- of a list whose elements all pass, each does
 pub all-at {ℓ} : {A : Type ℓ} (p : A → Bool) (s : List A) (i : ℕ) (x : A) → i < length s → allb p s ≡ true → p (get_or s i x) ≡ true
 unfolding allb
 all-at p [] i x h e = absurd (omega arith)
-all-at p (y ∷ ys) zero x h e = (and-true (p y) (allb p ys) e).0
-all-at p (y ∷ ys) (suc i) x h e = all-at p ys i x (omega arith) (and-true (p y) (allb p ys) e).1
+all-at p (y ∷ ys) zero x h e = (and_parts (p y) (allb p ys) e).0
+all-at p (y ∷ ys) (suc i) x h e = all-at p ys i x (omega arith) (and_parts (p y) (allb p ys) e).1
 
 -- ---- a loop that keeps the elements that pass: what the rest of the list gives
 

@@ -8,8 +8,9 @@ use Prim.Native.Nat.{ℕ, suc, ◌+◌, ◌≤◌, ◌<◌}
 use native.Mathlib.Nat.{le_refl, lt_irrefl}
 use native.Mathlib.Omega.{arith}
 use lib.ListN.{length}
+use Rattle.std.proofs.lemmas.Bool.{cases_lt}
 use Rattle.lists.specs.Lists.{countb, sum_of}
-use Rattle.lists.proofs.Tests.{clash, lt_or_ge}
+use Rattle.lists.proofs.Tests.{clash}
 use Rattle.lists.proofs.Counts.{count_lt, count_ext, sum_none, sum_ext}
 
 -- a test as a number
@@ -56,7 +57,7 @@ module _ {ℓ} {A : Type ℓ} where
 
   -- terms of at least 1 that sum to their number are 1 each
   pub sum_ones : (f : A → ℕ) (xs : List A) → ((x : A) → Memᴰ x xs → 1 ≤ f x) → sum_of f xs ≡ length xs → {x : A} → Memᴰ x xs → f x ≡ 1
-  sum_ones f xs h e {x} m = go (lt_or_ge 1 (f x))
+  sum_ones f xs h e {x} m = go (cases_lt 1 (f x))
     where
       go : (1 < f x) ⊎ (f x ≤ 1) → f x ≡ 1
       go (inl l) = absurd (lt_irrefl (length xs) (omega (arith, sum_lt (λ y. 1) f xs h m l, sum_length xs, e)))

@@ -8,8 +8,9 @@ use native.Mathlib.Nat.{eq-or-lt_of_le, lt_irrefl}
 use native.Mathlib.Omega.{arith}
 use lib.Dec.{leb}
 use borrow.Author.Tests.{le-leb, lt-leb, leb-true}
+use Rattle.std.proofs.lemmas.Bool.{cases_Bool, cases_lt}
 use Rattle.lists.specs.Lists.{from, range, filterb}
-use Rattle.lists.proofs.Tests.{look, clash, true→t, lt_or_ge}
+use Rattle.lists.proofs.Tests.{clash, true→t}
 use Rattle.lists.proofs.Members.{filter-ext, filter_none, filter_out, from_out}
 use Rattle.rows.specs.Rows.{row_bit}
 use Rattle.std.specs.Prelude.{Option, Some, None}
@@ -22,7 +23,7 @@ use Rattle.map.specs.Depots.{depots_from, NextOpen}
 module _ (p : ℕ → Bool) (start v : ℕ) (here : p v ≡ true) (after : start ≤ v) (between : (j : ℕ) → start ≤ j → j < v → p j ≡ false) where
   -- a number below v is before start, or fails
   before : (i : ℕ) → i < v → p i ≡ true → leb start i ≡ false
-  before i l t = go (lt_or_ge i start)
+  before i l t = go (cases_lt i start)
     where
       go : (i < start) ⊎ (start ≤ i) → leb start i ≡ false
       go (inl s) = lt-leb start i s
@@ -46,7 +47,7 @@ module _ (p : ℕ → Bool) (start v : ℕ) (here : p v ≡ true) (after : start
       go (inl e) ih =
           rw (ap p e ∙ here, le-leb start i (omega arith), lt-leb (suc v) i (omega arith))
           (ap₂ (λ (x : ℕ) (l : List ℕ). x ∷ l) e (filter-ext (λ u. leb start u) (λ u. leb (suc v) u) rest (past e)))
-      go (inr s) ih = tested (look (p i))
+      go (inr s) ih = tested (cases_Bool (p i))
         where
           tested : (p i ≡ true) ⊎ (p i ≡ false) → filterb (λ u. leb start u) (filterb p (from i (suc k))) ≡ v ∷ filterb (λ u. leb (suc v) u) (filterb p (from i (suc k)))
           tested (inl t) = rw (t, before i s t, lt-leb (suc v) i (omega arith)) (ih s)
@@ -58,7 +59,7 @@ none_of p start h xs =
     filter-ext (λ u. leb start u) (λ u. false) (filterb p xs) fails ∙ filter_none (filterb p xs)
   where
     fails : (x : ℕ) → Memᴰ x (filterb p xs) → leb start x ≡ false
-    fails x m = go (look (leb start x))
+    fails x m = go (cases_Bool (leb start x))
       where
         go : (leb start x ≡ true) ⊎ (leb start x ≡ false) → leb start x ≡ false
         go (inl t) = absurd (clash (filter_out p xs m).1 (h x (leb-true start x t)))

@@ -8,8 +8,8 @@ use native.Mathlib.Omega.{arith}
 use lib.Dec.{ltb}
 use lib.ListN.{length}
 use borrow.Author.Tests.{le-leb, lt-leb}
+use Rattle.std.proofs.lemmas.Bool.{cases_lt}
 use Rattle.lists.specs.Lists.{from, range, mapl, overwrite, first_of}
-use Rattle.lists.proofs.Tests.{lt_or_ge}
 use Rattle.lists.proofs.Fills.{get_d_range, fill_ext}
 use Rattle.words.specs.Bits.{bit, word_of}
 use Rattle.words.proofs.Bits.{bit_of_zero, word_of-none}
@@ -29,7 +29,7 @@ none-zeros n = fill_ext (λ w. word_of 64 (λ b. false)) (λ i. 0) n (λ w l. wo
 -- no bit of a row or table of zeros is set
 pub row_zeros : (W v : ℕ) → row_bit W (zeros W) v ≡ false
 unfolding zeros
-row_zeros W v = go (lt_or_ge v (64 * W))
+row_zeros W v = go (cases_lt v (64 * W))
   where
     go : (v < 64 * W) ⊎ (64 * W ≤ v) → row_bit W (mapl (λ i. 0) (range W)) v ≡ false
     go (inl h) = row_in W (mapl (λ i. 0) (range W)) v h ∙ ap (λ (w : ℕ). bit w (v % 64)) (get_d_range (λ i. 0) W (v / 64) 0 (omega arith)) ∙ bit_of_zero (v % 64)

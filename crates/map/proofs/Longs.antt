@@ -5,8 +5,8 @@ use mathlib.Core.List.{List}
 use Prim.Native.Nat.{ℕ, ◌≤◌, ◌<◌}
 use lib.Dec.{leb}
 use borrow.Author.Tests.{leb-true, le-leb, lt-leb}
+use Rattle.std.proofs.lemmas.Bool.{and_parts}
 use Rattle.lists.specs.Lists.{allb}
-use Rattle.lists.proofs.Tests.{and-true}
 use Rattle.lists.proofs.Conditions.{all_fit}
 use Rattle.map.specs.Memory.{Shape, places, table_words}
 use Rattle.map.specs.Room.{Lent, Sizes, sizes, sizes_of, AreLong, long_enough, rounds_buffers}
@@ -21,12 +21,12 @@ are_long_lem K z h =
     let e = leb (places K) z.skips in
     let f = leb K.words z.even in
     let g = leb K.words z.odd in
-    let g6 = and-true (a && b && c && d && e && f) g h in
-    let g5 = and-true (a && b && c && d && e) f g6.0 in
-    let g4 = and-true (a && b && c && d) e g5.0 in
-    let g3 = and-true (a && b && c) d g4.0 in
-    let g2 = and-true (a && b) c g3.0 in
-    let g1 = and-true a b g2.0 in
+    let g6 = and_parts (a && b && c && d && e && f) g h in
+    let g5 = and_parts (a && b && c && d && e) f g6.0 in
+    let g4 = and_parts (a && b && c && d) e g5.0 in
+    let g3 = and_parts (a && b && c) d g4.0 in
+    let g2 = and_parts (a && b) c g3.0 in
+    let g1 = and_parts a b g2.0 in
     record {
       links = leb-true (table_words K) z.links g1.0;
       pairs = leb-true (table_words K) z.pairs g1.1;

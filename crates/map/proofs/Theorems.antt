@@ -8,10 +8,11 @@ use native.Mathlib.Omega.{arith}
 use lib.Dec.{T, ltb, lit<, lit≤}
 use lib.ListN.{length}
 use borrow.Author.Tests.{ltb-true, lt-ltb}
+use Rattle.std.proofs.lemmas.Bool.{and_parts, and_from}
 use Rattle.lists.specs.Lists.{range, filterb, allb, countb, memb, distinct, overwrite}
 use Rattle.lists.specs.Conditions.{IsShort}
 use Rattle.lists.proofs.Conditions.{decides_short, refuses_by}
-use Rattle.lists.proofs.Tests.{t→true, true→t, and-true, and_intro, same_test}
+use Rattle.lists.proofs.Tests.{t→true, true→t, same_test}
 use Rattle.lists.proofs.Members.{length-filter, length-range, filter-ext, filter-twice}
 use Rattle.lists.proofs.Counts.{length_count}
 use Rattle.lists.proofs.Distinct.{memb_filter, memb-range, distinct_filter, distinct-range}
@@ -32,7 +33,7 @@ use Rattle.map.proofs.Empties.{row_zeros, table_zeros}
 
 pub network_open_below : (W : ℕ) (members links : List ℕ) (u : ℕ) → T ((network_of W members links).is_open u) → u < 64 * W
 unfolding network_of row_bit
-network_open_below W members links u o = ltb-true u (64 * W) (and-true (ltb u (64 * W)) _ (t→true _ o)).0
+network_open_below W members links u o = ltb-true u (64 * W) (and_parts (ltb u (64 * W)) _ (t→true _ o)).0
 
 -- the depots are the open codes, each once
 pub network_listed : (W : ℕ) (members links : List ℕ) (u : ℕ) → (network_of W members links).is_open u ≡ memb u (vertices (network_of W members links))
@@ -41,8 +42,8 @@ network_listed W members links u =
     same_test (row_bit W members u) (memb u (filterb (row_bit W members) (range (64 * W))))
     (λ h.
     memb_filter (row_bit W members) (range (64 * W)) u
-    ∙ and_intro (memb-range (64 * W) u ∙ lt-ltb u (64 * W) (network_open_below W members links u (true→t h))) h)
-    (λ h. (and-true (memb u (range (64 * W))) (row_bit W members u) (sym (memb_filter (row_bit W members) (range (64 * W)) u) ∙ h)).1)
+    ∙ and_from _ _ (memb-range (64 * W) u ∙ lt-ltb u (64 * W) (network_open_below W members links u (true→t h))) h)
+    (λ h. (and_parts (memb u (range (64 * W))) (row_bit W members u) (sym (memb_filter (row_bit W members) (range (64 * W)) u) ∙ h)).1)
 
 pub network_once : (W : ℕ) (members links : List ℕ) → distinct (vertices (network_of W members links)) ≡ true
 unfolding network_of
@@ -69,7 +70,7 @@ network_yardless W members links v = refl
 
 pub network_yard_below : (W : ℕ) (members yards links : List ℕ) (u : ℕ) → T ((yard_network W members yards links).is_yard u) → u < 64 * W
 unfolding row_bit
-network_yard_below W members yards links u t = ltb-true u (64 * W) (and-true (ltb u (64 * W)) _ (t→true _ t)).0
+network_yard_below W members yards links u t = ltb-true u (64 * W) (and_parts (ltb u (64 * W)) _ (t→true _ t)).0
 
 -- the depots that deliver lie below it, and are read where they are written
 pub network_delivers_below : (W : ℕ) (members yards links : List ℕ) (u : ℕ) → T (delivers (yard_network W members yards links) u) → u < 64 * W
@@ -101,8 +102,8 @@ delivering_depots W members yards links row e =
 pub network_linked_below : (W : ℕ) (members links : List ℕ) (u v : ℕ) → T ((network_of W members links).linked u v) → (u < 64 * W) × (v < 64 * W)
 unfolding network_of table_bit
 network_linked_below W members links u v l =
-    let p = and-true (ltb u (64 * W) && ltb v (64 * W)) _ (t→true _ l) in
-    let q = and-true (ltb u (64 * W)) (ltb v (64 * W)) p.0 in
+    let p = and_parts (ltb u (64 * W) && ltb v (64 * W)) _ (t→true _ l) in
+    let q = and_parts (ltb u (64 * W)) (ltb v (64 * W)) p.0 in
     (ltb-true u (64 * W) q.0, ltb-true v (64 * W) q.1)
 
 -- ---- AN EMPTYING IS REFUSED ONLY WITH 1, and an emptied map is empty

@@ -10,8 +10,9 @@ use lib.Bits.{bit_and, and_le_l}
 use lib.Count.{count_trailing_zeros}
 use lib.ListN.{length, get_or, set, length-set}
 use borrow.Author.Tests.{not-true}
+use Rattle.std.proofs.lemmas.Bool.{cases_Bool, cases_lt, and_parts, or_cases, or_left, or_right}
 use Rattle.lists.specs.Lists.{range, allb, overwrite}
-use Rattle.lists.proofs.Tests.{look, clash, lt_or_ge, not→false, t→true, and-true, or_true, or_left, or_right}
+use Rattle.lists.proofs.Tests.{clash, not→false, t→true}
 use Rattle.lists.proofs.Members.{all_intro, all_elim, range_in, range_out}
 use Rattle.words.specs.Bits.{bit}
 use Rattle.words.specs.Least.{IsLeast}
@@ -68,10 +69,10 @@ yards_start W members yards = record { within = omega arith; passed = λ v l e. 
 module _ (W : ℕ) (members yards : List ℕ) (j : ℕ) where
   pub yards_next : OpenYards W members yards j → j < W → get_or yards j 0 < 2 ^ 64 → get_or members j 0 < 2 ^ 64
       → bit_and (get_or yards j 0) ((2 ^ 64 - 1) - get_or members j 0) ≡ 0 → OpenYards W members yards (j + 1)
-  yards_next i l fy fm z = record { within = omega arith; passed = λ v h e. go v e (lt_or_ge v (64 * j)) h }
+  yards_next i l fy fm z = record { within = omega arith; passed = λ v h e. go v e (cases_lt v (64 * j)) h }
     where
       here : (b : ℕ) → b < 64 → row_bit W yards (64 * j + b) ≡ true → row_bit W members (64 * j + b) ≡ true
-      here b h e = on (look (bit (get_or members j 0) b))
+      here b h e = on (cases_Bool (bit (get_or members j 0) b))
         where
           on : (bit (get_or members j 0) b ≡ true) ⊎ (bit (get_or members j 0) b ≡ false) → row_bit W members (64 * j + b) ≡ true
           on (inl t) = row_word W members j b l h ∙ t
@@ -87,16 +88,16 @@ module _ (W : ℕ) (members yards : List ℕ) (j : ℕ) where
 
   pub yards_end : OpenYards W members yards j → W ≤ j → true ≡ sound_yards (64 * W) (yard_network W members yards [])
   unfolding sound_yards network_of
-  yards_end i l = sym (all_intro (λ v. not (row_bit W yards v) || row_bit W members v) (range (64 * W)) (λ v n. one v (range_out (64 * W) n) (look (row_bit W yards v))))
+  yards_end i l = sym (all_intro (λ v. not (row_bit W yards v) || row_bit W members v) (range (64 * W)) (λ v n. one v (range_out (64 * W) n) (cases_Bool (row_bit W yards v))))
     where
       one : (v : ℕ) → v < 64 * W → (row_bit W yards v ≡ true) ⊎ (row_bit W yards v ≡ false) → (not (row_bit W yards v) || row_bit W members v) ≡ true
-      one v n (inl t) = or_right (not (row_bit W yards v)) (i.passed v (omega arith) t)
-      one v n (inr f) = or_left (row_bit W members v) (ap not f)
+      one v n (inl t) = or_right (not (row_bit W yards v)) _ (i.passed v (omega arith) t)
+      one v n (inr f) = or_left _ (row_bit W members v) (ap not f)
 
   pub yards_fault : j < W → get_or yards j 0 < 2 ^ 64 → get_or members j 0 < 2 ^ 64
       → (bit_and (get_or yards j 0) ((2 ^ 64 - 1) - get_or members j 0) ≡ 0 → ⊥) → false ≡ sound_yards (64 * W) (yard_network W members yards [])
   unfolding sound_yards network_of
-  yards_fault l fy fm ne = sym (not→false (allb test (range (64 * W))) (λ t. at (or_true (not (row_bit W yards v)) (row_bit W members v) (all_elim test (range (64 * W)) (t→true _ t) (range_in (64 * W) inside)))))
+  yards_fault l fy fm ne = sym (not→false (allb test (range (64 * W))) (λ t. at (or_cases (not (row_bit W yards v)) (row_bit W members v) (all_elim test (range (64 * W)) (t→true _ t) (range_in (64 * W) inside)))))
     where
       test : ℕ → Bool
       test u = not (row_bit W yards u) || row_bit W members u
@@ -117,7 +118,7 @@ module _ (W : ℕ) (members yards : List ℕ) (j : ℕ) where
       inside = omega (arith, p.below)
 
       both : (bit (get_or yards j 0) b ≡ true) × (not (bit (get_or members j 0) b) ≡ true)
-      both = and-true (bit (get_or yards j 0) b) (not (bit (get_or members j 0) b)) (sym (minus_bit (get_or yards j 0) (get_or members j 0) fy fm b p.below) ∙ p.here)
+      both = and_parts (bit (get_or yards j 0) b) (not (bit (get_or members j 0) b)) (sym (minus_bit (get_or yards j 0) (get_or members j 0) fy fm b p.below) ∙ p.here)
 
       at : (not (row_bit W yards v) ≡ true) ⊎ (row_bit W members v ≡ true) → ⊥
       at (inl n) = clash (row_word W yards j b l p.below ∙ both.0) (not-true (row_bit W yards v) n)

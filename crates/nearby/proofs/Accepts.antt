@@ -8,6 +8,7 @@ use Prim.Native.Nat.{ℕ, zero, suc, ◌*◌, ◌≤◌, ◌<◌}
 use lib.Dec.{leb}
 use lib.ListN.{length, get_or}
 use borrow.Author.Tests.{le-leb, lt-leb}
+use Rattle.std.proofs.lemmas.Bool.{cases_Bool}
 use Rattle.std.specs.Prelude.{Option, Some, None, Err}
 use Rattle.std.specs.Option.{ok_or}
 use Rattle.std.specs.Result.{is_ok}
@@ -16,7 +17,7 @@ use Rattle.outcome.specs.Refusals.{number_of, refused_by}
 use Rattle.outcome.specs.declared.Refusal.{Refusal}
 use Rattle.outcome.specs.declared.Refusal.TheVariants.{Nobody}
 use Rattle.lists.specs.Lists.{range, filterb, anyb, allb, first_of}
-use Rattle.lists.proofs.Tests.{clash, look, true→t}
+use Rattle.lists.proofs.Tests.{clash, true→t}
 use Rattle.lists.proofs.Members.{filter-ext, filter_in, filter_out, range_out, any_none, any_intro, first_kept, first_passed}
 use Rattle.lists.proofs.Fills.{fill_at}
 use Rattle.graph.specs.Network.{Network}
@@ -38,7 +39,7 @@ use Rattle.nearby.proofs.Choosing.{nearest_whole}
 
 -- whether a list has an element that passes, from those that do
 any_by : (p : ℕ → Bool) (l : List ℕ) → filterb p l ≡ [] → anyb p l ≡ false
-any_by p l e = any_none p l (λ x m. go x m (look (p x)))
+any_by p l e = any_none p l (λ x m. go x m (cases_Bool (p x)))
   where
     go : (x : ℕ) → Memᴰ x l → (p x ≡ true) ⊎ (p x ≡ false) → p x ≡ false
     go x m (inl t) = absurd (Memᴰ.not-nil (subst (Memᴰ x) e (filter_in p l m t)))

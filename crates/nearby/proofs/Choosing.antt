@@ -8,8 +8,8 @@ use native.Mathlib.Omega.{arith}
 use lib.Dec.{eqb, ltb}
 use lib.ListN.{length, get_or, drop}
 use borrow.Author.Tests.{lt-ltb, le-ltb, eq-eqb, ne_eqb}
+use Rattle.std.proofs.lemmas.Bool.{cases_Bool}
 use Rattle.lists.specs.Lists.{filterb}
-use Rattle.lists.proofs.Tests.{look}
 use Rattle.lists.proofs.Scans.{filter-took, filter-passed, filter-done}
 use Rattle.graph.specs.Nearby.{nearer_of, nearest_from, nearest_of}
 use Rattle.std.specs.Prelude.{Option}
@@ -24,7 +24,7 @@ use Rattle.nearby.specs.Steps.{FirstListed}
 found_is : (p : ℕ → Bool) (l : List ℕ) → FirstListed (filterb p l) (find p l)
 unfolding filterb
 found_is p [] = refl
-found_is p (v ∷ vs) = go (look (p v)) (found_is p vs)
+found_is p (v ∷ vs) = go (cases_Bool (p v)) (found_is p vs)
   where
     go : (p v ≡ true) ⊎ (p v ≡ false) → FirstListed (filterb p vs) (find p vs) → FirstListed (filterb p (v ∷ vs)) (find p (v ∷ vs))
     go (inl t) h = rw t (filterb p vs, refl)

@@ -9,8 +9,9 @@ use native.Mathlib.Omega.{arith}
 use lib.Dec.{T, leb}
 use lib.ListN.{length}
 use borrow.Author.Tests.{le-leb, not-true, not-false}
+use Rattle.std.proofs.lemmas.Bool.{cases_lt, cases_eq}
 use Rattle.lists.specs.Lists.{anyb, allb}
-use Rattle.lists.proofs.Tests.{clash, t→true, true→t, lt_or_ge, eq_or_ne}
+use Rattle.lists.proofs.Tests.{clash, t→true, true→t}
 use Rattle.lists.proofs.Members.{any_intro, any_elim, length-filter, first_zero}
 use Rattle.lists.proofs.Conditions.{all_fit, Decides, Tells, decides_test, decides_not, decides_short, refuses_by}
 use Rattle.lists.proofs.Fills.{overwrite_take}
@@ -119,7 +120,7 @@ module _ (K : Shape) (shape : IsShape K) (rec : Record) (links : List ℕ) (B : 
 
   -- an accepted listing has room for its codes, and what refuses a search does not refuse it
   within_granted : (codes : List ℕ) → within_refusal K rec links B codes code ≡ 0 → (places K ≤ length codes) × (refusal ≡ 0)
-  within_granted codes z = go (lt_or_ge (length codes) (places K))
+  within_granted codes z = go (cases_lt (length codes) (places K))
     where
       go : (length codes < places K) ⊎ (places K ≤ length codes) → (places K ≤ length codes) × (refusal ≡ 0)
       go (inl l) = absurd (omega (arith, within_short K rec links B code codes l ∙ z))
@@ -127,7 +128,7 @@ module _ (K : Shape) (shape : IsShape K) (rec : Record) (links : List ℕ) (B : 
 
   -- an accepted choice has an open depot in its list
   nearest_granted : (listed : List ℕ) → nearest_refusal K rec links B code listed ≡ 0 → (refusal ≡ 0) × (anyb G.is_open listed ≡ true)
-  nearest_granted listed z = go (eq_or_ne refusal 0)
+  nearest_granted listed z = go (cases_eq refusal 0)
     where
       go : (refusal ≡ 0) ⊎ (refusal ≢ 0) → (refusal ≡ 0) × (anyb G.is_open listed ≡ true)
       go (inl e) = (e, not-false (anyb G.is_open listed) (first_zero (not (anyb G.is_open listed)) 9 [] (nearest_by_list K rec links B code listed e ∙ z)).0)

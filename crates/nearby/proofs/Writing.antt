@@ -10,8 +10,8 @@ use lib.Dec.{leb}
 use lib.ListN.{length, set, length-append, length-set}
 use lib.Seq.{append_snoc}
 use borrow.Author.Tests.{le-leb}
+use Rattle.std.proofs.lemmas.Bool.{cases_Bool}
 use Rattle.lists.specs.Lists.{filterb, overwrite}
-use Rattle.lists.proofs.Tests.{look}
 use Rattle.lists.proofs.Members.{filter-all, length-filter}
 use Rattle.lists.proofs.Appends.{append_none}
 use Rattle.lists.proofs.Copies.{overwrite_snoc}
@@ -73,7 +73,7 @@ module _ (p : ℕ → Bool) (G : Network) (old : List ℕ) where
       pub writing_more : {count' : ℕ} {new' : List ℕ} → length (vertices G) ≤ length old → codes_listed count' new' ≡ list_more (p v) v count new
           → IsWriting p G old new' count' (v + 1)
       unfolding list_more filterb
-      writing_more {count'} {new'} room e = go (look (p v))
+      writing_more {count'} {new'} room e = go (cases_Bool (p v))
         where
           go : (p v ≡ true) ⊎ (p v ≡ false) → IsWriting p G old new' count' (v + 1)
           go (inl t) =

@@ -10,8 +10,9 @@ use lib.Dec.{eqb}
 use lib.ListN.{length, get_or, take, drop, drop_of_length-le, length-append, length-take}
 use lib.Seq.{drop-cons, get_or-take, take_all}
 use borrow.Author.Tests.{eq-eqb, ne_eqb, eqb-true}
+use Rattle.std.proofs.lemmas.Bool.{cases_Bool, and_parts}
 use Rattle.lists.specs.Lists.{allb}
-use Rattle.lists.proofs.Tests.{look, clash, and-true}
+use Rattle.lists.proofs.Tests.{clash}
 use Rattle.lists.proofs.Scans.{all-at}
 use Rattle.hexadecimal.specs.Hex.{is_digit, digits_of}
 use Rattle.notice.specs.Lines.{line_limit, line_end, end_of, line_of}
@@ -47,7 +48,7 @@ pub end_digits : (ds rest : List ℕ) → allb is_digit ds ≡ true → end_of (
 unfolding allb end_of
 end_digits [] rest h = refl
 end_digits (d ∷ ds) rest h =
-    let p = and-true (is_digit d) (allb is_digit ds) h in
+    let p = and_parts (is_digit d) (allb is_digit ds) h in
     rw (digit_no_end d p.0) (ap suc (end_digits ds rest p.1))
 
 -- ---- the first byte that is no digit, at e
@@ -58,7 +59,7 @@ unfolding allb end_of
 end_behind s zero h d = omega arith
 end_behind [] (suc e) h d = absurd (omega arith)
 end_behind (c ∷ cs) (suc e) h d =
-    let p = and-true (is_digit c) (allb is_digit (take e cs)) d in
+    let p = and_parts (is_digit c) (allb is_digit (take e cs)) d in
     rw (digit_no_end c p.0) (omega (arith, end_behind cs e (omega arith) p.1))
 
 -- it is the end where it is 0A, and where there is none
@@ -70,7 +71,7 @@ end_none s e h d = end_out s e (omega arith) ∙ sym (end_behind s e (omega arit
 
 -- any other byte stands before the end, so that not all before the end are digits
 pub end_stray : (s : List ℕ) (e : ℕ) → e < length s → allb is_digit (take e s) ≡ true → (get_or s e 0 ≡ line_end → ⊥) → is_digit (get_or s e 0) ≡ false → allb is_digit (take (end_of s) s) ≡ false
-end_stray s e h d k f = go (look (allb is_digit (take (end_of s) s)))
+end_stray s e h d k f = go (cases_Bool (allb is_digit (take (end_of s) s)))
   where
     before : e < end_of s
     before = omega (arith, end_behind s e (omega arith) d, end_more s e h k)

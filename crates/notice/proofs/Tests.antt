@@ -7,7 +7,7 @@ use native.Mathlib.Omega.{arith}
 use lib.Dec.{eqb, leb}
 use lib.ListN.{length, get_or}
 use borrow.Author.Tests.{eqb-true, leb-true}
-use Rattle.lists.proofs.Tests.{and-true}
+use Rattle.std.proofs.lemmas.Bool.{and_parts}
 use Rattle.lists.specs.Lists.{allb}
 use Rattle.hexadecimal.specs.Hex.{is_digit, bytes_of}
 use Rattle.notice.specs.Lines.{link_kind, opens_depot, frame_length, is_frame, spells_frame}
@@ -55,7 +55,7 @@ spells_other ds h = rw h
 pub frame_parts : (f : List ℕ) → is_frame f ≡ true → (3 ≤ length f) × (length f ≡ frame_length (get_or f 0 0) (get_or f 2 0))
 unfolding is_frame
 frame_parts f h =
-    let p = and-true (leb 3 (length f)) (eqb (length f) (frame_length (get_or f 0 0) (get_or f 2 0))) h in
+    let p = and_parts (leb 3 (length f)) (eqb (length f) (frame_length (get_or f 0 0) (get_or f 2 0))) h in
     (leb-true 3 (length f) p.0, eqb-true (length f) (frame_length (get_or f 0 0) (get_or f 2 0)) p.1)
 
 pub frame_most : (f : List ℕ) → is_frame f ≡ true → length f ≤ 3 + get_or f 2 0
@@ -69,6 +69,6 @@ pub record Spells (ds : List ℕ) : Type 0 where
 pub spells_parts : (ds : List ℕ) → spells_frame ds ≡ true → Spells ds
 unfolding spells_frame
 spells_parts ds h =
-    let p = and-true (allb is_digit ds) (eqb (length ds % 2) 0 && is_frame (bytes_of ds)) h in
-    let q = and-true (eqb (length ds % 2) 0) (is_frame (bytes_of ds)) p.1 in
+    let p = and_parts (allb is_digit ds) (eqb (length ds % 2) 0 && is_frame (bytes_of ds)) h in
+    let q = and_parts (eqb (length ds % 2) 0) (is_frame (bytes_of ds)) p.1 in
     record { digits = p.0; even = eqb-true (length ds % 2) 0 q.0; spelt = q.1 }

@@ -8,8 +8,8 @@ use lib.Dec.{ltb}
 use lib.ListN.{length, get_or, take, drop, length-append, length-take}
 use lib.Seq.{append_snoc, take-append_seam, take-append-add, take-take, take-suc}
 use borrow.Author.Tests.{ltb-true, lt-ltb, eq-eqb, le-ltb}
+use Rattle.std.proofs.lemmas.Bool.{and_parts, and_from}
 use Rattle.lists.specs.Lists.{allb, overwrite}
-use Rattle.lists.proofs.Tests.{and-true, and_intro}
 use Rattle.notice.specs.Lines.{line_limit, line_end, opens_depot, frame_length, is_frame, line_of, end_of, spells_frame, garbled, frame, read_head, read_line}
 use Rattle.hexadecimal.specs.Hex.{is_byte, digits_of, bytes_of}
 use Rattle.notice.specs.Calls.{frame_limit, line_done, line_left, read_into, read_call, write_call}
@@ -48,7 +48,7 @@ spells_digits : (f : List ℕ) → is_frame f ≡ true → allb is_byte f ≡ tr
 unfolding spells_frame
 spells_digits f h b =
     let l = length_digits f in
-    and_intro (all_digits f b) (and_intro (eq-eqb (length (digits_of f) % 2) 0 (omega arith)) (ap is_frame (bytes_digits f b) ∙ h))
+    and_from _ _ (all_digits f b) (and_from _ _ (eq-eqb (length (digits_of f) % 2) 0 (omega arith)) (ap is_frame (bytes_digits f b) ∙ h))
 
 head_reads : (ds rest : List ℕ) → spells_frame ds ≡ true → read_head (ds ++ line_end ∷ rest) ≡ frame (bytes_of ds) (length ds + 1)
 unfolding read_head
@@ -89,7 +89,7 @@ head_found head f n h = go (ltb (end_of head) (length head) && spells_frame (tak
     go : (b : Bool) → (ltb (end_of head) (length head) && spells_frame (take (end_of head) head)) ≡ b
         → cond b (frame (bytes_of (take (end_of head) head)) (end_of head + 1)) garbled ≡ frame f n → Found head f n
     go true e k =
-        let p = and-true (ltb (end_of head) (length head)) (spells_frame (take (end_of head) head)) e in
+        let p = and_parts (ltb (end_of head) (length head)) (spells_frame (take (end_of head) head)) e in
         record { ends = ltb-true (end_of head) (length head) p.0; spells = spells_parts (take (end_of head) head) p.1; bytes = cc; used = cc }
     go false e k = let z : ◌≡◌ {A = ℕ} 0 1 = cc in absurd (omega arith)
 

@@ -10,8 +10,9 @@ use native.Mathlib.Omega.{arith}
 use lib.Dec.{T, eqb}
 use lib.ListN.{length, get_or}
 use borrow.Author.Tests.{eq-eqb}
+use Rattle.std.proofs.lemmas.Bool.{or_left}
 use Rattle.lists.specs.Lists.{memb, overwrite, first_of}
-use Rattle.lists.proofs.Tests.{or_left, true→t}
+use Rattle.lists.proofs.Tests.{true→t}
 use Rattle.graph.specs.Network.{Network, IsSound, delivers}
 use Rattle.graph.specs.Chart.{chart}
 use Rattle.graph.specs.Opening.{Notice, by_code, with_depot, opening, open_faults}
@@ -140,7 +141,7 @@ module _ (K : Shape) (shape : IsShape K) (rec : Record) (links p h b s x y : Lis
 
     open_new : T (H.is_open code)
     unfolding network_after applied with_depot
-    open_new = true→t (or_left (G.is_open code) (eq-eqb code code refl))
+    open_new = true→t (or_left _ (G.is_open code) (eq-eqb code code refl))
 
     -- the targets are the new open set without its yards
     module _ (targets : List ℕ) (size : K.words ≤ length after) (long : K.words ≤ length targets)

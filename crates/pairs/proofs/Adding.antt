@@ -10,7 +10,8 @@ use lib.Bits.{bit_and}
 use lib.Dec.{eqb, ltb}
 use lib.ListN.{get_or}
 use borrow.Author.Tests.{eqb-true, eq-eqb, ltb-true, lt-ltb, le-ltb}
-use Rattle.lists.proofs.Tests.{and-true, and_intro, or_true, or_left, or_right, same_test, lt_or_ge}
+use Rattle.std.proofs.lemmas.Bool.{and_parts, and_from, or_cases, or_left, or_right, cases_lt}
+use Rattle.lists.proofs.Tests.{same_test}
 use Rattle.words.specs.Bits.{bit, word_of}
 use Rattle.words.proofs.Bits.{bit-word_of, word_of_lt, word_minus}
 use Rattle.graph.specs.Chart.{Pairs}
@@ -64,26 +65,26 @@ set_parts : (r : ℕ) (m : ℕ → Bool) (u v : ℕ) → with_set r m u v ≡ ((
 unfolding with_set
 set_parts r m u v =
     same_test (with_set r m u v) ((eqb u r && (m v && ltb r v)) || (eqb v r && (m u && ltb u r)))
-    (λ h. (let z = and-true (ltb u v) ((eqb u r && m v) || (eqb v r && m u)) h in to z.0 (or_true (eqb u r && m v) (eqb v r && m u) z.1)))
-    (λ h. from (or_true (eqb u r && (m v && ltb r v)) (eqb v r && (m u && ltb u r)) h))
+    (λ h. (let z = and_parts (ltb u v) ((eqb u r && m v) || (eqb v r && m u)) h in to z.0 (or_cases (eqb u r && m v) (eqb v r && m u) z.1)))
+    (λ h. from (or_cases (eqb u r && (m v && ltb r v)) (eqb v r && (m u && ltb u r)) h))
   where
     to : ltb u v ≡ true → ((eqb u r && m v) ≡ true) ⊎ ((eqb v r && m u) ≡ true) → ((eqb u r && (m v && ltb r v)) || (eqb v r && (m u && ltb u r))) ≡ true
     to l (inl h) =
-        let z = and-true (eqb u r) (m v) h in
-        or_left (eqb v r && (m u && ltb u r)) (and_intro z.0 (and_intro z.1 (ap (λ (k : ℕ). ltb k v) (sym (eqb-true u r z.0)) ∙ l)))
+        let z = and_parts (eqb u r) (m v) h in
+        or_left _ (eqb v r && (m u && ltb u r)) (and_from _ _ z.0 (and_from _ _ z.1 (ap (λ (k : ℕ). ltb k v) (sym (eqb-true u r z.0)) ∙ l)))
     to l (inr h) =
-        let z = and-true (eqb v r) (m u) h in
-        or_right (eqb u r && (m v && ltb r v)) (and_intro z.0 (and_intro z.1 (ap (ltb u) (sym (eqb-true v r z.0)) ∙ l)))
+        let z = and_parts (eqb v r) (m u) h in
+        or_right (eqb u r && (m v && ltb r v)) _ (and_from _ _ z.0 (and_from _ _ z.1 (ap (ltb u) (sym (eqb-true v r z.0)) ∙ l)))
 
     from : ((eqb u r && (m v && ltb r v)) ≡ true) ⊎ ((eqb v r && (m u && ltb u r)) ≡ true) → with_set r m u v ≡ true
     from (inl h) =
-        let z = and-true (eqb u r) (m v && ltb r v) h in
-        let y = and-true (m v) (ltb r v) z.1 in
-        and_intro (ap (λ (k : ℕ). ltb k v) (eqb-true u r z.0) ∙ y.1) (or_left (eqb v r && m u) (and_intro z.0 y.0))
+        let z = and_parts (eqb u r) (m v && ltb r v) h in
+        let y = and_parts (m v) (ltb r v) z.1 in
+        and_from _ _ (ap (λ (k : ℕ). ltb k v) (eqb-true u r z.0) ∙ y.1) (or_left _ (eqb v r && m u) (and_from _ _ z.0 y.0))
     from (inr h) =
-        let z = and-true (eqb v r) (m u && ltb u r) h in
-        let y = and-true (m u) (ltb u r) z.1 in
-        and_intro (ap (ltb u) (eqb-true v r z.0) ∙ y.1) (or_right (eqb u r && m v) (and_intro z.0 y.0))
+        let z = and_parts (eqb v r) (m u && ltb u r) h in
+        let y = and_parts (m u) (ltb u r) z.1 in
+        and_from _ _ (ap (ltb u) (eqb-true v r z.0) ∙ y.1) (or_right (eqb u r && m v) _ (and_from _ _ z.0 y.0))
 
 -- ---- the members below a number
 
@@ -103,22 +104,22 @@ module _ (W : ℕ) (last : List ℕ) where
   unfolding member_below member_in
   below_word j x =
       same_test (member_below (64 * (j + 1)) x) (member_below (64 * j) x || member_in j x)
-      (λ h. to (and-true (ltb x (64 * (j + 1))) (row_bit W last x) h)) (λ h. from (or_true (member_below (64 * j) x) (member_in j x) h))
+      (λ h. to (and_parts (ltb x (64 * (j + 1))) (row_bit W last x) h)) (λ h. from (or_cases (member_below (64 * j) x) (member_in j x) h))
     where
       to : (ltb x (64 * (j + 1)) ≡ true) × (row_bit W last x ≡ true) → (member_below (64 * j) x || member_in j x) ≡ true
-      to z = go (ltb-true x (64 * (j + 1)) z.0) (lt_or_ge x (64 * j))
+      to z = go (ltb-true x (64 * (j + 1)) z.0) (cases_lt x (64 * j))
         where
           go : x < 64 * (j + 1) → (x < 64 * j) ⊎ (64 * j ≤ x) → (member_below (64 * j) x || member_in j x) ≡ true
-          go l (inl p) = or_left (member_in j x) (and_intro (lt-ltb x (64 * j) p) z.1)
-          go l (inr p) = or_right (member_below (64 * j) x) (and_intro (eq-eqb (x / 64) j (omega arith)) z.1)
+          go l (inl p) = or_left _ (member_in j x) (and_from _ _ (lt-ltb x (64 * j) p) z.1)
+          go l (inr p) = or_right (member_below (64 * j) x) _ (and_from _ _ (eq-eqb (x / 64) j (omega arith)) z.1)
 
       from : (member_below (64 * j) x ≡ true) ⊎ (member_in j x ≡ true) → (ltb x (64 * (j + 1)) && row_bit W last x) ≡ true
       from (inl h) =
-          let z = and-true (ltb x (64 * j)) (row_bit W last x) h in
-          and_intro (lt-ltb x (64 * (j + 1)) (omega (arith, ltb-true x (64 * j) z.0))) z.1
+          let z = and_parts (ltb x (64 * j)) (row_bit W last x) h in
+          and_from _ _ (lt-ltb x (64 * (j + 1)) (omega (arith, ltb-true x (64 * j) z.0))) z.1
       from (inr h) =
-          let z = and-true (eqb (x / 64) j) (row_bit W last x) h in
-          and_intro (lt-ltb x (64 * (j + 1)) (omega (arith, eqb-true (x / 64) j z.0))) z.1
+          let z = and_parts (eqb (x / 64) j) (row_bit W last x) h in
+          and_from _ _ (lt-ltb x (64 * (j + 1)) (omega (arith, eqb-true (x / 64) j z.0))) z.1
 
   below_all : (x : ℕ) → member_below (64 * W) x ≡ row_bit W last x
   unfolding member_below row_bit
@@ -134,7 +135,7 @@ module _ (W : ℕ) (last : List ℕ) where
   unfolding member_in in_word
   part_is j w c l h x =
       same_test (in_word j w x) (member_in j x && c x)
-      (λ e. to (and-true (eqb (x / 64) j) (bit w (x % 64)) e)) (λ e. from (and-true (member_in j x) (c x) e))
+      (λ e. to (and_parts (eqb (x / 64) j) (bit w (x % 64)) e)) (λ e. from (and_parts (member_in j x) (c x) e))
     where
       small : x % 64 < 64
       small = mod-lt x (zero-lt-suc 63)
@@ -149,13 +150,13 @@ module _ (W : ℕ) (last : List ℕ) where
 
       to : (eqb (x / 64) j ≡ true) × (bit w (x % 64) ≡ true) → (member_in j x && c x) ≡ true
       to z =
-          let m = and-true (row_bit W last x) (c x) (sym (at (eqb-true (x / 64) j z.0)) ∙ z.1) in
-          and_intro (and_intro z.0 m.0) m.1
+          let m = and_parts (row_bit W last x) (c x) (sym (at (eqb-true (x / 64) j z.0)) ∙ z.1) in
+          and_from _ _ (and_from _ _ z.0 m.0) m.1
 
       from : (member_in j x ≡ true) × (c x ≡ true) → in_word j w x ≡ true
       from z =
-          let m = and-true (eqb (x / 64) j) (row_bit W last x) z.0 in
-          and_intro m.0 (at (eqb-true (x / 64) j m.0) ∙ and_intro m.1 z.1)
+          let m = and_parts (eqb (x / 64) j) (row_bit W last x) z.0 in
+          and_from _ _ m.0 (at (eqb-true (x / 64) j m.0) ∙ and_from _ _ m.1 z.1)
 
 -- ---- the loop
 
@@ -225,7 +226,7 @@ upper_bits x j r {up} f e b l =
     ap (λ (w : ℕ). bit w b) (word_minus 64 x up f (subst (λ (w : ℕ). w < 2 ^ 64) (sym e) (word_of_lt 64 (λ b. bit x b && ltb (64 * j + b) (r + 1)))))
     ∙ bit-word_of 64 (λ b. bit x b && not (bit up b)) b l
     ∙ ap (λ (y : Bool). bit x b && not y) (lower_bits x j (r + 1) e b l)
-    ∙ go (bit x b) (lt_or_ge r (64 * j + b))
+    ∙ go (bit x b) (cases_lt r (64 * j + b))
   where
     go : (a : Bool) → (r < 64 * j + b) ⊎ (64 * j + b ≤ r) → (a && not (a && ltb (64 * j + b) (r + 1))) ≡ (a && ltb r (64 * j + b))
     go false o = refl

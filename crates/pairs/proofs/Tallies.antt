@@ -9,8 +9,9 @@ use native.Mathlib.Omega.{arith}
 use lib.Dec.{eqb}
 use lib.ListN.{length, get_or}
 use borrow.Author.Tests.{eqb-true}
+use Rattle.std.proofs.lemmas.Bool.{and_parts, or_cases, or_left}
 use Rattle.lists.specs.Lists.{range, overwrite}
-use Rattle.lists.proofs.Tests.{and-true, same_test, or_true, or_left}
+use Rattle.lists.proofs.Tests.{same_test}
 use Rattle.lists.proofs.Fills.{overwrite_length, overwrite_twice}
 use Rattle.graph.specs.Chart.{Pairs, count_pairs}
 use Rattle.rows.specs.Rows.{table_bit, encode_table, put_bit}
@@ -92,11 +93,11 @@ tally_fits {W} {t} {n} c =
 pub put_old : {W : ℕ} {P : Pairs} {t₀ t : List ℕ} {n : ℕ} (a b : ℕ) → HoldsPairs W P t₀ t n → P a b ≡ true → HoldsPairs W (λ u v. P u v || (eqb u a && eqb v b)) t₀ t n
 put_old {W} {P} {t₀} a b h e =
     holds_ext h (λ u v. P u v || (eqb u a && eqb v b))
-    (λ u v l m. same_test (P u v) (P u v || (eqb u a && eqb v b)) (λ q. or_left (eqb u a && eqb v b) q) (λ q. go u v (or_true (P u v) (eqb u a && eqb v b) q)))
+    (λ u v l m. same_test (P u v) (P u v || (eqb u a && eqb v b)) (λ q. or_left _ (eqb u a && eqb v b) q) (λ q. go u v (or_cases (P u v) (eqb u a && eqb v b) q)))
   where
     go : (u v : ℕ) → (P u v ≡ true) ⊎ ((eqb u a && eqb v b) ≡ true) → P u v ≡ true
     go u v (inl q) = q
-    go u v (inr q) = let z = and-true (eqb u a) (eqb v b) q in ap₂ P (eqb-true u a z.0) (eqb-true v b z.1) ∙ e
+    go u v (inr q) = let z = and_parts (eqb u a) (eqb v b) q in ap₂ P (eqb-true u a z.0) (eqb-true v b z.1) ∙ e
 
 -- it is new, and counted
 pub put_new : {W : ℕ} {P : Pairs} {t₀ t : List ℕ} {n : ℕ} (a b : ℕ) → HoldsPairs W P t₀ t n → P a b ≡ false → a < 64 * W → b < 64 * W

@@ -10,9 +10,10 @@ use native.Mathlib.Omega.{arith}
 use lib.Bits.{bit_and, bit_or}
 use lib.Dec.{eqb, ltb}
 use lib.ListN.{get_or, set}
-use borrow.Author.Tests.{eqb-true, eq-eqb, ne_eqb, lt-ltb, le-ltb}
+use borrow.Author.Tests.{eqb-true, eq-eqb, ne_eqb, lt-ltb, le-ltb, not-true}
+use Rattle.std.proofs.lemmas.Bool.{and_parts, and_from, or_cases, or_left, or_right, cases_eq, cases_lt}
 use Rattle.lists.specs.Lists.{range, countb}
-use Rattle.lists.proofs.Tests.{clash, and-true, and_intro, or_true, or_left, or_right, same_test, eq_or_ne, lt_or_ge}
+use Rattle.lists.proofs.Tests.{clash, same_test}
 use Rattle.lists.proofs.Members.{length-range}
 use Rattle.lists.proofs.Counts.{count-or, count_le_length}
 use Rattle.lists.proofs.RangeCounts.{count_same}
@@ -43,10 +44,6 @@ or_none : (a : Bool) → (a || false) ≡ a
 or_none true = refl
 or_none false = refl
 
-not-false : (a : Bool) → not a ≡ true → a ≡ false
-not-false true e = sym e
-not-false false e = refl
-
 -- ---- the members of a word below a number, as `lower_part` finds them: none, all, or those below its bit
 
 module _ (x j high : ℕ) where
@@ -62,7 +59,7 @@ module _ (x j high : ℕ) where
   pub part_some : 64 * j < high → word_of 64 (λ b. bit x b && ltb b (high - 64 * j)) ≡ word_of 64 (λ b. bit x b && ltb (64 * j + b) high)
   part_some l =
       word_of_ext 64 (λ b. bit x b && ltb b (high - 64 * j)) (λ b. bit x b && ltb (64 * j + b) high)
-      (λ b m. ap (λ (y : Bool). bit x b && y) (go b (lt_or_ge (64 * j + b) high)))
+      (λ b m. ap (λ (y : Bool). bit x b && y) (go b (cases_lt (64 * j + b) high)))
     where
       go : (b : ℕ) → (64 * j + b < high) ⊎ (high ≤ 64 * j + b) → ltb b (high - 64 * j) ≡ ltb (64 * j + b) high
       go b (inl h) = lt-ltb b (high - 64 * j) (omega arith) ∙ sym (lt-ltb (64 * j + b) high h)
@@ -103,7 +100,7 @@ module _ {W : ℕ} {P : Pairs} {t₀ t : List ℕ} {n : ℕ} (h : HoldsPairs W P
   upper_row b m = ap₂ (λ (y z : Bool). P low (64 * j + b) || (y && z)) (eq-eqb low low refl) (word_here j x b m)
 
   upper_other : (u v : ℕ) → (u ≡ low → v / 64 ≡ j → ⊥) → upper u v ≡ P u v
-  upper_other u v ne = go (eq_or_ne u low) (eq_or_ne (v / 64) j)
+  upper_other u v ne = go (cases_eq u low) (cases_eq (v / 64) j)
     where
       go : (u ≡ low) ⊎ (u ≢ low) → (v / 64 ≡ j) ⊎ (v / 64 ≢ j) → upper u v ≡ P u v
       go (inl e) (inl f) = absurd (ne e f)
@@ -179,36 +176,36 @@ module _ (W j x high : ℕ) (t₀ : List ℕ) where
   module _ {t : List ℕ} {n left y b : ℕ} (i : Lowering t n left) (l : IsLeast left b) (d : WithoutLeast left y) where
     passed_more : (u : ℕ) → passed y u ≡ (passed left u || eqb u (64 * j + b))
     unfolding passed
-    passed_more u = same_test (passed y u) (passed left u || eqb u (64 * j + b)) to (λ h. from (or_true (passed left u) (eqb u (64 * j + b)) h))
+    passed_more u = same_test (passed y u) (passed left u || eqb u (64 * j + b)) to (λ h. from (or_cases (passed left u) (eqb u (64 * j + b)) h))
       where
         small : u % 64 < 64
         small = mod-lt u (zero-lt-suc 63)
 
         to : passed y u ≡ true → (passed left u || eqb u (64 * j + b)) ≡ true
         to h =
-            let z = and-true (eqb (u / 64) j) (bit x (u % 64) && not (bit y (u % 64))) h in
-            let m = and-true (bit x (u % 64)) (not (bit y (u % 64))) z.1 in
-            go z.0 m.0 m.1 (eq_or_ne (u % 64) b)
+            let z = and_parts (eqb (u / 64) j) (bit x (u % 64) && not (bit y (u % 64))) h in
+            let m = and_parts (bit x (u % 64)) (not (bit y (u % 64))) z.1 in
+            go z.0 m.0 m.1 (cases_eq (u % 64) b)
           where
             go : eqb (u / 64) j ≡ true → bit x (u % 64) ≡ true → not (bit y (u % 64)) ≡ true → (u % 64 ≡ b) ⊎ (u % 64 ≢ b) → (passed left u || eqb u (64 * j + b)) ≡ true
-            go e p q (inl s) = or_right (passed left u) (eq-eqb u (64 * j + b) (omega (arith, eqb-true (u / 64) j e)))
-            go e p q (inr s) = or_left (eqb u (64 * j + b)) (and_intro e (and_intro p (ap not (sym (without_other l d (u % 64) small s)) ∙ q)))
+            go e p q (inl s) = or_right (passed left u) _ (eq-eqb u (64 * j + b) (omega (arith, eqb-true (u / 64) j e)))
+            go e p q (inr s) = or_left _ (eqb u (64 * j + b)) (and_from _ _ e (and_from _ _ p (ap not (sym (without_other l d (u % 64) small s)) ∙ q)))
 
         from : (passed left u ≡ true) ⊎ (eqb u (64 * j + b) ≡ true) → passed y u ≡ true
         from (inl h) =
-            let z = and-true (eqb (u / 64) j) (bit x (u % 64) && not (bit left (u % 64))) h in
-            let m = and-true (bit x (u % 64)) (not (bit left (u % 64))) z.1 in
-            and_intro z.0 (and_intro m.0 (gone m.1 (bit y (u % 64)) refl))
+            let z = and_parts (eqb (u / 64) j) (bit x (u % 64) && not (bit left (u % 64))) h in
+            let m = and_parts (bit x (u % 64)) (not (bit left (u % 64))) z.1 in
+            and_from _ _ z.0 (and_from _ _ m.0 (gone m.1 (bit y (u % 64)) refl))
           where
             gone : not (bit left (u % 64)) ≡ true → (a : Bool) → bit y (u % 64) ≡ a → not (bit y (u % 64)) ≡ true
-            gone q true e = absurd (clash (without_inside l d (u % 64) small e) (not-false (bit left (u % 64)) q))
+            gone q true e = absurd (clash (without_inside l d (u % 64) small e) (not-true (bit left (u % 64)) q))
             gone q false e = ap not e
         from (inr h) =
             let e : u ≡ 64 * j + b = eqb-true u (64 * j + b) h in
             let below = l.below in
             let q : u / 64 ≡ j = omega arith in
             let r : u % 64 ≡ b = omega arith in
-            and_intro (eq-eqb (u / 64) j q) (and_intro (ap (bit x) r ∙ i.inside b l.below l.here) (ap not (ap (bit y) r ∙ without_here l d)))
+            and_from _ _ (eq-eqb (u / 64) j q) (and_from _ _ (ap (bit x) r ∙ i.inside b l.below l.here) (ap not (ap (bit y) r ∙ without_here l d)))
 
     -- the pair of the least member left is put
     pub lower_more : {t' : List ℕ} {n' : ℕ} → tally t' n' ≡ tally_of W (λ u v. table_bit W t u v || (eqb u (64 * j + b) && eqb v high)) t → Lowering t' n' y

@@ -7,8 +7,8 @@ use Prim.Native.Nat.{ℕ, ◌<◌}
 use lib.Dec.{T, eqb}
 use lib.ListN.{length, get_or}
 use borrow.Author.Tests.{eq-eqb, ne_eqb}
+use Rattle.std.proofs.lemmas.Bool.{cases_eq}
 use Rattle.lists.specs.Lists.{overwrite}
-use Rattle.lists.proofs.Tests.{eq_or_ne}
 use Rattle.graph.specs.Network.{Network, delivers}
 use Rattle.graph.specs.Chart.{Pairs, chart}
 use Rattle.graph.specs.Rounds.{rounds}
@@ -115,7 +115,7 @@ module _ (K : Shape) (members targets links near : List ℕ) (B : Lent) (lo : �
   by_test x q = rw q
 
   any_left : any_pair (chart G).depots Left ≡ not (eqb k 0)
-  any_left = go (eq_or_ne k 0)
+  any_left = go (cases_eq k 0)
     where
       go : (k ≡ 0) ⊎ (k ≢ 0) → any_pair (chart G).depots Left ≡ not (eqb k 0)
       go (inl z) = none_left K.words G I.higher.net below way (via_either (chart G) lo hi) alike D B.pairs ends drops_by z ∙ sym (ap not (eq-eqb k 0 z))

@@ -6,9 +6,10 @@ use Prim.Native.Nat.{ℕ, ◌+◌, ◌^◌, ◌≤◌, ◌<◌}
 use native.Mathlib.Omega.{arith}
 use lib.ListN.{length, length-append}
 use borrow.Author.Tests.{lt-ltb, le-ltb}
+use Rattle.std.proofs.lemmas.Bool.{and_parts}
 use Rattle.lists.specs.Lists.{allb, overwrite}
 use Rattle.lists.proofs.Fills.{overwrite_take}
-use Rattle.lists.proofs.Tests.{and-true, clash}
+use Rattle.lists.proofs.Tests.{clash}
 use Rattle.outcome.specs.Outcome.{letter_of, refusal_of}
 use Rattle.outcome.specs.declared.Change.TheVariants.{Grew, Kept, Shrank}
 use Rattle.outcome.specs.declared.Outcome.{Outcome}
@@ -56,12 +57,12 @@ outcome_injective (Refused m) (Refused n) e = let t : decimal m ≡ decimal n = 
 split : (x : ℕ) (a c : List ℕ) {b d : List ℕ} → allb is_graph a ≡ true → allb is_graph c ≡ true → is_graph x ≡ false → a ++ x ∷ b ≡ c ++ x ∷ d → (a ≡ c) × (b ≡ d)
 unfolding allb
 split x [] [] g h s e = (refl, cc)
-split x [] (y ∷ ys) g h s e = let z : x ≡ y = cc in absurd (clash (ap is_graph z ∙ (and-true (is_graph y) (allb is_graph ys) h).0) s)
-split x (y ∷ ys) [] g h s e = let z : x ≡ y = cc in absurd (clash (ap is_graph z ∙ (and-true (is_graph y) (allb is_graph ys) g).0) s)
+split x [] (y ∷ ys) g h s e = let z : x ≡ y = cc in absurd (clash (ap is_graph z ∙ (and_parts (is_graph y) (allb is_graph ys) h).0) s)
+split x (y ∷ ys) [] g h s e = let z : x ≡ y = cc in absurd (clash (ap is_graph z ∙ (and_parts (is_graph y) (allb is_graph ys) g).0) s)
 split x (y ∷ ys) (z ∷ zs) {b} {d} g h s e =
     let p : y ≡ z = cc in
     let q : ys ++ x ∷ b ≡ zs ++ x ∷ d = cc in
-    let r = split x ys zs (and-true (is_graph y) (allb is_graph ys) g).1 (and-true (is_graph z) (allb is_graph zs) h).1 s q in
+    let r = split x ys zs (and_parts (is_graph y) (allb is_graph ys) g).1 (and_parts (is_graph z) (allb is_graph zs) h).1 s q in
     (ap₂ (λ (w : ℕ) (ws : List ℕ). w ∷ ws) p r.0, r.1)
 
 regroup : (a b c d e f g : List ℕ) → a ++ b ++ (c ++ d ++ e ++ f) ++ g ≡ a ++ (b ++ (c ++ (d ++ (e ++ (f ++ g)))))

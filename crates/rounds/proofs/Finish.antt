@@ -9,8 +9,9 @@ use native.Mathlib.Nat.{le_of_lt, le_refl, suc-add, zero-add}
 use native.Mathlib.Omega.{arith}
 use lib.Dec.{eqb}
 use lib.ListN.{length}
+use Rattle.std.proofs.lemmas.Bool.{cases_Bool}
 use Rattle.lists.specs.Lists.{range, countb, overwrite}
-use Rattle.lists.proofs.Tests.{look, true→t, clash}
+use Rattle.lists.proofs.Tests.{true→t, clash}
 use Rattle.lists.proofs.Members.{filter_out}
 use Rattle.lists.proofs.Counts.{count_le_length, count_none, sum_none}
 use Rattle.lists.proofs.Fills.{fill_ext}
@@ -164,8 +165,8 @@ module _ (K : Shape) (shape : IsShape K) (members targets links : List ℕ) (are
         rw (
           end.pairs_are_lem,
           end.tables_are,
-          end.bounds_are ∙ ap (λ (r : List ℕ). overwrite r O.bounds) (fill_ext (bound_place G S) (λ v. cond (G.is_open v) (bound_of (S.status v)) unreached) (64 * W) (λ v m. bound_end v (look (G.is_open v)))),
-          end.skips_are ∙ ap (λ (r : List ℕ). overwrite r O.skips) (fill_ext (skip_place K.searched_mark K.other_mark G S) (λ v. cond (G.is_open v) (mark_of K.searched_mark K.other_mark (S.status v)) K.other_mark) (64 * W) (λ v m. skip_end v (look (G.is_open v)))),
+          end.bounds_are ∙ ap (λ (r : List ℕ). overwrite r O.bounds) (fill_ext (bound_place G S) (λ v. cond (G.is_open v) (bound_of (S.status v)) unreached) (64 * W) (λ v m. bound_end v (cases_Bool (G.is_open v)))),
+          end.skips_are ∙ ap (λ (r : List ℕ). overwrite r O.skips) (fill_ext (skip_place K.searched_mark K.other_mark G S) (λ v. cond (G.is_open v) (mark_of K.searched_mark K.other_mark (S.status v)) K.other_mark) (64 * W) (λ v m. skip_end v (cases_Bool (G.is_open v)))),
           end.candidate_is,
           end.count_is,
           end.searches_are,

@@ -8,8 +8,8 @@ use native.Mathlib.Omega.{arith}
 use lib.Dec.{eqb, ltb}
 use lib.ListN.{get_or, set}
 use borrow.Author.Tests.{eqb-true, eq-eqb, ne_eqb, ltb-true, ltb-false}
+use Rattle.std.proofs.lemmas.Bool.{cases_Bool}
 use Rattle.lists.specs.Lists.{range, mapl, overwrite}
-use Rattle.lists.proofs.Tests.{look}
 use Rattle.lists.proofs.Fills.{overwrite_twice, length_fill, fill_at, fill_ext}
 use Rattle.lists.proofs.Buffers.{fill_put}
 use Rattle.graph.specs.Network.{Network}
@@ -121,7 +121,7 @@ module _ (W mark other : ℕ) (G : Network) (S S' : State) (r e c : ℕ) (rl : r
 
   bound_place_lem : (v : ℕ) → v < 64 * W → bound_after W hops e M₁ v ≡ bound_place G S' v
   unfolding bound_after bound_place left_bound left_waiting waiting_place
-  bound_place_lem v l = rw (waiting_at v l, bound_at_lem v l, hop v l, st v) (go (look (eqb v r)))
+  bound_place_lem v l = rw (waiting_at v l, bound_at_lem v l, hop v l, st v) (go (cases_Bool (eqb v r)))
     where
       go : (eqb v r ≡ true) ⊎ (eqb v r ≡ false)
           → cond (cond (eqb v r) false (G.is_open v && is_waiting (S.status v))) (min (e + dist G r v) (cond (eqb v r) e (cond (G.is_open v) (run_bound (S.status v)) unreached))) (cond (eqb v r) e (cond (G.is_open v) (run_bound (S.status v)) unreached))
@@ -131,7 +131,7 @@ module _ (W mark other : ℕ) (G : Network) (S S' : State) (r e c : ℕ) (rl : r
 
   skip_place_lem : (v : ℕ) → v < 64 * W → skip_after W hops r e M₁ v ≡ skip_place mark other G S' v
   unfolding skip_after skip_place bound_place left_bound left_skip left_waiting waiting_place
-  skip_place_lem v l = rw (waiting_at v l, bound_at_lem v l, skip_at v l, hop v l, st v) (go (look (eqb v r)))
+  skip_place_lem v l = rw (waiting_at v l, bound_at_lem v l, skip_at v l, hop v l, st v) (go (cases_Bool (eqb v r)))
     where
       at : (b : Bool) → G.is_open v ≡ b
           → cond ((G.is_open v && is_waiting (S.status v)) && ltb (e + dist G r v) (cond (G.is_open v) (run_bound (S.status v)) unreached)) r (cond (G.is_open v) (run_mark mark other (S.status v)) other)
@@ -147,7 +147,7 @@ module _ (W mark other : ℕ) (G : Network) (S S' : State) (r e c : ℕ) (rl : r
 
   waiting_place_lem : (v : ℕ) → v < 64 * W → waiting_after W hops e c M₁ v ≡ waiting_place G S' v
   unfolding waiting_after bound_after bound_place left_bound left_waiting waiting_place
-  waiting_place_lem v l = rw (waiting_at v l, bound_at_lem v l, hop v l, st v) (go (look (eqb v r)))
+  waiting_place_lem v l = rw (waiting_at v l, bound_at_lem v l, hop v l, st v) (go (cases_Bool (eqb v r)))
     where
       go : (eqb v r ≡ true) ⊎ (eqb v r ≡ false)
           → (cond (eqb v r) false (G.is_open v && is_waiting (S.status v))

@@ -6,8 +6,9 @@ use mathlib.Core.List.{List}
 use Prim.Native.Nat.{ℕ, ◌*◌, ◌<◌, zero-le}
 use lib.Dec.{eqb, ltb}
 use borrow.Author.Tests.{eqb-true, le-ltb}
+use Rattle.std.proofs.lemmas.Bool.{cases_Bool, and_parts, and_from, or_cases, or_left, or_right}
 use Rattle.lists.specs.Lists.{range, overwrite}
-use Rattle.lists.proofs.Tests.{look, and-true, and_intro, or_true, or_left, or_right, same_test}
+use Rattle.lists.proofs.Tests.{same_test}
 use Rattle.graph.specs.Network.{Network, delivers}
 use Rattle.graph.specs.Distance.{dist}
 use Rattle.graph.specs.Chart.{chart, ecc, Pairs, count_pairs, own_pairs}
@@ -46,42 +47,42 @@ module _ (W : ℕ) (G : Network) (r : ℕ) (R : Reached) (is : Spans W G r R) wh
       -- r is one end, and its partner w the other
       known : (w x : ℕ) → (eqb w r && partner x) ≡ true → (delivers G w ≡ true) × (delivers G x ≡ true) × ((eqb w r && at x) ≡ true)
       known w x h =
-          let a = and-true (eqb w r) (partner x) h in
-          let b = and-true (delivers G r) (delivers G x && at x) a.1 in
-          let c = and-true (delivers G x) (at x) b.1 in
-          (ap (delivers G) (eqb-true w r a.0) ∙ b.0, c.0, and_intro a.0 c.1)
+          let a = and_parts (eqb w r) (partner x) h in
+          let b = and_parts (delivers G r) (delivers G x && at x) a.1 in
+          let c = and_parts (delivers G x) (at x) b.1 in
+          (ap (delivers G) (eqb-true w r a.0) ∙ b.0, c.0, and_from _ _ a.0 c.1)
 
       made : (w x : ℕ) → delivers G w ≡ true → delivers G x ≡ true → (eqb w r && at x) ≡ true → (eqb w r && partner x) ≡ true
       made w x dw dx h =
-          let a = and-true (eqb w r) (at x) h in
-          and_intro a.0 (and_intro (ap (delivers G) (sym (eqb-true w r a.0)) ∙ dw) (and_intro dx a.1))
+          let a = and_parts (eqb w r) (at x) h in
+          and_from _ _ a.0 (and_from _ _ (ap (delivers G) (sym (eqb-true w r a.0)) ∙ dw) (and_from _ _ dx a.1))
 
       to : left ≡ true → right ≡ true
       to h =
-          let k = and-true (ltb u v) ((eqb u r && partner v) || (eqb v r && partner u)) h in
-          go k.0 (or_true (eqb u r && partner v) (eqb v r && partner u) k.1)
+          let k = and_parts (ltb u v) ((eqb u r && partner v) || (eqb v r && partner u)) h in
+          go k.0 (or_cases (eqb u r && partner v) (eqb v r && partner u) k.1)
         where
           go : ltb u v ≡ true → ((eqb u r && partner v) ≡ true) ⊎ ((eqb v r && partner u) ≡ true) → right ≡ true
-          go l (inl q) = let x = known u v q in and_intro (and_intro (and_intro l x.0) x.1) (or_left (eqb v r && at u) x.2)
-          go l (inr q) = let x = known v u q in and_intro (and_intro (and_intro l x.1) x.0) (or_right (eqb u r && at v) x.2)
+          go l (inl q) = let x = known u v q in and_from _ _ (and_from _ _ (and_from _ _ l x.0) x.1) (or_left _ (eqb v r && at u) x.2)
+          go l (inr q) = let x = known v u q in and_from _ _ (and_from _ _ (and_from _ _ l x.1) x.0) (or_right (eqb u r && at v) _ x.2)
 
       from : right ≡ true → left ≡ true
       from h =
-          let a = and-true (ltb u v && delivers G u && delivers G v) ((eqb u r && at v) || (eqb v r && at u)) h in
-          let b = and-true (ltb u v && delivers G u) (delivers G v) a.0 in
-          let c = and-true (ltb u v) (delivers G u) b.0 in
-          and_intro c.0 (go c.1 b.1 (or_true (eqb u r && at v) (eqb v r && at u) a.1))
+          let a = and_parts (ltb u v && delivers G u && delivers G v) ((eqb u r && at v) || (eqb v r && at u)) h in
+          let b = and_parts (ltb u v && delivers G u) (delivers G v) a.0 in
+          let c = and_parts (ltb u v) (delivers G u) b.0 in
+          and_from _ _ c.0 (go c.1 b.1 (or_cases (eqb u r && at v) (eqb v r && at u) a.1))
         where
           go : delivers G u ≡ true → delivers G v ≡ true → ((eqb u r && at v) ≡ true) ⊎ ((eqb v r && at u) ≡ true)
               → ((eqb u r && partner v) || (eqb v r && partner u)) ≡ true
-          go du dv (inl q) = or_left (eqb v r && partner u) (made u v du dv q)
-          go du dv (inr q) = or_right (eqb u r && partner v) (made v u dv du q)
+          go du dv (inl q) = or_left _ (eqb v r && partner u) (made u v du dv q)
+          go du dv (inr q) = or_right (eqb u r && partner v) _ (made v u dv du q)
 
   -- THE PAIRS AFTER A ROUND
   pub settle_is : (c : ℕ) (P : Pairs) (pairs pairs₀ : List ℕ) (count : ℕ) → pairs ≡ overwrite (encode_table W P) pairs₀ → count ≡ count_pairs (range (64 * W)) P
       → settle_of W R.partners r R.own c (tally pairs count) ≡ tally_of W (join_pairs (chart G) r (ecc (chart G) r) c P) pairs₀
   unfolding settle_of join_pairs tally_of chart
-  settle_is c P pairs pairs₀ count ep ec = rw is.own_is (by (look (delivers G r)))
+  settle_is c P pairs pairs₀ count ep ec = rw is.own_is (by (cases_Bool (delivers G r)))
     where
       e : ℕ
       e = ecc (chart G) r

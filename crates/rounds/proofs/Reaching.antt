@@ -8,8 +8,9 @@ use native.Mathlib.Omega.{arith}
 use lib.Dec.{T, eqb, ltb}
 use lib.ListN.{get_or}
 use borrow.Author.Tests.{eqb-true, eqb-false, eq-eqb, ne_eqb}
+use Rattle.std.proofs.lemmas.Bool.{cases_Bool}
 use Rattle.lists.specs.Lists.{range, max_of, overwrite}
-use Rattle.lists.proofs.Tests.{look, true→t}
+use Rattle.lists.proofs.Tests.{true→t}
 use Rattle.lists.proofs.Members.{filter_out, range_out}
 use Rattle.lists.proofs.Counts.{max_ext}
 use Rattle.lists.proofs.Fills.{fill_at}
@@ -82,7 +83,7 @@ module _ (W : ℕ) (members targets links : List ℕ) (net : IsNet (target_netwo
 
   last_bit : (v : ℕ) → v < 64 * W → row_bit W (last_row d S) v ≡ eqb (dist G r v) d
   unfolding search_leaves layer_bit
-  last_bit v l = go (look (eqb (d % 2) 0))
+  last_bit v l = go (cases_Bool (eqb (d % 2) 0))
     where
       odd_is : eqb (d % 2) 0 ≡ false → eqb (d % 2) 1 ≡ true
       odd_is q = eq-eqb (d % 2) 1 (omega (arith, eqb-false (d % 2) 0 q))
@@ -127,7 +128,7 @@ module _ (W : ℕ) (members targets links : List ℕ) (net : IsNet (target_netwo
     own_is = ap₂ (λ (b : Bool) (e : ℕ). cond b e 0) (target_delivers W members targets links are r) far_is;
     partners_are = λ v l.
         row_at W (λ v. row_bit W targets r && is_farthest W targets S.hops (last_row d S) d far v) row v l
-        ∙ rw (target_delivers W members targets links are r, target_delivers W members targets links are v, part v l (look (eqb far d)));
+        ∙ rw (target_delivers W members targets links are r, target_delivers W members targets links are v, part v l (cases_Bool (eqb far d)));
   }
     where
       part : (v : ℕ) → v < 64 * W → (eqb far d ≡ true) ⊎ (eqb far d ≡ false)

@@ -10,8 +10,9 @@ use native.Mathlib.Omega.{arith}
 use lib.Dec.{T, eqb, ltb}
 use lib.ListN.{length, get_or, length-append}
 use borrow.Author.Tests.{ltb-true, ltb-false, le-ltb}
+use Rattle.std.proofs.lemmas.Bool.{cases_Bool}
 use Rattle.lists.specs.Lists.{range, filterb, memb}
-use Rattle.lists.proofs.Tests.{look, t→true, true→t, clash}
+use Rattle.lists.proofs.Tests.{t→true, true→t, clash}
 use Rattle.lists.proofs.Members.{filter-ext, filter_out, filter-twice, range_out}
 use Rattle.lists.proofs.Counts.{count_filter}
 use Rattle.graph.specs.Network.{Network, delivers}
@@ -146,7 +147,7 @@ module _ (W mark other : ℕ) (most : W < 513) (members targets links : List ℕ
         by : (b : Bool) → delivers G r ≡ b
             → cond (ltb S.candidate (cond b (ecc (chart G) r) 0)) (cond b (ecc (chart G) r) 0) S.candidate
             ≡ cond ((chart G).is_destination r) (max (ecc (chart G) r) S.candidate) S.candidate
-        by true q = rw q (go (look (ltb S.candidate (ecc (chart G) r))))
+        by true q = rw q (go (cases_Bool (ltb S.candidate (ecc (chart G) r))))
         by false q = rw (q, le-ltb S.candidate 0 zero-le)
 
     -- a finished search from r, of which R says what it is, with its hop table h: bounds are held against `limit`, and S' is what the network makes of it

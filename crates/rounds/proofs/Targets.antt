@@ -6,8 +6,9 @@ use mathlib.Core.Bool.{Bool, true, false, not, ◌&&◌}
 use mathlib.Core.List.{List, []}
 use Prim.Native.Nat.{ℕ, ◌*◌, ◌≤◌}
 use lib.ListN.{length}
+use Rattle.std.proofs.lemmas.Bool.{cases_Bool}
 use Rattle.lists.specs.Lists.{range, overwrite}
-use Rattle.lists.proofs.Tests.{look, t→true, true→t}
+use Rattle.lists.proofs.Tests.{t→true, true→t}
 use Rattle.lists.proofs.Members.{filter-ext, filter-twice}
 use Rattle.graph.specs.Network.{IsSound, with_yards, delivers}
 use Rattle.graph.specs.Distance.{vertices}
@@ -20,7 +21,7 @@ use Rattle.rounds.specs.Targets.{target_network, AreTargets}
 module _ (W : ℕ) (members targets links : List ℕ) (are : AreTargets W members targets) where
   pub target_delivers : (v : ℕ) → row_bit W targets v ≡ delivers (target_network W members targets links) v
   unfolding delivers network_of
-  target_delivers v = go (look (row_bit W targets v))
+  target_delivers v = go (cases_Bool (row_bit W targets v))
     where
       other : (m : Bool) → false ≡ (m && not (m && true))
       other true = refl
@@ -35,7 +36,7 @@ module _ (W : ℕ) (members targets links : List ℕ) (are : AreTargets W member
   pub target_depots : vertices (network_of W targets []) ≡ destinations (chart (target_network W members targets links))
   unfolding network_of destinations chart
   target_depots =
-      filter-ext (row_bit W targets) (λ v. row_bit W members v && delivers (target_network W members targets links) v) (range (64 * W)) (λ v m. both v (look (row_bit W targets v)))
+      filter-ext (row_bit W targets) (λ v. row_bit W members v && delivers (target_network W members targets links) v) (range (64 * W)) (λ v m. both v (cases_Bool (row_bit W targets v)))
       ∙ sym (filter-twice (delivers (target_network W members targets links)) (row_bit W members) (range (64 * W)))
     where
       both : (v : ℕ) → (row_bit W targets v ≡ true) ⊎ (row_bit W targets v ≡ false) → row_bit W targets v ≡ (row_bit W members v && delivers (target_network W members targets links) v)
@@ -64,7 +65,7 @@ module _ (W : ℕ) (members yards targets : List ℕ) (size : W ≤ length membe
   -- every yard being open
   pub delivering_network : (links : List ℕ) → IsSound (yard_network W members yards links) → target_network W members targets links ≡ yard_network W members yards links
   unfolding network_of
-  delivering_network links sound = ap (λ (Y : ℕ → Bool). with_yards Y (network_of W members links)) (fun_ext (λ v. rw (left v) (go v (look (row_bit W yards v)))))
+  delivering_network links sound = ap (λ (Y : ℕ → Bool). with_yards Y (network_of W members links)) (fun_ext (λ v. rw (left v) (go v (cases_Bool (row_bit W yards v)))))
     where
       go : (v : ℕ) → (row_bit W yards v ≡ true) ⊎ (row_bit W yards v ≡ false) → (row_bit W members v && not (row_bit W members v && not (row_bit W yards v))) ≡ row_bit W yards v
       go v (inl t) = rw (t, t→true (row_bit W members v) (sound.yards v (true→t t)))

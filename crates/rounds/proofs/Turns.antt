@@ -10,8 +10,9 @@ use native.Mathlib.Omega.{arith}
 use lib.Dec.{ltb}
 use lib.ListN.{length}
 use borrow.Author.Tests.{lt-ltb, le-ltb}
+use Rattle.std.proofs.lemmas.Bool.{cases_Bool, and_parts, cases_eq}
 use Rattle.lists.specs.Lists.{range, filterb, mapl, countb, overwrite}
-use Rattle.lists.proofs.Tests.{look, clash, and-true, eq_or_ne}
+use Rattle.lists.proofs.Tests.{clash}
 use Rattle.lists.proofs.Members.{length-range, filter_out, range_in, range_out}
 use Rattle.lists.proofs.Counts.{count_lt, count_le_length}
 use Rattle.graph.specs.Chart.{chart}
@@ -115,7 +116,7 @@ picked_in W links waiting r q =
 module _ (W : ℕ) (targets links : List ℕ) where
   left_bit : (r e mark : ℕ) (m : Marks) → r < 64 * W → W ≤ length m.waiting → (v : ℕ) → row_bit W (leave_of W r e mark m).waiting v ≡ true → (v ≢ r) × (row_bit W m.waiting v ≡ true)
   unfolding leave_of
-  left_bit r e mark m l w v h = go (eq_or_ne v r)
+  left_bit r e mark m l w v h = go (cases_eq v r)
     where
       in_table : InTable W m.waiting 0 r
       in_table = record { row = omega arith; below = omega arith; column = l }
@@ -133,10 +134,10 @@ module _ (W : ℕ) (targets links : List ℕ) where
       after = row_bit W (round_of W targets links mark r M).marked.waiting
 
       stays : (v : ℕ) → v < 64 * W → after v ≡ true → (v ≢ r) × (row_bit W M.marked.waiting v ≡ true)
-      stays v k h = left_bit r _ mark M.marked l w v (and-true (row_bit W (leave_of W r _ mark M.marked).waiting v) _ (sym (row_at W _ _ v k) ∙ h)).0
+      stays v k h = left_bit r _ mark M.marked l w v (and_parts (row_bit W (leave_of W r _ mark M.marked).waiting v) _ (sym (row_at W _ _ v k) ∙ h)).0
 
       gone : after r ≡ false
-      gone = go (look (after r))
+      gone = go (cases_Bool (after r))
         where
           go : (after r ≡ true) ⊎ (after r ≡ false) → after r ≡ false
           go (inl h) = absurd ((stays r l h).0 refl)

@@ -10,8 +10,8 @@ use lib.Dec.{eqb}
 use lib.ListN.{get_or, set}
 use lib.Seq.{get_or-set_same, get_or-set_other}
 use borrow.Author.Tests.{eq-eqb, ne_eqb}
+use Rattle.std.proofs.lemmas.Bool.{cases_eq}
 use Rattle.lists.specs.Lists.{overwrite}
-use Rattle.lists.proofs.Tests.{eq_or_ne}
 use Rattle.words.specs.Bits.{bit, word_of}
 use Rattle.words.proofs.Bits.{bit-word_of, word_of_ext}
 use Rattle.rows.specs.Rows.{table_bit, encode_row, encode_table, put_bit, InTable}
@@ -53,7 +53,7 @@ module _ (W u v : ℕ) (x : Bool) (t : List ℕ) (i : InTable W t u v) where
   pub put_rest : (p q : ℕ) → ((p ≡ u) × (q ≡ v) → ⊥) → table_bit W (put_bit W u v x t) p q ≡ table_bit W t p q
   put_rest p q ne =
       table_agree W (put_bit W u v x t) t p q
-      (λ l h. table_in W (put_bit W u v x t) p q l h ∙ go h (eq_or_ne (W * p + q / 64) (W * u + v / 64)) ∙ sym (table_in W t p q l h))
+      (λ l h. table_in W (put_bit W u v x t) p q l h ∙ go h (cases_eq (W * p + q / 64) (W * u + v / 64)) ∙ sym (table_in W t p q l h))
     where
       same : q < 64 * W → W * p + q / 64 ≡ W * u + v / 64 → q % 64 ≢ v % 64
       same h e d =
@@ -73,7 +73,7 @@ module _ (W u v : ℕ) (x : Bool) (t : List ℕ) (i : InTable W t u v) where
 
 -- bit b of word v / 64 is number v where b is v % 64
 number_is : (v b : ℕ) → b < 64 → eqb (64 * (v / 64) + b) v ≡ eqb b (v % 64)
-number_is v b l = go (eq_or_ne b (v % 64))
+number_is v b l = go (cases_eq b (v % 64))
   where
     go : (b ≡ v % 64) ⊎ (b ≢ v % 64) → eqb (64 * (v / 64) + b) v ≡ eqb b (v % 64)
     go (inl e) = eq-eqb (64 * (v / 64) + b) v (omega arith) ∙ sym (eq-eqb b (v % 64) e)
@@ -137,7 +137,7 @@ put_table W u v x f t d h =
         ∙ sym (ap₂ (λ (p k : ℕ). word_of 64 (λ b. g p (64 * k + b))) (place_row W u (v / 64) column) (place_word W u (v / 64) column))
 
     out : (k : ℕ) → k < W * (64 * W) → k ≢ i → (b : ℕ) → b < 64 → (eqb (k / W) u && eqb (64 * (k % W) + b) v) ≡ false
-    out k m ne b l = go (eq_or_ne (k / W) u) (eq_or_ne (64 * (k % W) + b) v)
+    out k m ne b l = go (cases_eq (k / W) u) (cases_eq (64 * (k % W) + b) v)
       where
         go : (k / W ≡ u) ⊎ (k / W ≢ u) → (64 * (k % W) + b ≡ v) ⊎ (64 * (k % W) + b ≢ v) → (eqb (k / W) u && eqb (64 * (k % W) + b) v) ≡ false
         go (inl p) (inl q) =

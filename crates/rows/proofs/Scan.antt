@@ -7,11 +7,12 @@ use Prim.Native.Nat.{ℕ, ◌+◌, ◌-◌, ◌*◌, ◌/◌, ◌%◌, ◌^◌, 
 use native.Mathlib.Omega.{arith}
 use lib.ListN.{length, get_or, take}
 use lib.Count.{count_trailing_zeros}
+use Rattle.std.proofs.lemmas.Bool.{cases_lt}
 use Rattle.std.proofs.lemmas.List.{length-take-le, get_or-take}
 use Rattle.std.specs.Bool.{MatchBool}
 use Rattle.std.specs.List.{AllWithin, HoldsAt}
 use Rattle.lists.specs.Lists.{range, countb, anyb}
-use Rattle.lists.proofs.Tests.{clash, lt_or_ge}
+use Rattle.lists.proofs.Tests.{clash}
 use Rattle.lists.proofs.Members.{length-range, range_in, range_out, any_intro, any_none}
 use Rattle.words.specs.Bits.{bit}
 use Rattle.words.specs.Least.{IsLeast}
@@ -49,7 +50,7 @@ in_word_lem W row i k n l h =
 -- one more word that is 0
 pub passed_more : (W : ℕ) (row : List ℕ) (start i : ℕ) → i < W → get_or row i 0 ≡ 0 → ((k : ℕ) → start ≤ k → k < 64 * i → row_bit W row k ≡ false)
     → (k : ℕ) → start ≤ k → k < 64 * (i + 1) → row_bit W row k ≡ false
-passed_more W row start i n e h k l m = go (lt_or_ge k (64 * i))
+passed_more W row start i n e h k l m = go (cases_lt k (64 * i))
   where
     go : (k < 64 * i) ⊎ (64 * i ≤ k) → row_bit W row k ≡ false
     go (inl s) = h k l s
@@ -57,7 +58,7 @@ passed_more W row start i n e h k l m = go (lt_or_ge k (64 * i))
 
 -- every word passed
 pub passed_all : (W : ℕ) (row : List ℕ) (start i : ℕ) → W ≤ i → ((k : ℕ) → start ≤ k → k < 64 * i → row_bit W row k ≡ false) → (k : ℕ) → start ≤ k → row_bit W row k ≡ false
-passed_all W row start i n h k l = go (lt_or_ge k (64 * i))
+passed_all W row start i n h k l = go (cases_lt k (64 * i))
   where
     go : (k < 64 * i) ⊎ (64 * i ≤ k) → row_bit W row k ≡ false
     go (inl s) = h k l s
@@ -70,7 +71,7 @@ passed_next W row start i b n s h p = record {
   after = omega arith;
   inside = omega arith;
   here = row_word W row i b n p.below ∙ p.here;
-  first = λ k l m. go k l m (lt_or_ge k (64 * i));
+  first = λ k l m. go k l m (cases_lt k (64 * i));
 }
   where
     go : (k : ℕ) → start ≤ k → k < 64 * i + b → (k < 64 * i) ⊎ (64 * i ≤ k) → row_bit W row k ≡ false
@@ -92,7 +93,7 @@ module _ (W : ℕ) (row : List ℕ) (start : ℕ) (n : start / 64 < W) (fits : g
 
   -- its least set bit is in the word still
   near : (b : ℕ) → IsLeast (get_or row (start / 64) 0 / 2 ^ (start % 64)) b → start % 64 + b < 64
-  near b p = go (lt_or_ge (start % 64 + b) 64)
+  near b p = go (cases_lt (start % 64 + b) 64)
     where
       go : (start % 64 + b < 64) ⊎ (64 ≤ start % 64 + b) → start % 64 + b < 64
       go (inl l) = l

@@ -10,8 +10,9 @@ use lib.Dec.{T, ltb}
 use lib.ListN.{length, get_or, take, drop}
 use lib.Seq.{get_or-take, get_or-drop}
 use borrow.Author.Tests.{ltb-true, lt-ltb, le-ltb}
+use Rattle.std.proofs.lemmas.Bool.{cases_Bool, and_from}
 use Rattle.lists.specs.Lists.{overwrite}
-use Rattle.lists.proofs.Tests.{look, true→t, and_intro}
+use Rattle.lists.proofs.Tests.{true→t}
 use Rattle.lists.proofs.Fills.{length_fill, fill_at}
 use Rattle.words.specs.Bits.{bit, word_of}
 use Rattle.words.proofs.Bits.{bit-word_of}
@@ -38,7 +39,7 @@ table_in W t u v l h =
 -- two tables that agree wherever there is a bit
 pub table_agree : (W : ℕ) (s t : List ℕ) (u v : ℕ) → (u < 64 * W → v < 64 * W → table_bit W s u v ≡ table_bit W t u v) → table_bit W s u v ≡ table_bit W t u v
 unfolding table_bit
-table_agree W s t u v h = go (look (ltb u (64 * W))) (look (ltb v (64 * W)))
+table_agree W s t u v h = go (cases_Bool (ltb u (64 * W))) (cases_Bool (ltb v (64 * W)))
   where
     go : (ltb u (64 * W) ≡ true) ⊎ (ltb u (64 * W) ≡ false) → (ltb v (64 * W) ≡ true) ⊎ (ltb v (64 * W) ≡ false) → table_bit W s u v ≡ table_bit W t u v
     go (inl d) (inl e) = h (ltb-true u (64 * W) d) (ltb-true v (64 * W) e)
@@ -65,7 +66,7 @@ table_word W t u j b d h l =
 -- row 0 is the buffer's start, so a table's function serves a row that is lent by itself
 pub table_zero : (W : ℕ) (t : List ℕ) (v : ℕ) → table_bit W t 0 v ≡ row_bit W t v
 unfolding table_bit row_bit
-table_zero W t v = go (look (ltb v (64 * W)))
+table_zero W t v = go (cases_Bool (ltb v (64 * W)))
   where
     go : (ltb v (64 * W) ≡ true) ⊎ (ltb v (64 * W) ≡ false) → table_bit W t 0 v ≡ row_bit W t v
     go (inl e) =
@@ -81,7 +82,7 @@ table_zero W t v = go (look (ltb v (64 * W)))
 -- row u, lent as a part of the table
 pub row_of_table : (W : ℕ) (t : List ℕ) (u v : ℕ) → u < 64 * W → row_bit W (take W (drop (W * u) t)) v ≡ table_bit W t u v
 unfolding table_bit row_bit
-row_of_table W t u v l = go (look (ltb v (64 * W)))
+row_of_table W t u v l = go (cases_Bool (ltb v (64 * W)))
   where
     go : (ltb v (64 * W) ≡ true) ⊎ (ltb v (64 * W) ≡ false) → row_bit W (take W (drop (W * u) t)) v ≡ table_bit W t u v
     go (inl e) =
@@ -122,7 +123,7 @@ row_at W f old v h =
 
 pub row_read : (W : ℕ) (f : ℕ → Bool) (old : List ℕ) (v : ℕ) → row_bit W (overwrite (encode_row W f) old) v ≡ (ltb v (64 * W) && f v)
 unfolding row_bit
-row_read W f old v = go (look (ltb v (64 * W)))
+row_read W f old v = go (cases_Bool (ltb v (64 * W)))
   where
     go : (ltb v (64 * W) ≡ true) ⊎ (ltb v (64 * W) ≡ false) → row_bit W (overwrite (encode_row W f) old) v ≡ (ltb v (64 * W) && f v)
     go (inl e) = row_at W f old v (ltb-true v (64 * W) e) ∙ sym (ap (λ (b : Bool). b && f v) e)
@@ -144,7 +145,7 @@ table_at W f old u v l h =
 
 pub table_read : (W : ℕ) (f : ℕ → ℕ → Bool) (old : List ℕ) (u v : ℕ) → table_bit W (overwrite (encode_table W f) old) u v ≡ (ltb u (64 * W) && ltb v (64 * W) && f u v)
 unfolding table_bit
-table_read W f old u v = go (look (ltb u (64 * W))) (look (ltb v (64 * W)))
+table_read W f old u v = go (cases_Bool (ltb u (64 * W))) (cases_Bool (ltb v (64 * W)))
   where
     go : (ltb u (64 * W) ≡ true) ⊎ (ltb u (64 * W) ≡ false) → (ltb v (64 * W) ≡ true) ⊎ (ltb v (64 * W) ≡ false)
         → table_bit W (overwrite (encode_table W f) old) u v ≡ (ltb u (64 * W) && ltb v (64 * W) && f u v)
@@ -168,4 +169,4 @@ pub table_within : (W : ℕ) (f : ℕ → ℕ → Bool) (old : List ℕ) → ((u
 table_within W f old low u v =
     table_read W f old u v
     ∙ unguarded (ltb u (64 * W) && ltb v (64 * W)) (f u v)
-    (λ e. let l = low u v (true→t e) in and_intro (lt-ltb u (64 * W) l.0) (lt-ltb v (64 * W) l.1))
+    (λ e. let l = low u v (true→t e) in and_from _ _ (lt-ltb u (64 * W) l.0) (lt-ltb v (64 * W) l.1))

@@ -10,11 +10,12 @@ use lib.Dec.{eqb}
 use lib.ListN.{length, get_or}
 use lib.Bits.{bit_or, or_zero_l, or_add_and, and_le_l, and_le_r}
 use borrow.Author.Tests.{eqb-true, eq-eqb}
+use Rattle.std.proofs.lemmas.Bool.{cases_lt}
 use Rattle.std.proofs.lemmas.List.{get_or_past}
 use Rattle.std.proofs.lemmas.List.Edits.{get_or-between, length-between}
 use Rattle.std.specs.List.{fold, between}
 use Rattle.lists.specs.Lists.{range, mapl, allb, overwrite}
-use Rattle.lists.proofs.Tests.{same_test, lt_or_ge}
+use Rattle.lists.proofs.Tests.{same_test}
 use Rattle.lists.proofs.Members.{range_in, range_out, all_intro, all_elim}
 use Rattle.lists.proofs.Fills.{fill_at, fill_rest, fill_length}
 use Rattle.lists.proofs.Buffers.{buffer_ext}
@@ -49,7 +50,7 @@ union_part t base n h =
     same_test (eqb (fold bit_or 0 part) 0) (allb (λ i. eqb (get_or t (base + i) 0) 0) (range n))
     (λ e. all_intro (λ i. eqb (get_or t (base + i) 0) 0) (range n)
     (λ i m. eq-eqb (get_or t (base + i) 0) 0 (sym (word i (range_out n m)) ∙ (union_zeros part 0 (eqb-true (fold bit_or 0 part) 0 e)).1 i)))
-    (λ e. eq-eqb (fold bit_or 0 part) 0 (zeros_union part (λ i. zero i e (lt_or_ge i n))))
+    (λ e. eq-eqb (fold bit_or 0 part) 0 (zeros_union part (λ i. zero i e (cases_lt i n))))
   where
     part : List ℕ
     part = between base (base + n) t
@@ -89,7 +90,7 @@ unfolding encode_row
 cleared_part k n l₀ l l' e h z =
     buffer_ext (k + n) l' (overwrite (mapl none (range (k + n))) l₀)
     (z.size ∙ ap length e ∙ fill_length none l₀ k (omega arith) ∙ sym (fill_length none l₀ (k + n) h))
-    (λ i m. before i m (lt_or_ge i k) ∙ sym (fill_at none l₀ (k + n) i 0 m ∙ word_of-none 64))
+    (λ i m. before i m (cases_lt i k) ∙ sym (fill_at none l₀ (k + n) i 0 m ∙ word_of-none 64))
     (λ i m. z.high i m ∙ ap (λ (s : List ℕ). get_or s i 0) e ∙ fill_rest none l₀ k i 0 (omega arith) ∙ sym (fill_rest none l₀ (k + n) i 0 m))
   where
     none : ℕ → ℕ

@@ -9,8 +9,9 @@ use native.Mathlib.Omega.{arith}
 use lib.Dec.{T, eqb, ltb}
 use lib.ListN.{length, get_or, take, drop, length-take}
 use borrow.Author.Tests.{eqb-true, eq-eqb, ne_eqb, lt-ltb}
+use Rattle.std.proofs.lemmas.Bool.{cases_eq, cases_lt}
 use Rattle.lists.specs.Lists.{range, max_of, overwrite}
-use Rattle.lists.proofs.Tests.{true→t, eq_or_ne, lt_or_ge}
+use Rattle.lists.proofs.Tests.{true→t}
 use Rattle.lists.proofs.Members.{filter_in, filter_out, range_in, range_out}
 use Rattle.lists.proofs.Counts.{max_ge, max_ext}
 use Rattle.lists.proofs.Fills.{fill_at}
@@ -42,7 +43,7 @@ last_long W d {last} even odd q a b = go (eqb (d % 2) 0) (ap length q ∙ length
 
 -- and the row's members
 pub part_is : (W : ℕ) (row : List ℕ) (v : ℕ) → row_bit W (take W row) v ≡ row_bit W row v
-part_is W row v = go (lt_or_ge v (64 * W))
+part_is W row v = go (cases_lt v (64 * W))
   where
     go : (v < 64 * W) ⊎ (64 * W ≤ v) → row_bit W (take W row) v ≡ row_bit W row v
     go (inl l) =
@@ -102,7 +103,7 @@ module _ (W : ℕ) (targets links : List ℕ) (u : ℕ) where
 
       pub last_is : {last : List ℕ} → last ≡ last_layer W d even odd → IsLastLayer W targets last hops d
       unfolding last_layer search_leaves
-      last_is {last} q = record { most = hop_most; here = λ v t. go (eq_or_ne (d % 2) 0) v (ap (λ (l : List ℕ). row_bit W l v) (sym q) ∙ t) }
+      last_is {last} q = record { most = hop_most; here = λ v t. go (cases_eq (d % 2) 0) v (ap (λ (l : List ℕ). row_bit W l v) (sym q) ∙ t) }
         where
           go : (d % 2 ≡ 0) ⊎ (d % 2 ≢ 0) → (v : ℕ) → row_bit W (take W (cond (eqb (d % 2) 0) even odd)) v ≡ true → get_or hops v 0 ≡ d
           go (inl z) v t =

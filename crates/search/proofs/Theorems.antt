@@ -10,8 +10,9 @@ use lib.Dec.{T, eqb}
 use lib.ListN.{length, get_or, take, drop}
 use lib.Seq.{drop-append_seam}
 use borrow.Author.Tests.{eqb-false, eq-eqb, ne_eqb}
+use Rattle.std.proofs.lemmas.Bool.{cases_Bool, cases_lt}
 use Rattle.lists.specs.Lists.{range, allb, mapl, overwrite}
-use Rattle.lists.proofs.Tests.{look, true→t, false→not, lt_or_ge}
+use Rattle.lists.proofs.Tests.{true→t, false→not}
 use Rattle.lists.proofs.Conditions.{all_fit, Tells, decides_test, decides_not, decides_short, refuses_by}
 use Rattle.lists.proofs.Fills.{length_fill, overwrite_length, fill_at}
 use Rattle.graph.specs.Network.{Network, IsDist}
@@ -80,7 +81,7 @@ part_holds W G s d row h v = subst (λ (b : Bool). T b ↔ IsDist G s v d) (sym 
 -- by the parity, the last layer is a part of the one row or of the other
 last_by : (W d : ℕ) (even odd : List ℕ) (P : List ℕ → Type 0) → (eqb (d % 2) 0 ≡ true → P (take W even)) → (eqb (d % 2) 1 ≡ true → P (take W odd)) → P (last_layer W d even odd)
 unfolding last_layer
-last_by W d even odd P p q = go (look (eqb (d % 2) 0))
+last_by W d even odd P p q = go (cases_Bool (eqb (d % 2) 0))
   where
     go : (eqb (d % 2) 0 ≡ true) ⊎ (eqb (d % 2) 0 ≡ false) → P (take W (cond (eqb (d % 2) 0) even odd))
     go (inl t) = subst (λ (b : Bool). P (take W (cond b even odd))) (sym t) (p t)
@@ -91,7 +92,7 @@ last_by W d even odd P p q = go (look (eqb (d % 2) 0))
 module _ (W : ℕ) (G : Network) (net : IsNet G) (inside : (v : ℕ) → T (G.is_open v) → v < 64 * W) (s : ℕ) (o : T (G.is_open s)) where
   -- a row written with the depots at distance k holds exactly those, codes past the row included
   holds_layer : (k : ℕ) (old : List ℕ) → k < unreached → HoldsLayer W G s k (overwrite (encode_row W (λ x. eqb (dist G s x) k)) old)
-  holds_layer k old low v = go (lt_or_ge v (64 * W))
+  holds_layer k old low v = go (cases_lt v (64 * W))
     where
       row : List ℕ
       row = overwrite (encode_row W (λ x. eqb (dist G s x) k)) old
@@ -113,7 +114,7 @@ module _ (W : ℕ) (G : Network) (net : IsNet G) (inside : (v : ℕ) → T (G.is
 
   row_before : (e parity : ℕ) (old : List ℕ) → e < unreached → eqb (e % 2) parity ≡ false → HoldsBefore W G s e (overwrite (encode_row W (layer_bit (dist G s) e parity)) old)
   unfolding layer_bit
-  row_before zero parity old low q = λ v. go v (lt_or_ge v (64 * W))
+  row_before zero parity old low q = λ v. go v (cases_lt v (64 * W))
     where
       row : List ℕ
       row = overwrite (encode_row W (layer_bit (dist G s) zero parity)) old

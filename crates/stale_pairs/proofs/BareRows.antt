@@ -7,8 +7,8 @@ use Prim.Native.Nat.{ℕ, ◌+◌, ◌*◌, ◌≤◌, ◌<◌}
 use native.Mathlib.Omega.{arith}
 use lib.Dec.{eqb}
 use lib.ListN.{get_or}
+use Rattle.std.proofs.lemmas.Bool.{cases_lt}
 use Rattle.lists.specs.Lists.{range, allb}
-use Rattle.lists.proofs.Tests.{lt_or_ge}
 use Rattle.rows.specs.Rows.{table_bit}
 use Rattle.rows.proofs.Places.{row_fits}
 use Rattle.rows.proofs.Zeros.{rows_zero, rows_fit}
@@ -28,7 +28,7 @@ module _ (W n : ℕ) (t : List ℕ) (u : ℕ) where
   bare_more k m {p} {r} few g w l e z = record {
     after = omega (arith, g.after);
     within = l;
-    none = λ q v a b h. go q v a b h (lt_or_ge q p);
+    none = λ q v a b h. go q v a b h (cases_lt q p);
   }
     where
       go : (q v : ℕ) → u ≤ q → q < p + k → v < 64 * W → (q < p) ⊎ (p ≤ q) → table_bit W t q v ≡ false

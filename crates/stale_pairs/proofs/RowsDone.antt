@@ -10,8 +10,8 @@ use native.Mathlib.Omega.{arith}
 use lib.Dec.{ltb}
 use lib.ListN.{length, get_or}
 use borrow.Author.Tests.{lt-ltb, le-ltb}
+use Rattle.std.proofs.lemmas.Bool.{cases_lt}
 use Rattle.lists.specs.Lists.{from, range, countb, sum_of, max_of, overwrite}
-use Rattle.lists.proofs.Tests.{lt_or_ge}
 use Rattle.lists.proofs.Fills.{overwrite_length, overwrite_old}
 use Rattle.lists.proofs.Sums.{sum_add}
 use Rattle.lists.proofs.RangeCounts.{count_same}
@@ -41,7 +41,7 @@ module _ (W : ℕ) (far : ℕ → ℕ → ℕ) (D n : ℕ) (t : List ℕ) (m : n
 
   -- a word from row n on is one of a row that is not done, or stands past the table
   word_yet : ((i : ℕ) → i < W * (64 * W) → get_or t i 0 < 2 ^ 64) → (i : ℕ) → W * n ≤ i → get_or after i 0 ≡ get_or t i 0
-  word_yet fits i l = go (lt_or_ge i (W * (64 * W)))
+  word_yet fits i l = go (cases_lt i (W * (64 * W)))
     where
       go : (i < W * (64 * W)) ⊎ (W * (64 * W) ≤ i) → get_or after i 0 ≡ get_or t i 0
       go (inl h) =
@@ -63,7 +63,7 @@ module _ (W : ℕ) (far : ℕ → ℕ → ℕ) (D n : ℕ) (t : List ℕ) (m : n
 
   row_parted : (u : ℕ) → countb (P u) (range (64 * W)) ≡ gone_of u + countb (left u) (range (64 * W))
   unfolding row_gone
-  row_parted u = go (lt_or_ge u n)
+  row_parted u = go (cases_lt u n)
     where
       go : (u < n) ⊎ (n ≤ u) → countb (P u) (range (64 * W)) ≡ gone_of u + countb (left u) (range (64 * W))
       go (inl l) =

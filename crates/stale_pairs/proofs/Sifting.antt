@@ -7,8 +7,8 @@ use Prim.Native.Nat.{ℕ, ◌+◌, ◌^◌, ◌≤◌, ◌<◌, min, max}
 use native.Mathlib.Omega.{arith}
 use lib.Dec.{eqb, ltb}
 use borrow.Author.Tests.{eq-eqb, ne_eqb, lt-ltb, le-ltb}
+use Rattle.std.proofs.lemmas.Bool.{cases_eq}
 use Rattle.lists.specs.Lists.{range, countb, max_of}
-use Rattle.lists.proofs.Tests.{eq_or_ne}
 use Rattle.lists.proofs.Members.{length-range}
 use Rattle.lists.proofs.Counts.{count_le_length, count_none}
 use Rattle.lists.proofs.RangeCounts.{count_same, count_with_new}
@@ -116,14 +116,14 @@ module _ (far : ℕ → ℕ → ℕ) (D u first x : ℕ) where
     one_more test e q =
         ap (λ (n : ℕ). n + 1) q
         ∙ sym (count_with_new 64 (passed_if test left) b l.below (if_before test))
-        ∙ count_same 64 (λ k. eqb k b || passed_if test left k) (passed_if test y) (λ k h. go k h (eq_or_ne k b))
+        ∙ count_same 64 (λ k. eqb k b || passed_if test left k) (passed_if test y) (λ k h. go k h (cases_eq k b))
       where
         go : (k : ℕ) → k < 64 → (k ≡ b) ⊎ (k ≢ b) → (eqb k b || passed_if test left k) ≡ passed_if test y k
         go k h (inl p) = ap (λ (z : Bool). z || passed_if test left k) (eq-eqb k b p) ∙ sym (ap (passed_if test y) p ∙ if_here test ∙ e)
         go k h (inr p) = ap (λ (z : Bool). z || passed_if test left k) (ne_eqb k b p) ∙ if_other test k h p
 
     none_more : (test : ℕ → Bool) {n : ℕ} → test b ≡ false → n ≡ countb (passed_if test left) (range 64) → n ≡ countb (passed_if test y) (range 64)
-    none_more test e q = q ∙ count_same 64 (passed_if test left) (passed_if test y) (λ k h. go k h (eq_or_ne k b))
+    none_more test e q = q ∙ count_same 64 (passed_if test left) (passed_if test y) (λ k h. go k h (cases_eq k b))
       where
         go : (k : ℕ) → k < 64 → (k ≡ b) ⊎ (k ≢ b) → passed_if test left k ≡ passed_if test y k
         go k h (inl p) = ap (passed_if test left) p ∙ if_before test ∙ sym (ap (passed_if test y) p ∙ if_here test ∙ e)
@@ -134,7 +134,7 @@ module _ (far : ℕ → ℕ → ℕ) (D u first x : ℕ) where
     unfolding kept_bit
     sift_drop {word'} {e} q s m n = record {
       inside = inside_more;
-      stays = q ∙ word_of_ext 64 (λ k. bit word k && not (eqb k b)) (kept_bit y) (λ k h. go k h (eq_or_ne k b));
+      stays = q ∙ word_of_ext 64 (λ k. bit word k && not (eqb k b)) (kept_bit y) (λ k h. go k h (cases_eq k b));
       went = one_more is_stale stale i.went;
       stayed = none_more (λ b. not (is_stale b)) (ap not stale) i.stayed;
       greatest = way_more s m;
@@ -165,7 +165,7 @@ module _ (far : ℕ → ℕ → ℕ) (D u first x : ℕ) where
     unfolding kept_bit
     sift_keep {e} s m n = record {
       inside = inside_more;
-      stays = i.stays ∙ word_of_ext 64 (kept_bit left) (kept_bit y) (λ k h. go k h (eq_or_ne k b));
+      stays = i.stays ∙ word_of_ext 64 (kept_bit left) (kept_bit y) (λ k h. go k h (cases_eq k b));
       went = none_more is_stale fresh i.went;
       stayed = one_more (λ b. not (is_stale b)) (ap not fresh) i.stayed;
       greatest = way_more s m;

@@ -10,8 +10,8 @@ use lib.Dec.{eqb, ltb}
 use lib.ListN.{length, get_or, set, length-set}
 use lib.Seq.{set-get_or}
 use borrow.Author.Tests.{eq-eqb, ne_eqb, lt-ltb, le-ltb}
+use Rattle.std.proofs.lemmas.Bool.{cases_eq, cases_lt}
 use Rattle.lists.specs.Lists.{range, countb, max_of, overwrite}
-use Rattle.lists.proofs.Tests.{eq_or_ne, lt_or_ge}
 use Rattle.lists.proofs.Members.{length-range}
 use Rattle.lists.proofs.Counts.{count_le_length, count_ext, count-or, count_none}
 use Rattle.lists.proofs.RangeCounts.{count_same, count_split}
@@ -120,7 +120,7 @@ module _ (W : ℕ) (far : ℕ → ℕ → ℕ) (D u : ℕ) (t₀ : List ℕ) whe
     stay_bit b l = ap (λ (y : Bool). y && not (ltb (far u (64 * j + b)) D)) (bit_yet b l)
 
     left_word : (p q : ℕ) → (p ≡ u → q / 64 ≡ j → ⊥) → left_below (64 * j) p q ≡ left_below (64 * (j + 1)) p q
-    left_word p q ne = go (eq_or_ne p u) (lt_or_ge q (64 * j)) (lt_or_ge q (64 * (j + 1)))
+    left_word p q ne = go (cases_eq p u) (cases_lt q (64 * j)) (cases_lt q (64 * (j + 1)))
       where
         go : (p ≡ u) ⊎ (p ≢ u) → (q < 64 * j) ⊎ (64 * j ≤ q) → (q < 64 * (j + 1)) ⊎ (64 * (j + 1) ≤ q) → left_below (64 * j) p q ≡ left_below (64 * (j + 1)) p q
         go (inr e) a b = left_other (64 * j) p q e ∙ sym (left_other (64 * (j + 1)) p q e)
@@ -218,7 +218,7 @@ module _ (W : ℕ) (far : ℕ → ℕ → ℕ) (D u : ℕ) (t₀ : List ℕ) whe
   unfolding drop_row_of pairs_after row_gone row_stays row_way way_at
   row_end {at = at} i e =
       same_rows
-      (i.table ∙ ap (λ (e : List ℕ). overwrite e t₀) (encode_table_ext W (left_below at) (pairs_after (λ p. eqb p u) far D (table_bit W t₀)) (λ p v l h. same p v (eq_or_ne p u) (omega arith))))
+      (i.table ∙ ap (λ (e : List ℕ). overwrite e t₀) (encode_table_ext W (left_below at) (pairs_after (λ p. eqb p u) far D (table_bit W t₀)) (λ p v l h. same p v (cases_eq p u) (omega arith))))
       (i.gone ∙ ap (λ (k : ℕ). countb (stale_pairs far D (table_bit W t₀) u) (range k)) e)
       (i.count ∙ ap (λ (k : ℕ). countb (staying_pairs far D (table_bit W t₀) u) (range k)) e)
       (i.way ∙ ap (λ (k : ℕ). max_of way_at (range k)) e)

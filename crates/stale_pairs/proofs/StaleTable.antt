@@ -9,8 +9,8 @@ use native.Mathlib.Omega.{arith}
 use lib.Dec.{eqb, ltb}
 use lib.ListN.{length, get_or}
 use borrow.Author.Tests.{eq-eqb, ne_eqb, lt-ltb, le-ltb}
+use Rattle.std.proofs.lemmas.Bool.{cases_eq, cases_lt}
 use Rattle.lists.specs.Lists.{range, countb, sum_of, max_of, overwrite}
-use Rattle.lists.proofs.Tests.{eq_or_ne, lt_or_ge}
 use Rattle.lists.proofs.Members.{length-range, range_in, range_out}
 use Rattle.lists.proofs.Counts.{count_le_length, count_none, count-zero}
 use Rattle.lists.proofs.Sums.{sum_add}
@@ -156,7 +156,7 @@ module _ (W : ℕ) (far : ℕ → ℕ → ℕ) (D : ℕ) (t₀ : List ℕ) where
       size = i.size;
       is =
           same_rows
-          (done_table ∙ ap (λ (e : List ℕ). overwrite e t₀) (encode_table_ext W (left_above u) (left_above q) (λ p v l h. same p v h (lt_or_ge p u) (lt_or_ge p q))))
+          (done_table ∙ ap (λ (e : List ℕ). overwrite e t₀) (encode_table_ext W (left_above u) (left_above q) (λ p v l h. same p v h (cases_lt p u) (cases_lt p q))))
           (done_gone ∙ sym (sum_skip (row_gone W far D P₀) u q r.after (λ p c d. none_of (λ v a. a && ltb (far p v) D) (λ v. refl) p c d)))
           (done_count ∙ sym (sum_skip (row_stays W far D P₀) u q r.after (λ p c d. none_of (λ v a. a && not (ltb (far p v) D)) (λ v. refl) p c d)))
           (done_way ∙ sym (max_skip (row_way W far D P₀) u q r.after
@@ -184,7 +184,7 @@ module _ (W : ℕ) (far : ℕ → ℕ → ℕ) (D : ℕ) (t₀ : List ℕ) where
 
       left_row : (p v : ℕ) → p < 64 * W → v < 64 * W → pairs_after (λ p. eqb p u) far D (table_bit W t) p v ≡ left_above (u + 1) p v
       unfolding pairs_after staying_pairs
-      left_row p v l h = go (eq_or_ne p u) (lt_or_ge p u)
+      left_row p v l h = go (cases_eq p u) (cases_lt p u)
         where
           was : table_bit W t p v ≡ left_above u p v
           was = ap (λ (s : List ℕ). table_bit W s p v) done_table ∙ table_at W (left_above u) t₀ p v l h

@@ -10,8 +10,8 @@ use lib.Dec.{eqb}
 use lib.ListN.{length, take, set, length-append, length-set}
 use lib.Seq.{take_all, take-take, take-append-le, take-suc-set}
 use borrow.Author.Tests.{lt-ltb, le-ltb, not-true}
+use Rattle.std.proofs.lemmas.Bool.{and_parts, and_from, cases_lt}
 use Rattle.lists.specs.Lists.{allb}
-use Rattle.lists.proofs.Tests.{and-true, and_intro, lt_or_ge}
 use Rattle.notice.specs.Lines.{line_limit, line_end, end_of, garbled, read_head, read_line, onto, lines_of}
 use Rattle.line_buffer.specs.Lines.{Holding, hold_byte}
 
@@ -28,7 +28,7 @@ lines_byte b bs e = rw (e)
 
 open_byte : (b : ℕ) (p : List ℕ) → is_open_line (b ∷ p) ≡ true → (eqb b line_end ≡ false) × (is_open_line p ≡ true)
 unfolding is_open_line allb
-open_byte b p o = let q = and-true (not (eqb b line_end)) (allb (λ c. not (eqb c line_end)) p) o in (not-true (eqb b line_end) q.0, q.1)
+open_byte b p o = let q = and_parts (not (eqb b line_end)) (allb (λ c. not (eqb c line_end)) p) o in (not-true (eqb b line_end) q.0, q.1)
 
 lines_end : (r : List ℕ) → lines_of (line_end ∷ r) ≡ (line_end ∷ []) ∷ lines_of r
 unfolding lines_of
@@ -55,7 +55,7 @@ open_none = refl
 pub open_more : (p : List ℕ) (b : ℕ) → is_open_line p ≡ true → eqb b line_end ≡ false → is_open_line (p ++ (b ∷ [])) ≡ true
 unfolding is_open_line allb
 open_more [] b o e = rw (e)
-open_more (c ∷ p) b o e = let q = open_byte c p o in and_intro (ap not q.0) (open_more p b q.1 e)
+open_more (c ∷ p) b o e = let q = open_byte c p o in and_from _ _ (ap not q.0) (open_more p b q.1 e)
 
 -- a line without its end is garbled
 open_end : (p : List ℕ) → is_open_line p ≡ true → end_of p ≡ length p
@@ -67,7 +67,7 @@ open_take : (k : ℕ) (p : List ℕ) → is_open_line p ≡ true → is_open_lin
 unfolding is_open_line allb
 open_take zero p o = refl
 open_take (suc k) [] o = refl
-open_take (suc k) (b ∷ p) o = let q = open_byte b p o in and_intro (ap not q.0) (open_take k p q.1)
+open_take (suc k) (b ∷ p) o = let q = open_byte b p o in and_from _ _ (ap not q.0) (open_take k p q.1)
 
 pub open_garbled : (p : List ℕ) → is_open_line p ≡ true → read_line p ≡ garbled
 unfolding read_line read_head
@@ -89,7 +89,7 @@ pub record HoldsLine (p : List ℕ) (h : Holding) : Type 0 where
 
 pub holds_byte : (p : List ℕ) (h : Holding) (b : ℕ) → HoldsLine p h → HoldsLine (p ++ (b ∷ [])) (hold_byte b h)
 unfolding hold_byte
-holds_byte p h b is = go (lt_or_ge h.held line_limit)
+holds_byte p h b is = go (cases_lt h.held line_limit)
   where
     more : length (p ++ (b ∷ [])) ≡ length p + 1
     more = length-append p (b ∷ [])

@@ -9,8 +9,8 @@ use lib.Dec.{eqb}
 use lib.ListN.{length, take, drop}
 use lib.Seq.{take_at, take-nil, take-append-add, append_snoc, length-take-le}
 use borrow.Author.Tests.{eqb-true}
+use Rattle.std.proofs.lemmas.Bool.{cases_Bool}
 use Rattle.lists.specs.Lists.{overwrite}
-use Rattle.lists.proofs.Tests.{look}
 use Rattle.graph.specs.Network.{Network}
 use Rattle.map.specs.Memory.{base}
 use Rattle.map.specs.Room.{sizes_of, long_enough}
@@ -218,7 +218,7 @@ bytes_nil F = refl
 -- bytes are only added to those used, and all are used unless the step stops
 pub bytes_past : (bs : List ℕ) (F : Feeding) → F.fed.used ≤ (feed_bytes bs F).fed.used
 bytes_past [] F = omega (arith, ap (λ (G : Feeding). G.fed.used) (bytes_nil F))
-bytes_past (b ∷ bs) F = go (look (stopped F)) (bytes_past bs (take_byte b F))
+bytes_past (b ∷ bs) F = go (cases_Bool (stopped F)) (bytes_past bs (take_byte b F))
   where
     go : (stopped F ≡ true) ⊎ (stopped F ≡ false) → (take_byte b F).fed.used ≤ (feed_bytes bs (take_byte b F)).fed.used → F.fed.used ≤ (feed_bytes (b ∷ bs) F).fed.used
     go (inl e) l = omega (arith, ap (λ (G : Feeding). G.fed.used) (bytes_stop b bs F e))
@@ -230,7 +230,7 @@ bytes_first b bs F e = omega (arith, byte_used b F, ap (λ (G : Feeding). G.fed.
 
 pub bytes_all : (bs : List ℕ) (F : Feeding) → (stopped (feed_bytes bs F) ≡ true) ⊎ ((feed_bytes bs F).fed.used ≡ F.fed.used + length bs)
 bytes_all [] F = inr (omega (arith, ap (λ (G : Feeding). G.fed.used) (bytes_nil F)))
-bytes_all (b ∷ bs) F = go (look (stopped F)) (bytes_all bs (take_byte b F))
+bytes_all (b ∷ bs) F = go (cases_Bool (stopped F)) (bytes_all bs (take_byte b F))
   where
     go : (stopped F ≡ true) ⊎ (stopped F ≡ false) → (stopped (feed_bytes bs (take_byte b F)) ≡ true) ⊎ ((feed_bytes bs (take_byte b F)).fed.used ≡ (take_byte b F).fed.used + length bs)
         → (stopped (feed_bytes (b ∷ bs) F) ≡ true) ⊎ ((feed_bytes (b ∷ bs) F).fed.used ≡ F.fed.used + length (b ∷ bs))
@@ -250,7 +250,7 @@ goes_both a F F₁ F₂ b c one two = record { place = two.place; stands = two.s
 
 pub bytes_go : (bs : List ℕ) (a : Place) (F : Feeding) → StandsAt a F → is_open_line a.begun ≡ true → Goes a F (feed_bytes bs F) (take ((feed_bytes bs F).fed.used - F.fed.used) bs)
 bytes_go [] a F is o = goes_along (sym (bytes_nil F)) (sym (take-nil ((feed_bytes [] F).fed.used - F.fed.used))) (goes_none a F is o)
-bytes_go (b ∷ bs) a F is o = go (look (stopped F)) (λ on. bytes_go bs (byte_goes a F is o on b).place (take_byte b F) (byte_goes a F is o on b).stands (byte_goes a F is o on b).is_open)
+bytes_go (b ∷ bs) a F is o = go (cases_Bool (stopped F)) (λ on. bytes_go bs (byte_goes a F is o on b).place (take_byte b F) (byte_goes a F is o on b).stands (byte_goes a F is o on b).is_open)
   where
     n : ℕ
     n = (feed_bytes (b ∷ bs) F).fed.used - F.fed.used

@@ -10,7 +10,7 @@ use lib.Dec.{eqb}
 use lib.ListN.{length, take}
 use lib.Seq.{take-nil}
 use borrow.Author.Tests.{eq-eqb, ne_eqb, leb-true}
-use Rattle.lists.proofs.Tests.{look, or_left}
+use Rattle.std.proofs.lemmas.Bool.{cases_Bool, or_left}
 use Rattle.graph.specs.Network.{Network}
 use Rattle.notice.specs.Lines.{Line, read_line, lines_of}
 use Rattle.report.specs.Line.{buffer_limit}
@@ -137,8 +137,8 @@ module _ (s : Standing) (out : List ℕ) (room : buffer_limit ≤ length out) wh
       → last_written s out ≡ rest_from (record { lines = n; network = G; begun = p }) []
   finish_goes n G [] is o =
       let e : s.progress.held ≡ 0 = is.holds.count in
-      finish_skips (or_left (stopped F) (eq-eqb s.progress.held 0 e)) ∙ sym (rest_none n G)
-  finish_goes n G (b ∷ p) is o = go (look (stopped F))
+      finish_skips (or_left _ (stopped F) (eq-eqb s.progress.held 0 e)) ∙ sym (rest_none n G)
+  finish_goes n G (b ∷ p) is o = go (cases_Bool (stopped F))
     where
       some : s.progress.held ≡ 0 → ⊥
       some e = lt_irrefl 0 (omega (arith, is.holds.count))

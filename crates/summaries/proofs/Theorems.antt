@@ -32,7 +32,7 @@ use Rattle.summary.specs.declared.Summary.{Summary}
 use Rattle.summaries.specs.declared.Totals.{Totals}
 use Rattle.summaries.specs.Run.{room, no_totals, summing_text, with_file, totals_from, total_line, file_lines, run_text}
 use Rattle.summaries.specs.declared.FilePut.{FilePut}
-use Rattle.summaries.specs.Calls.{answered, most_pairs, most_sum, IsOfFile, AreOfFiles, FileLeft, file_left, file_call, TotalLeft, total_left, total_call}
+use Rattle.summaries.specs.Calls.{answered, most_pairs, most_sum, IsOfFile, AreOfFiles, FileLeft, file_left, file_call, total_call}
 use Rattle.summaries.proofs.Lines.{field_most}
 
 -- ---- ROOM

@@ -7,9 +7,9 @@ use native.Mathlib.Omega.{arith}
 use lib.Dec.{leb, ltb}
 use lib.ListN.{length}
 use borrow.Author.Tests.{leb-true, le-leb, lt-leb, lt-ltb, le-ltb, ltb-false}
+use Rattle.std.proofs.lemmas.Bool.{and_parts}
 use Rattle.outcome.specs.Numbers.{short_buffer, too_few}
 use Rattle.lists.specs.Lists.{range, countb, last_or, mapl, overwrite, first_of}
-use Rattle.lists.proofs.Tests.{and-true}
 use Rattle.lists.proofs.Members.{first_zero}
 use Rattle.graph.specs.Network.{Network, delivers}
 use Rattle.graph.specs.Distance.{vertices}
@@ -53,7 +53,7 @@ module _ (K : Shape) (rec : Record) (links : List ℕ) (hops even odd counts : �
   unfolding summary_refusal
   granted shape z =
       let p = lent-passed K (long && leb (places K) counts) false rec links [] few z in
-      let whole = and-true long (leb (places K) counts) p.whole in
+      let whole = and_parts long (leb (places K) counts) p.whole in
       let two : 2 ≤ countb (delivers G) (vertices G) = ltb-false (countb (delivers G) (vertices G)) 2 (first_zero (ltb (countb (delivers G) (vertices G)) 2) 14 [] p.others).0 in
       record {
         long = are_long_lem K (search_sizes K (length links) hops even odd) whole.0;

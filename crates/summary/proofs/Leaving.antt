@@ -9,8 +9,9 @@ use lib.Dec.{T, eqb, ltb}
 use lib.ListN.{length, get_or, set, length-set}
 use lib.Seq.{ext_get_or, get_or-set_same, get_or-set_other}
 use borrow.Author.Tests.{eq-eqb, ne_eqb}
+use Rattle.std.proofs.lemmas.Bool.{cases_lt, cases_eq}
 use Rattle.lists.specs.Lists.{range, filterb, countb, sum_of, max_of, last_or, mapl, overwrite}
-use Rattle.lists.proofs.Tests.{true→t, lt_or_ge, eq_or_ne}
+use Rattle.lists.proofs.Tests.{true→t}
 use Rattle.lists.proofs.Members.{filter_out}
 use Rattle.lists.proofs.Counts.{count_ext, length_count, sum_ext}
 use Rattle.lists.proofs.Sums.{weight}
@@ -54,7 +55,7 @@ count_fill f n e l low room = ext_get_or 0 new (overwrite (mapl g (range n)) l) 
     size = length-set old e (get_or old e 0 + 1) ∙ fill_length f l n room ∙ sym (fill_length g l n room)
 
     at : (i : ℕ) → i < length new → get_or new i 0 ≡ get_or (overwrite (mapl g (range n)) l) i 0
-    at i h = go (eq_or_ne i e) (lt_or_ge i n)
+    at i h = go (cases_eq i e) (cases_lt i n)
       where
         go : (i ≡ e) ⊎ (i ≢ e) → (i < n) ⊎ (n ≤ i) → get_or new i 0 ≡ get_or (overwrite (mapl g (range n)) l) i 0
         go (inl q) s =

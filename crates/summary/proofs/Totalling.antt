@@ -10,8 +10,8 @@ use lib.Dec.{leb, ltb}
 use lib.ListN.{length, get_or, set}
 use lib.Seq.{get_or-set_same, get_or-set_other}
 use borrow.Author.Tests.{le-leb}
+use Rattle.std.proofs.lemmas.Bool.{cases_eq}
 use Rattle.lists.specs.Lists.{range, filterb, sum_of, max_of, mapl, overwrite}
-use Rattle.lists.proofs.Tests.{eq_or_ne}
 use Rattle.lists.proofs.Members.{filter_out, filter-all, length-filter}
 use Rattle.lists.proofs.Counts.{max_le_of}
 use Rattle.graph.specs.Network.{Network}
@@ -60,7 +60,7 @@ module _ (W : ℕ) (targets links : List ℕ) (u : ℕ) where
 -- a count grows by at most one
 count_most : (e i : ℕ) (l : List ℕ) → e < length l → get_or (count_one e l) i 0 ≤ get_or l i 0 + 1
 unfolding count_one
-count_most e i l h = go (eq_or_ne i e)
+count_most e i l h = go (cases_eq i e)
   where
     go : (i ≡ e) ⊎ (i ≢ e) → get_or (set l e (get_or l e 0 + 1)) i 0 ≤ get_or l i 0 + 1
     go (inl q) =

@@ -10,7 +10,7 @@ use lib.Bits.{bit_and}
 use lib.Dec.{ltb}
 use lib.Pow.{pow_mono, pow_pos}
 use borrow.Author.Tests.{lt-ltb, le-ltb}
-use Rattle.lists.proofs.Tests.{lt_or_ge}
+use Rattle.std.proofs.lemmas.Bool.{cases_lt}
 use Rattle.words.specs.Bits.{bit, word_of}
 use Rattle.words.proofs.Bits.{bit_of_zero, bit_past, bit_not, word_minus, word_of_ext}
 
@@ -27,7 +27,7 @@ module _ (b : ℕ) where
   low = 2 ^ suc b - 1
 
   low_bit : (k : ℕ) → not (bit low k) ≡ ltb b k
-  low_bit k = go (lt_or_ge b k)
+  low_bit k = go (cases_lt b k)
     where
       go : (b < k) ⊎ (k ≤ b) → not (bit low k) ≡ ltb b k
       go (inl l) = ap not (bit_past (suc b) low k (omega (arith, pow_pos (suc b))) l) ∙ sym (lt-ltb b k l)

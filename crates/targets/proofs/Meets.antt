@@ -11,8 +11,9 @@ use lib.Count.{count_trailing_zeros}
 use lib.Dec.{eqb}
 use lib.ListN.{get_or}
 use borrow.Author.Tests.{eq-eqb, ne_eqb}
+use Rattle.std.proofs.lemmas.Bool.{or_cases, or_left, or_right, cases_eq, cases_lt}
 use Rattle.lists.specs.Lists.{range, anyb}
-use Rattle.lists.proofs.Tests.{or_true, or_left, or_right, clash, eq_or_ne, lt_or_ge, not→false, t→true}
+use Rattle.lists.proofs.Tests.{clash, not→false, t→true}
 use Rattle.lists.proofs.Members.{any_intro, any_none, range_in, range_out}
 use Rattle.words.specs.Bits.{bit}
 use Rattle.words.specs.Least.{IsLeast}
@@ -55,23 +56,23 @@ module _ (W : ℕ) (a b : List ℕ) where
       here k m = bit_and_lem (get_or a w 0) (get_or b w 0) k ∙ sym (ap₂ (λ (x y : Bool). x && y) (row_word W a w k l m) (row_word W b w k l m))
 
       found : (k : ℕ) → k < 64 → bit (bit_or both more) k ≡ true → (j : ℕ) × (j < w + 1) × (test (64 * j + k) ≡ true)
-      found k m e = go (or_true (bit both k) (bit more k) (sym (bit_or_lem both more k) ∙ e))
+      found k m e = go (or_cases (bit both k) (bit more k) (sym (bit_or_lem both more k) ∙ e))
         where
           go : (bit both k ≡ true) ⊎ (bit more k ≡ true) → (j : ℕ) × (j < w + 1) × (test (64 * j + k) ≡ true)
           go (inl h) = let f = g.found k m h in (f.0, omega (arith, f.1), f.2)
           go (inr h) = (w, omega arith, sym (here k m) ∙ h)
 
       kept : (j k : ℕ) → j < w + 1 → k < 64 → test (64 * j + k) ≡ true → bit (bit_or both more) k ≡ true
-      kept j k n m e = bit_or_lem both more k ∙ go (lt_or_ge j w)
+      kept j k n m e = bit_or_lem both more k ∙ go (cases_lt j w)
         where
           go : (j < w) ⊎ (w ≤ j) → (bit both k || bit more k) ≡ true
-          go (inl h) = or_left (bit more k) (g.kept j k h m e)
+          go (inl h) = or_left _ (bit more k) (g.kept j k h m e)
           go (inr h) =
               let q : w ≡ j = omega arith in
-              or_right (bit both k) (here k m ∙ ap (λ (i : ℕ). test (64 * i + k)) q ∙ e)
+              or_right (bit both k) _ (here k m ∙ ap (λ (i : ℕ). test (64 * i + k)) q ∙ e)
 
   pub meeting_all : {both w : ℕ} → IsMeeting both w → W ≤ w → not (eqb both 0) ≡ anyb test (range (64 * W))
-  meeting_all {both} {w} g l = go (eq_or_ne both 0)
+  meeting_all {both} {w} g l = go (cases_eq both 0)
     where
       go : (both ≡ 0) ⊎ (both ≢ 0) → not (eqb both 0) ≡ anyb test (range (64 * W))
       go (inl z) =

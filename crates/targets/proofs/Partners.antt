@@ -10,8 +10,8 @@ use lib.Bits.{bit_and, and_le_l}
 use lib.Dec.{eqb}
 use lib.ListN.{length, get_or, set, length-set}
 use borrow.Author.Tests.{eq-eqb, ne_eqb}
+use Rattle.std.proofs.lemmas.Bool.{cases_eq}
 use Rattle.lists.specs.Lists.{range, anyb, max_of, overwrite}
-use Rattle.lists.proofs.Tests.{eq_or_ne}
 use Rattle.words.specs.Bits.{bit, word_of}
 use Rattle.words.specs.Least.{IsLeast, WithoutLeast}
 use Rattle.words.proofs.Bits.{bit_of_zero, bit_and_lem, bit-word_of, word_of_lt, word_of_ext, word_is}
@@ -81,7 +81,7 @@ module _ (hops : List ℕ) (w word e : ℕ) where
 
   -- a member at e stays
   pub kept_stays : {here x y b z : ℕ} → BitsKept here x → IsLeast x b → WithoutLeast x y → get_or hops (64 * w + b) 0 ≡ e → z ≡ here → BitsKept z y
-  kept_stays {here} {x} {y} {b} {z} g l d q s = record { fits = rw s g.fits; is = λ k m. ap (λ (w : ℕ). bit w k) s ∙ go k m (eq_or_ne k b) }
+  kept_stays {here} {x} {y} {b} {z} g l d q s = record { fits = rw s g.fits; is = λ k m. ap (λ (w : ℕ). bit w k) s ∙ go k m (cases_eq k b) }
     where
       go : (k : ℕ) → k < 64 → (k ≡ b) ⊎ (k ≢ b) → bit here k ≡ (bit word k && (bit y k || at k))
       go k m (inl s) =
@@ -94,7 +94,7 @@ module _ (hops : List ℕ) (w word e : ℕ) where
       → z ≡ word_of 64 (λ k. bit here k && not (eqb k b)) → BitsKept z y
   kept_leaves {here} {x} {y} {b} {z} g l d q s = record {
     fits = rw s (word_of_lt 64 (λ k. bit here k && not (eqb k b)));
-    is = λ k m. ap (λ (w : ℕ). bit w k) s ∙ bit-word_of 64 (λ k. bit here k && not (eqb k b)) k m ∙ go k m (eq_or_ne k b);
+    is = λ k m. ap (λ (w : ℕ). bit w k) s ∙ bit-word_of 64 (λ k. bit here k && not (eqb k b)) k m ∙ go k m (cases_eq k b);
   }
     where
       go : (k : ℕ) → k < 64 → (k ≡ b) ⊎ (k ≢ b) → (bit here k && not (eqb k b)) ≡ (bit word k && (bit y k || at k))

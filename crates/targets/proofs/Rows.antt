@@ -10,8 +10,8 @@ use native.Mathlib.Omega.{arith}
 use lib.Dec.{ltb}
 use lib.ListN.{length, get_or}
 use borrow.Author.Tests.{lt-ltb, le-ltb}
+use Rattle.std.proofs.lemmas.Bool.{and_parts, cases_lt}
 use Rattle.lists.specs.Lists.{range, filterb, anyb, countb, sum_of, max_of}
-use Rattle.lists.proofs.Tests.{and-true, lt_or_ge}
 use Rattle.lists.proofs.Members.{any_elim, filter_in, filter_out, filter-twice, length-range, range_out}
 use Rattle.lists.proofs.Counts.{count_le_length, count_none, length_count, max_ge, max_le_of}
 use Rattle.lists.proofs.RangeCounts.{count_same, count_split}
@@ -120,7 +120,7 @@ module _ (W : ℕ) (targets hops : List ℕ) where
   unfolding network_of
   greatest_last last depth is some =
       let v = any_elim (λ v. row_bit W last v && row_bit W targets v) (range (64 * W)) some in
-      let both = and-true (row_bit W last v.0) (row_bit W targets v.0) v.2 in
+      let both = and_parts (row_bit W last v.0) (row_bit W targets v.0) v.2 in
       let a = is.here v.0 both.0 in
       let b = max_ge (λ v. get_or hops v 0) (filterb (row_bit W targets) (range (64 * W))) (filter_in (row_bit W targets) (range (64 * W)) v.1 both.1) in
       le_antisymm (omega (arith, a, b))
@@ -153,7 +153,7 @@ module _ (W : ℕ) (targets hops : List ℕ) where
     }
       where
         beside : (b : ℕ) → b < 64 → ltb u (64 * (u / 64) + b) ≡ ltb (u % 64) b
-        beside b m = go (lt_or_ge (u % 64) b)
+        beside b m = go (cases_lt (u % 64) b)
           where
             go : (u % 64 < b) ⊎ (b ≤ u % 64) → ltb u (64 * (u / 64) + b) ≡ ltb (u % 64) b
             go (inl k) = lt-ltb u (64 * (u / 64) + b) (omega arith) ∙ sym (lt-ltb (u % 64) b k)

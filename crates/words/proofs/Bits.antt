@@ -9,7 +9,7 @@ use lib.Dec.{eqb, ltb}
 use lib.Pow.{pow-lt, pow_pos}
 use lib.Bits.{bit_and, bit_or, or_lt, and_le_l}
 use borrow.Author.Tests.{eq-eqb, ne_eqb, lt-ltb, le-ltb}
-use Rattle.lists.proofs.Tests.{eq_or_ne, lt_or_ge}
+use Rattle.std.proofs.lemmas.Bool.{cases_eq, cases_lt}
 use Rattle.words.specs.Bits.{bit, word_of}
 use Rattle.words.proofs.Digits.{digit, digit_lt, digit_zero, digit_suc, digit_of_zero, digit_past, digit_shr, digit_or, digit_and, digit_not, digit_pow_same, digit_pow_other, digit_ext}
 
@@ -80,7 +80,7 @@ bit_not n a k h l = bit_is ((2 ^ n - 1) - a) k (not (bit a k)) (digit_not n a k 
 
 -- 2 ^ j has bit j alone
 pub bit_pow : (j k : ℕ) → bit (2 ^ j) k ≡ eqb k j
-bit_pow j k = go (eq_or_ne k j)
+bit_pow j k = go (cases_eq k j)
   where
     go : (k ≡ j) ⊎ (k ≢ j) → bit (2 ^ j) k ≡ eqb k j
     go (inl e) = ap (bit (2 ^ j)) e ∙ bit_is (2 ^ j) j true (digit_pow_same j) ∙ sym (eq-eqb k j e)
@@ -162,7 +162,7 @@ word_without n a b ha l =
 
 -- `a & ((1 << b) - 1)`: the bits below b
 bit_mask : (b k : ℕ) → bit (2 ^ b - 1) k ≡ ltb k b
-bit_mask b k = go (lt_or_ge k b)
+bit_mask b k = go (cases_lt k b)
   where
     some : 0 < 2 ^ b
     some = pow_pos b

@@ -2,30 +2,23 @@
 use mathlib.Core.Path.{◌≡◌, refl, sym, ap, ◌∙◌, subst}
 use mathlib.Core.Logic.{◌≢◌, ◌⊎◌, inl, inr}
 use mathlib.Core.Bool.{Bool, true, false, not, ◌&&◌, and-true, and_self}
-use Prim.Native.Nat.{ℕ, zero, suc, ◌-◌, ◌/◌, ◌%◌, ◌≤◌, ◌<◌, ◌^◌, suc-le-suc}
-use native.Mathlib.Nat.{zero-lt-suc, le_antisymm, le_of_suc-le-suc, not-suc-le-zero, lt_of_le_of_lt}
+use Prim.Native.Nat.{ℕ, zero, suc, ◌-◌, ◌/◌, ◌%◌, ◌≤◌, ◌<◌, ◌^◌}
+use native.Mathlib.Nat.{le_antisymm, le_of_suc-le-suc, not-suc-le-zero, lt_of_le_of_lt}
 use native.Mathlib.Omega.{arith}
+use borrow.Author.Numbers.{trailing_lt}
 use lib.Dec.{eqb}
 use lib.Arith.{lt_of_le-ne}
 use lib.Bits.{bit_and, and_le_l, and_le_r}
 use lib.Count.{count_trailing_zeros, under}
 use borrow.Author.Tests.{eq-eqb, ne_eqb}
-use Rattle.lists.proofs.Tests.{clash, lt_or_ge, eq_or_ne, and-true as and_parts}
+use Rattle.std.proofs.lemmas.Bool.{cases_lt, cases_eq, and_parts}
+use Rattle.lists.proofs.Tests.{clash}
 use Rattle.words.specs.Bits.{bit, word_of}
 use Rattle.words.specs.Least.{IsLeast, WithoutLeast}
 use Rattle.words.proofs.Digits.{digit, half_lt, digit_zero, digit_suc}
 use Rattle.words.proofs.Bits.{digit_bit, bit_is, bit_and_lem, bit-word_of, word_is}
 
 -- ---- the trailing zeros of n digits
-
-trailing_lt : (n a : ℕ) → 0 < a → a < 2 ^ n → count_trailing_zeros n a < n
-unfolding count_trailing_zeros
-trailing_lt zero a p h = omega arith
-trailing_lt (suc n) a p h = go (a % 2) refl (λ q. trailing_lt n (a / 2) q (half_lt n h))
-  where
-    go : (d : ℕ) → a % 2 ≡ d → (0 < a / 2 → count_trailing_zeros n (a / 2) < n) → under d (count_trailing_zeros n (a / 2)) < suc n
-    go zero e ih = suc-le-suc (ih (omega arith))
-    go (suc d) e ih = zero-lt-suc n
 
 trailing_set : (n a : ℕ) → 0 < a → a < 2 ^ n → digit a (count_trailing_zeros n a) ≡ 1
 unfolding count_trailing_zeros
@@ -83,7 +76,7 @@ least_is w p h = record {
 }
 
 pub least_unique : (w b d : ℕ) → IsLeast w b → IsLeast w d → b ≡ d
-least_unique w b d p q = go (lt_or_ge b d) (lt_or_ge d b)
+least_unique w b d p q = go (cases_lt b d) (cases_lt d b)
   where
     go : (b < d) ⊎ (d ≤ b) → (d < b) ⊎ (b ≤ d) → b ≡ d
     go (inl l) _ = absurd (clash p.here (q.first b l))
@@ -94,7 +87,7 @@ least_unique w b d p q = go (lt_or_ge b d) (lt_or_ge d b)
 
 -- `a & (a - 1)` has every bit of a but the least
 drop_word : (n a : ℕ) → 0 < a → a < 2 ^ n → bit_and a (a - 1) ≡ word_of n (λ k. bit a k && not (eqb k (count_trailing_zeros n a)))
-drop_word n a p h = word_is n (bit_and a (a - 1)) (λ k. bit a k && not (eqb k t)) (lt_of_le_of_lt (and_le_l a _) h) (λ k l. bit_and_lem a (a - 1) k ∙ at k (eq_or_ne k t) (lt_or_ge k t))
+drop_word n a p h = word_is n (bit_and a (a - 1)) (λ k. bit a k && not (eqb k t)) (lt_of_le_of_lt (and_le_l a _) h) (λ k l. bit_and_lem a (a - 1) k ∙ at k (cases_eq k t) (cases_lt k t))
   where
     t : ℕ
     t = count_trailing_zeros n a

@@ -9,8 +9,8 @@ use native.Mathlib.Omega.{arith}
 use lib.Dec.{eqb, leb, ltb}
 use lib.ListN.{length, get_or, take, drop, take-append-drop}
 use borrow.Author.Tests.{ne_eqb, leb-true}
+use Rattle.std.proofs.lemmas.Bool.{cases_Bool, cases_eq, cond-true, cond-false}
 use Rattle.lists.specs.Lists.{allb, overwrite, first_of}
-use Rattle.lists.proofs.Tests.{look, eq_or_ne}
 use Rattle.outcome.specs.Numbers.{short_buffer, garbled_line}
 use Rattle.graph.specs.Network.{Network, HasNoYard}
 use Rattle.graph.specs.Distance.{vertices}
@@ -61,12 +61,6 @@ and_none true true false = refl
 and_none true false c = refl
 and_none false b c = refl
 
-cond-true : {A : Type 0} (b : Bool) (x y : A) → b ≡ true → cond b x y ≡ x
-cond-true b x y q = ap (λ (t : Bool). cond t x y) q
-
-cond-false : {A : Type 0} (b : Bool) (x y : A) → b ≡ false → cond b x y ≡ y
-cond-false b x y q = ap (λ (t : Bool). cond t x y) q
-
 module _ (input : List ℕ) where
   -- its frame, and the test that it passes, x telling whether that is one
   bytes : List ℕ
@@ -101,19 +95,19 @@ module _ (input : List ℕ) where
 
   pub line_same : BeginsNoYard input → read_line input ≡ earlier_read_line input
   unfolding kind_in told
-  line_same other = go (eq_or_ne (get_or bytes 0 0) yard_kind)
+  line_same other = go (cases_eq (get_or bytes 0 0) yard_kind)
     where
       at : get_or bytes 0 0 ≡ yard_kind → (test (is_frame bytes) ≡ true) ⊎ (test (is_frame bytes) ≡ false) → read_line input ≡ garbled
       at is (inl t) = absurd (other (ap kind_in (now_is ∙ cond-true (test (is_frame bytes)) told garbled t) ∙ is))
       at is (inr f) = now_is ∙ cond-false (test (is_frame bytes)) told garbled f
 
       go : (get_or bytes 0 0 ≡ yard_kind) ⊎ (get_or bytes 0 0 ≢ yard_kind) → read_line input ≡ earlier_read_line input
-      go (inl is) = at is (look (test (is_frame bytes))) ∙ sym (then_none is)
+      go (inl is) = at is (cases_Bool (test (is_frame bytes))) ∙ sym (then_none is)
       go (inr ne) = now_is ∙ ap (λ (x : Bool). cond (test x) told garbled) (frame_same bytes ne) ∙ sym then_is
 
   pub line_unread : kind_in (read_line input) ≡ yard_kind → earlier_read_line input ≡ garbled
   unfolding kind_in told
-  line_unread yard = go (look (test (is_frame bytes)))
+  line_unread yard = go (cases_Bool (test (is_frame bytes)))
     where
       go : (test (is_frame bytes) ≡ true) ⊎ (test (is_frame bytes) ≡ false) → earlier_read_line input ≡ garbled
       go (inl t) = then_none (sym (ap kind_in (now_is ∙ cond-true (test (is_frame bytes)) told garbled t)) ∙ yard)

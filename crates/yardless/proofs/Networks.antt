@@ -4,8 +4,9 @@ use mathlib.Core.Bool.{Bool, true, false, not, ◌&&◌, ◌||◌}
 use Prim.Native.Nat.{ℕ}
 use lib.Dec.{T, eqb, ltb}
 use borrow.Author.Tests.{eq-eqb}
+use Rattle.std.proofs.lemmas.Bool.{or_left}
 use Rattle.lists.specs.Lists.{range, countb}
-use Rattle.lists.proofs.Tests.{true→t, or_left}
+use Rattle.lists.proofs.Tests.{true→t}
 use Rattle.lists.proofs.Members.{all_intro}
 use Rattle.graph.specs.Network.{Network, HasNoYard}
 use Rattle.graph.specs.Distance.{vertices, dist}
@@ -60,7 +61,7 @@ module _ (G : Network) (none : HasNoYard G) where
 
 opened_there : (G : Network) (o : Notice) → T ((applied G (opens o)).is_open o.code)
 unfolding applied with_depot add_depot
-opened_there G o = true→t (or_left (G.is_open o.code) (eq-eqb o.code o.code refl))
+opened_there G o = true→t (or_left _ (G.is_open o.code) (eq-eqb o.code o.code refl))
 
 pub steps_same : (G : Network) → HasNoYard G → (u : Update) → OpensNoYard u → (D : ℕ) (P : Pairs)
     → steps (chart (applied G u)) u D P ≡ earlier_steps (earlier_chart (applied G u)) u D P
