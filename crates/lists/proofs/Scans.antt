@@ -10,7 +10,6 @@ use lib.Seq.{drop-cons}
 use Rattle.std.proofs.lemmas.Bool.{and_parts}
 use Rattle.lists.specs.Lists.{filterb, allb}
 
-
 -- of a list whose elements all pass, each does
 pub all-at {ℓ} : {A : Type ℓ} (p : A → Bool) (s : List A) (i : ℕ) (x : A) → i < length s → allb p s ≡ true → p (get_or s i x) ≡ true
 unfolding allb
