@@ -13,7 +13,7 @@ ghost use Rattle.rounds.specs.Slices.{workspace_in, MarksFitIn, RoomFits, IsSame
 
 use bounds::Marks;
 use map::{Room, Scratch};
-use targets::{Searched, Span, TargetHops};
+use targets::{Span, TargetHops, TargetSearch};
 
 // ---- what a round is told and lent
 
@@ -65,7 +65,7 @@ pub fn reach_by(
         hops: &*scratch.hops,
         words,
     };
-    Searched { seen, last, depth }.reach(partners, r)
+    TargetSearch { seen, last, depth }.reach(partners, r)
 }
 
 // The candidate after a search whose own eccentricity is e: by the test of the definition, so that no law of `max` is needed.
