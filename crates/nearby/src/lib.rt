@@ -32,7 +32,7 @@ fn put_near(codes: &mut [u8], count: usize, v: usize, hop: u16, k: u32) -> usize
 }
 
 // Writes the open codes whose hop is at most k over the first places of `codes`, rising, and answers how many.
-#[tactic(auto, using(crate::proofs::Writing::writing))]
+#[tactic(auto, using(crate::proofs::Writing::writing, map::proofs::Theorems::network_open_below))]
 fn list_within(members: &[u64; map::WORDS], scratch: &Scratch<'_>, codes: &mut [u8], k: u32) -> u16
     requires { (places base ≤ length scratch.now.hops.now) × (places base ≤ length codes.old) }
     ensures { let depots = vertices (network_of base.words members.now []) in

@@ -17,7 +17,7 @@ mod plan;
 use bounds::Marks;
 use map::{Room, Scratch};
 pub use plan::Plan;
-use targets::{Searched, Span, TargetHops};
+use targets::{Span, TargetHops, TargetSearch};
 
 // ---- what a round is told and lent
 
@@ -62,7 +62,7 @@ pub fn reach_by(
         hops: &*scratch.hops,
         words,
     };
-    Searched { seen, last, depth }.reach(partners, r)
+    TargetSearch { seen, last, depth }.reach(partners, r)
 }
 
 // The candidate after a search whose own eccentricity is e: by the test of the definition, so that no law of `max` is needed.

@@ -15,7 +15,7 @@ ghost use Rattle.search.specs.SearchCall.{search_refusal, found_of, search_left,
 
 use map::{Record, Scratch};
 use outcome::Refusal;
-use targets::{Searched, TargetHops};
+use targets::{TargetHops, TargetSearch};
 
 // ---- the search itself
 
@@ -54,7 +54,7 @@ fn greatest(targets: &[u64], scratch: &Scratch<'_>, depth: u16) -> u16
         hops: &*scratch.hops,
         words: map::WORDS,
     };
-    Searched { seen, last, depth }.greatest_hop()
+    TargetSearch { seen, last, depth }.greatest_hop()
 }
 
 // The same search, with its eccentricity to the targets, a row of the depots that count. All of them must be reached.

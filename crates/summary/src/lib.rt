@@ -85,6 +85,7 @@ struct Totals {
 }
 
 // Searches from every target in rising code, adds the tallies up, and counts the eccentricities afresh.
+#[tactic(auto, using(map::proofs::Theorems::network_open_below))]
 fn total_over(
     targets: &[u64; map::WORDS],
     links: &[u64],

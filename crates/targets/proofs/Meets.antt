@@ -86,6 +86,3 @@ module _ (W : ℕ) (a b : List ℕ) where
           let f = g.found (count_trailing_zeros 64 both) p.below p.here in
           ap not (ne_eqb both 0 n)
           ∙ sym (any_intro test (range (64 * W)) (range_in (64 * W) {v = 64 * f.0 + count_trailing_zeros 64 both} (omega (arith, f.1, p.below, g.within))) f.2)
-
--- what the check is told of these loops
-pub ruleset meeting = (meeting_none, meeting_more, meeting_all)

@@ -148,11 +148,7 @@ module _ (W : ℕ) (targets hops last : List ℕ) (depth : ℕ) where
         rw (t, q, ne_eqb (farthest_of W targets hops last depth) depth (λ z. d (far ∙ z)))
         (ap (λ (n : ℕ). reached n n (overwrite (encode_row W (λ v. row_bit W targets v && eqb (get_or hops v 0) n)) row)) far)
 
--- what the check is told of these loops
-pub ruleset keeping = (kept_none, kept_stays, kept_leaves, kept_all)
-
-pub ruleset putting = (put_none, put_more, put_all)
-
+-- what the check is told: of the greatest hop, and of the partners
 pub ruleset far = (farthest_last, farthest_pass)
 
 pub ruleset reaching = (reach_none, reach_last, reach_pass)

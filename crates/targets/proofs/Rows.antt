@@ -206,7 +206,5 @@ module _ (W : ℕ) (targets hops : List ℕ) where
       pub summed_few : pairs ≤ 64 * w
       summed_few = omega (arith, g.pairs_are, count_le_length later (range (64 * w)), length-range (64 * w))
 
--- what the check is told of these loops
-pub ruleset comparing = (greatest_none, greatest_more, greatest_all)
-
-pub ruleset summed = (summed_first, summed_more, summed_sum, summed_pairs, summed_few)
+-- what the check is told of the pass
+pub ruleset comparing = (greatest_none, greatest_more)

@@ -138,4 +138,4 @@ module _ (hops : List ℕ) (w : ℕ) where
 -- what the check is told of these loops
 pub ruleset comparing = (comparing_none, comparing_next, comparing_all)
 
-pub ruleset summing = (full_sum, word_few, summing_none, summing_next, summing_all, summing_most)
+pub ruleset summing = (full_sum, word_few, summing_none, summing_most)

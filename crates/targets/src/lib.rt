@@ -27,7 +27,7 @@ pub struct TargetHops<'a> {
 
 // The same after a search to this depth, with the row that holds its last layer.
 #[derive(Clone, Copy)]
-pub struct Searched<'a> {
+pub struct TargetSearch<'a> {
     pub seen: TargetHops<'a>,
     pub last: &'a [u64],
     pub depth: u16,
@@ -68,7 +68,6 @@ impl TargetHops<'_> {
 }
 
 // Whether two rows have a member in common: one test at the end, without a branch at each word.
-#[tactic(auto, using(crate::proofs::Meets::meeting))]
 fn meet(a: &[u64], b: &[u64], words: usize) -> bool
     requires { (words ≤ length a.now) × (words ≤ length b.now) }
     ensures { result ≡ anyb (λ v. row_bit words a.now v && row_bit words b.now v) (range (64 * words)) }
@@ -80,10 +79,9 @@ fn meet(a: &[u64], b: &[u64], words: usize) -> bool
     both != 0
 }
 
-impl Searched<'_> {
+impl TargetSearch<'_> {
     // As far as a target lies, by the last layer: the depth where a target is in it, and else by a pass.
     #[tactic(auto, using(crate::proofs::Partners::far))]
-    #[inline]
     fn farthest(&self) -> u16
         ensures { let S = self.now.seen in
             result ≡ farthest_of S.words S.targets.now S.hops.now self.now.last.now self.now.depth }
@@ -96,7 +94,6 @@ impl Searched<'_> {
 
     // The greatest hop of a target after a search that reached all of them.
     #[tactic(auto, using(crate::proofs::Partners::farthest_is))]
-    #[inline]
     pub fn greatest_hop(&self) -> u16
         requires { let S = self.now.seen in
             IsLastLayer S.words S.targets.now self.now.last.now S.hops.now self.now.depth }
@@ -111,7 +108,7 @@ impl Searched<'_> {
 
 impl TargetHops<'_> {
     // The targets of word w whose hop is e. The word is a copy, from which each member leaves as it is looked at.
-    #[tactic(auto, using(crate::proofs::Partners::keeping))]
+    #[tactic(auto, using(crate::proofs::Partners::kept_none))]
     fn word_at(&self, w: usize, e: u16) -> u64
         requires { w < self.now.words }
         ensures { let word = get_or self.now.targets.now w 0 in
@@ -130,7 +127,7 @@ impl TargetHops<'_> {
     }
 
     // The targets whose hop is e, by one pass over all of them.
-    #[tactic(auto, using(crate::proofs::Partners::putting, crate::proofs::Partners::at_word))]
+    #[tactic(auto, using(crate::proofs::Partners::put_all))]
     fn put_at(&self, row: &mut [u64], e: u16)
         requires { self.now.words ≤ length row.old }
         ensures { let S = self.now in
@@ -150,9 +147,9 @@ pub struct Span {
     pub own: u16,
 }
 
-impl Searched<'_> {
+impl TargetSearch<'_> {
     // The targets that are in the last layer.
-    #[tactic(auto, using(crate::proofs::Partners::putting, crate::proofs::Partners::both_word))]
+    #[tactic(auto, using(crate::proofs::Partners::put_all))]
     fn put_both(&self, row: &mut [u64])
         requires { self.now.seen.words ≤ length row.old }
         ensures { let S = self.now.seen in
@@ -209,7 +206,6 @@ pub struct Later {
 }
 
 // The hops of the 64 codes of word w of a row, added. It is lent the table alone: how large its numbers are is known of a slice, and not of a field.
-#[tactic(auto, using(crate::proofs::Words::all_sum))]
 fn sum_of_all(hops: &[u16], w: usize) -> u64
     requires { (64 * w + 64 ≤ length hops.now) × (w < 2 ^ 32) }
     ensures { result ≡ sum_of (λ b. get_or hops.now (64 * w + b) 0) (range 64) }
@@ -242,8 +238,7 @@ fn sum_of_word(hops: &[u16], w: usize, word: u64) -> u64
 
 impl TargetHops<'_> {
     // The targets above u.
-    #[tactic(auto, using(crate::proofs::Rows::summed))]
-    #[inline]
+    #[tactic(auto, using(crate::proofs::Rows::summed_few))]
     pub fn sum_above(&self, u: usize) -> Later
         requires { u < 64 * self.now.words }
         ensures { let S = self.now in

@@ -1,5 +1,5 @@
--- `targets::TargetHops::greatest_of_word` meets its contract. The loop's invariant (Words.antt): the greatest hop so far, with those of what is left of the word, is
--- that of the word. The measure is what is left of the word.
+-- `targets::TargetHops::greatest_of_word` meets its contract. The loop's invariant (Words.antt): the greatest hop so far, with those of what is left
+-- of the word, is that of the word. The measure is what is left of the word.
 use lib.ListN.{get_or}
 use Rattle.targets.proofs.Words.{BitsCompared}
 use Rattle.targets.proofs.TargetHops.greatest_of_word.Given as goal

@@ -1,5 +1,5 @@
--- `targets::TargetHops::word_at` meets its contract. The loop's invariant (Partners.antt): of the members that were looked at, those at e are left. The measure is what
--- is left of the word.
+-- `targets::TargetHops::word_at` meets its contract. The loop's invariant (Partners.antt): of the members that were looked at, those at e are left. The
+-- measure is what is left of the word.
 use mathlib.Core.Path.{◌∙◌}
 use native.Mathlib.Omega.{arith}
 use Rattle.targets.proofs.Partners.{kept_stays, kept_leaves, kept_all}

@@ -1,7 +1,7 @@
--- `targets::Searched::put_both` meets its contract. The loop's invariant (Partners.antt): the first w words are put.
+-- `targets::TargetSearch::put_both` meets its contract. The loop's invariant (Partners.antt): the first w words are put.
 use native.Mathlib.Omega.{arith}
 use Rattle.targets.proofs.Partners.{put_none, put_more, both_word}
-use Rattle.targets.proofs.Searched.put_both.Goals as goal
+use Rattle.targets.proofs.TargetSearch.put_both.Goals as goal
 
 pub loop-w-preserved : goal.loop-w-preserved
 loop-w-preserved c =
