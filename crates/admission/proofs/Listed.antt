@@ -1,6 +1,6 @@
 -- Whether a list of codes rises, as the library's `is_sorted_by` finds it. Assumes nothing.
 use mathlib.Core.Path.{◌≡◌, refl, sym, ap}
-use mathlib.Core.Bool.{Bool, true, false, ◌&&◌}
+use mathlib.Core.Bool.{Bool, true, false, ◌&&◌, and-false}
 use mathlib.Core.List.{List, [], ◌∷◌}
 use Prim.Native.Nat.{ℕ, zero, suc, ◌<◌}
 use native.Mathlib.Omega.{arith}
@@ -22,11 +22,7 @@ unfolding strictly_rising
 rising_fault [] k l e = absurd (omega arith)
 rising_fault (x ∷ []) k l e = absurd (omega arith)
 rising_fault (x ∷ y ∷ ys) zero l e = ap (λ (b : Bool). b && strictly_rising (y ∷ ys)) e
-rising_fault (x ∷ y ∷ ys) (suc k) l e = rw (rising_fault (y ∷ ys) k (omega arith) e) (and_no (ltb x y))
-  where
-    and_no : (a : Bool) → (a && false) ≡ false
-    and_no true = refl
-    and_no false = refl
+rising_fault (x ∷ y ∷ ys) (suc k) l e = rw (rising_fault (y ∷ ys) k (omega arith) e) (and-false (ltb x y))
 
 pub rising_is : (xs : List ℕ) (r : Bool) → IsAllAdjacentAnswer (λ x y b. b ≡ ltb x y) xs r → r ≡ strictly_rising xs
 rising_is xs true h = sym (rising_all xs (λ k l. sym (rw add-one at (h k 0 (omega arith)))))

@@ -1,6 +1,6 @@
 -- The refusals 5 to 8 of a notice one by one, by the answers of the code's tests. Assumes nothing.
 use mathlib.Core.Path.{◌≡◌, refl, sym, ap, ◌∙◌}
-use mathlib.Core.Bool.{Bool, true, false, cond, not, ◌&&◌, ◌||◌}
+use mathlib.Core.Bool.{Bool, true, false, cond, not, ◌&&◌, ◌||◌, not-not}
 use mathlib.Core.List.{List, [], ◌∷◌}
 use Prim.Native.Nat.{ℕ, suc, ◌*◌}
 use native.Mathlib.Omega.{arith}
@@ -35,10 +35,6 @@ pub lonely_first : (W : ℕ) (members ns : List ℕ) {r : Bool} → length ns �
     → not r ≡ (is_empty ns && ltb 0 (length (vertices (network_of W members []))))
 unfolding is_empty network_of
 lonely_first W members [] n e = ap not e ∙ not-not (anyb (row_bit W members) (range (64 * W))) ∙ sym (filter_some (row_bit W members) (range (64 * W)))
-  where
-    not-not : (b : Bool) → not (not b) ≡ b
-    not-not true = refl
-    not-not false = refl
 lonely_first W members (x ∷ xs) n e = absurd (omega arith)
 
 -- ---- each refusal, by its test and those before it

@@ -1,7 +1,7 @@
 -- What sets of members are linked to, four words at a time, and the hops that they get: nobody, one member, one set after another. Assumes nothing.
 use mathlib.Core.Path.{◌≡◌, refl, sym, ap, ◌∙◌, subst}
 use mathlib.Core.Logic.{◌⊎◌, inl, inr}
-use mathlib.Core.Bool.{Bool, true, false, cond, ◌&&◌, ◌||◌}
+use mathlib.Core.Bool.{Bool, true, false, cond, ◌&&◌, ◌||◌, and-false, or-false, or_assoc}
 use mathlib.Core.List.{List, Memᴰ}
 use Prim.Native.Nat.{ℕ, ◌+◌, ◌*◌, ◌^◌, ◌≤◌, ◌<◌}
 use native.Mathlib.Nat.{mul-add}
@@ -23,10 +23,6 @@ use Rattle.rows.proofs.Written.{table_word}
 use Rattle.frontier.specs.declared.Four.{Four}
 use Rattle.frontier.specs.Steps.{hop_set, link_word, Reached, reached, reach_set, AreWords, put_word}
 
-pub or_false : (b : Bool) → (b || false) ≡ b
-or_false true = refl
-or_false false = refl
-
 -- ---- four words and the hops
 
 abbrev pub four : ℕ → ℕ → ℕ → ℕ → Four
@@ -43,14 +39,10 @@ side_ext p q r s t = rw (p, q, r, s, t)
 module _ (W : ℕ) (links : List ℕ) (x v j : ℕ) (fits : x < 2 ^ 64) where
   past : W ≤ j → (b : ℕ) → table_bit W links v (64 * j + b) ≡ false
   unfolding table_bit
-  past h b = rw (le-ltb (64 * j + b) (64 * W) (omega arith), none (ltb v (64 * W)))
-    where
-      none : (a : Bool) → (a && false) ≡ false
-      none true = refl
-      none false = refl
+  past h b = rw (le-ltb (64 * j + b) (64 * W) (omega arith), and-false (ltb v (64 * W)))
 
   pub with_none : W ≤ j → x ≡ word_of 64 (λ b. bit x b || table_bit W links v (64 * j + b))
-  with_none h = word_is 64 x (λ b. bit x b || table_bit W links v (64 * j + b)) fits (λ b l. sym (ap (λ (t : Bool). bit x b || t) (past h b) ∙ or_false (bit x b)))
+  with_none h = word_is 64 x (λ b. bit x b || table_bit W links v (64 * j + b)) fits (λ b l. sym (ap (λ (t : Bool). bit x b || t) (past h b) ∙ or-false (bit x b)))
 
   with_more : v < 64 * W → j < W → get_or links (W * v + j) 0 < 2 ^ 64
       → bit_or x (get_or links (W * v + j) 0) ≡ word_of 64 (λ b. bit x b || table_bit W links v (64 * j + b))
@@ -142,7 +134,7 @@ module _ (W : ℕ) (links : List ℕ) (k : ℕ) where
 
   word_none : (j x : ℕ) → x < 2 ^ 64 → x ≡ link_word W links (λ u. false) j x
   unfolding link_word
-  word_none j x fits = word_is 64 x (λ b. bit x b || linked_to (λ u. false) (64 * j + b)) fits (λ b l. sym (ap (λ (t : Bool). bit x b || t) (linked_none (64 * j + b)) ∙ or_false (bit x b)))
+  word_none j x fits = word_is 64 x (λ b. bit x b || linked_to (λ u. false) (64 * j + b)) fits (λ b l. sym (ap (λ (t : Bool). bit x b || t) (linked_none (64 * j + b)) ∙ or-false (bit x b)))
 
   pub word_one : (j x y v : ℕ) → v < 64 * W → y ≡ word_of 64 (λ b. bit x b || table_bit W links v (64 * j + b)) → y ≡ link_word W links (λ u. eqb u v) j x
   unfolding link_word
@@ -158,10 +150,6 @@ module _ (W : ℕ) (links : List ℕ) (k : ℕ) where
     where
       f : ℕ → Bool
       f b = bit x b || linked_to S (64 * j + b)
-
-      or_assoc : (a b c : Bool) → ((a || b) || c) ≡ (a || (b || c))
-      or_assoc true b c = refl
-      or_assoc false b c = refl
 
   word_lt : (S : ℕ → Bool) (j x : ℕ) → link_word W links S j x < 2 ^ 64
   unfolding link_word

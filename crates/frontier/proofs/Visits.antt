@@ -1,7 +1,7 @@
 -- The loops of a visit: over the set bits of a word, the words of a layer, and the fours of a row. Assumes nothing.
 use mathlib.Core.Path.{◌≡◌, refl, sym, ap, ap₂, ◌∙◌}
 use mathlib.Core.Logic.{◌≢◌, ◌⊎◌, inl, inr}
-use mathlib.Core.Bool.{Bool, true, false, cond, not, ◌&&◌, ◌||◌}
+use mathlib.Core.Bool.{Bool, true, false, cond, not, ◌&&◌, ◌||◌, or-false, or_self, and-not_self}
 use mathlib.Core.List.{List}
 use Prim.Native.Nat.{ℕ, ◌+◌, ◌*◌, ◌/◌, ◌%◌, ◌≤◌, ◌<◌}
 use native.Mathlib.Nat.{lt_irrefl}
@@ -23,7 +23,7 @@ use Rattle.frontier.specs.declared.Four.{Four}
 use Rattle.frontier.specs.declared.Visit.{Visit}
 use Rattle.frontier.specs.Steps.{reaches, hop_set, link_word, Reached, reached, reach_set, AreWords, no_words, put_word, visited, visit_of}
 use Rattle.frontier.specs.Visits.{IsSameVisit, Goes}
-use Rattle.frontier.proofs.Links.{or_false, put_here, put_past, linked_to, hop_ext, hop_both}
+use Rattle.frontier.proofs.Links.{put_here, put_past, linked_to, hop_ext, hop_both}
 use Rattle.frontier.proofs.Goes.{same_visit, same_after, goes_none, goes_ext, goes_both, goes_fits, goes_as}
 
 module _ (j : ℕ) where
@@ -38,12 +38,8 @@ module _ (j : ℕ) where
     pub bits_start : (v : Visit) (from : Four) → AreWords from → BitsVisited v from v from word
     bits_start v from i = record {
       inside = λ b h e. e;
-      went = goes_ext j (λ u. false) (λ u. in_word w word u && not (in_word w word u)) (goes_none j v from i) (λ u h. sym (and_not (in_word w word u)));
+      went = goes_ext j (λ u. false) (λ u. in_word w word u && not (in_word w word u)) (goes_none j v from i) (λ u h. sym (and-not_self (in_word w word u)));
     }
-      where
-        and_not : (b : Bool) → (b && not b) ≡ false
-        and_not true = refl
-        and_not false = refl
 
     -- the least bit is visited, and leaves
     module _ (x y b : ℕ) (l : IsLeast x b) (d : WithoutLeast x y) where
@@ -129,7 +125,7 @@ module _ (j : ℕ) where
       where
         go : (u < 64 * w) ⊎ (64 * w ≤ u) → (u < 64 * (w + 1)) ⊎ (64 * (w + 1) ≤ u)
             → ((ltb u (64 * w) && row_bit W layer u) || in_word w (get_or layer w 0) u) ≡ (ltb u (64 * (w + 1)) && row_bit W layer u)
-        go (inl a) c = rw (lt-ltb u (64 * w) a, lt-ltb u (64 * (w + 1)) (omega arith), ne_eqb (u / 64) w (λ q. lt_irrefl u (omega arith))) (or_false (row_bit W layer u))
+        go (inl a) c = rw (lt-ltb u (64 * w) a, lt-ltb u (64 * (w + 1)) (omega arith), ne_eqb (u / 64) w (λ q. lt_irrefl u (omega arith))) (or-false (row_bit W layer u))
         go (inr a) (inl c) =
             let q : u / 64 ≡ w = omega arith in
             rw (le-ltb u (64 * w) a, lt-ltb u (64 * (w + 1)) c, eq-eqb (u / 64) w q)
@@ -211,11 +207,7 @@ module _ (W : ℕ) (links : List ℕ) (k : ℕ) where
     stored i x e = e ∙ word_of_ext 64 (λ b. bit 0 b || linked_to W links k (row_bit W layer) (64 * i + b)) (λ b. linked_to W links k (row_bit W layer) (64 * i + b)) (λ b l. ap (λ (t : Bool). t || linked_to W links k (row_bit W layer) (64 * i + b)) (bit_of_zero b))
 
     again : (hops : List ℕ) → hop_set W k (row_bit W layer) (hop_set W k (row_bit W layer) hops) ≡ hop_set W k (row_bit W layer) hops
-    again hops = hop_both W links k (row_bit W layer) (row_bit W layer) hops ∙ hop_ext W links k (λ u. row_bit W layer u || row_bit W layer u) (row_bit W layer) hops (λ u l. twice (row_bit W layer u))
-      where
-        twice : (b : Bool) → (b || b) ≡ b
-        twice true = refl
-        twice false = refl
+    again hops = hop_both W links k (row_bit W layer) (row_bit W layer) hops ∙ hop_ext W links k (λ u. row_bit W layer u || row_bit W layer u) (row_bit W layer) hops (λ u l. or_self (row_bit W layer u))
 
     module _ {next₀ hops₀ next hops : List ℕ} (j : ℕ) (got : Four) (hops' : List ℕ) (I : FoursVisited next₀ hops₀ next hops j)
         (e : reached got hops' ≡ reach_set W links k j (row_bit W layer) (reached no_words hops)) where

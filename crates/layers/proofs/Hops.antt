@@ -1,7 +1,7 @@
 -- The layers of a search over any table: what the hop table after k layers says of the one after k + 1. Assumes nothing.
-use mathlib.Core.Path.{◌≡◌, refl, sym, ap, ◌∙◌}
+use mathlib.Core.Path.{◌≡◌, sym, ap, ◌∙◌}
 use mathlib.Core.Logic.{◌⊎◌, inl, inr}
-use mathlib.Core.Bool.{Bool, true, false, cond, not, ◌&&◌, ◌||◌}
+use mathlib.Core.Bool.{Bool, true, false, cond, not, ◌&&◌, ◌||◌, and-false}
 use mathlib.Core.List.{Memᴰ}
 use Prim.Native.Nat.{ℕ, suc, ◌+◌, ◌-◌, ◌≤◌, ◌<◌}
 use native.Mathlib.Nat.{lt_irrefl}
@@ -63,11 +63,7 @@ module _ (n : ℕ) (adjacent : ℕ → ℕ → Bool) (s : ℕ) where
     fresh_is v = go (place k v (omega arith))
       where
         go : HopCase k v → (near k v && not (ltb (H k v) unreached)) ≡ eqb (H (k + 1) v) (k + 1)
-        go (old l m e) = rw (lt-ltb (H k v) unreached m, ne_eqb (H (k + 1) v) (k + 1) (λ q. omega arith)) (drop_false (near k v))
-          where
-            drop_false : (b : Bool) → (b && false) ≡ false
-            drop_false true = refl
-            drop_false false = refl
+        go (old l m e) = rw (lt-ltb (H k v) unreached m, ne_eqb (H (k + 1) v) (k + 1) (λ q. omega arith)) (and-false (near k v))
         go (new q b e) = rw (b, le-ltb (H k v) unreached (omega arith), eq-eqb (H (k + 1) v) (k + 1) e)
         go (none q b e) = rw (b, ne_eqb (H (k + 1) v) (k + 1) (λ p. omega arith))
 
