@@ -2,9 +2,9 @@
 use mathlib.Core.Path.{◌≡◌, refl, ap, ◌∙◌}
 use mathlib.Core.Bool.{Bool, not}
 use mathlib.Core.List.{List, [], ◌∷◌}
-use Prim.Native.Nat.{ℕ, zero, suc, ◌≤◌, ◌<◌}
+use Prim.Native.Nat.{ℕ, zero, suc, ◌≤◌}
 use lib.ListN.{length, get_or}
-use borrow.Author.Tests.{lt-ltb, le-ltb}
+use borrow.Author.Tests.{le-ltb}
 use Rattle.lists.specs.Lists.{first_of}
 use Rattle.graph.specs.Distance.{connected}
 use Rattle.map.specs.Room.{Tables, Lent, sizes_of, long_enough}
@@ -15,7 +15,7 @@ use Rattle.search.specs.SearchCall.{Found, SearchLeft, search_left, search_sizes
 use Rattle.reckon.specs.ReckonCall.{Reckoned, ReckonLeft, reckon_left, reckon_refusal, figured_by, reckon_given, reckon_call}
 use Rattle.reckon.proofs.Reckons.{granted_tests}
 use Rattle.c_values.specs.Words.{record_words, record_of, words_of, clamped_of}
-use Rattle.c_maps.specs.Outs.{EmptyOut, emptied_out, empty_from, empty_out, SearchOut, searched_out, search_from, search_out, ReckonOut, reckoned_out, reckon_from, reckon_out}
+use Rattle.c_maps.specs.Outs.{EmptyOut, empty_from, empty_out, SearchOut, search_from, search_out, ReckonOut, reckon_from, reckon_out}
 use Rattle.c_values.proofs.Clamps.{network_in, links_clamp, links_first_clamp, number_fits}
 use Rattle.lent_map.specs.Faults.{lent_faults, lent_refusal}
 
@@ -24,10 +24,6 @@ use Rattle.lent_map.specs.Faults.{lent_faults, lent_refusal}
 module _ (l links pairs : List ℕ) where
   abbrev emptied : EmptyLeft → EmptyOut
   emptied x = empty_from x.answer x l
-
-  pub empty_short : length l < record_words → emptied_out 1 l links pairs ≡ empty_out l links pairs
-  unfolding empty_out
-  empty_short e = rw (lt-ltb (length l) record_words e)
 
   -- the old record does not matter
   empty_clamp : emptied (empty_call base (clamped_of l) links pairs) ≡ emptied (empty_call base (record_of l) links pairs)
@@ -52,10 +48,6 @@ module _ (l links pairs : List ℕ) where
 module _ (l links : List ℕ) (B : Tables) (old old_depth code : ℕ) where
   abbrev found : SearchLeft → SearchOut
   found x = search_from x.answer x.lent old old_depth
-
-  pub search_short : length l < record_words → searched_out 1 old old_depth B ≡ search_out l links B old old_depth code
-  unfolding search_out
-  search_short e = rw (lt-ltb (length l) record_words e)
 
   -- a number that is too large is spoilt, as the largest one is; the figures do not matter
   search_clamp : search_call base (clamped_of l) links B code ≡ search_call base (record_of l) links B code
@@ -84,10 +76,6 @@ module _ (l links : List ℕ) (B : Tables) (old old_depth code : ℕ) where
 module _ (l links : List ℕ) (B : Lent) (old : ℕ) where
   abbrev reckoned : ReckonLeft → ReckonOut
   reckoned x = reckon_from x.reckoned.answer x l old
-
-  pub reckon_short : length l < record_words → reckoned_out 1 l old B ≡ reckon_out l links B old
-  unfolding reckon_out
-  reckon_short e = rw (lt-ltb (length l) record_words e)
 
   refusal_clamp : reckon_refusal base (clamped_of l) links (sizes_of links B) ≡ reckon_refusal base (record_of l) links (sizes_of links B)
   unfolding reckon_refusal lent_refusal lent_faults clamped_of record_of

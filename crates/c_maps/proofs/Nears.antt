@@ -2,10 +2,10 @@
 use mathlib.Core.Path.{◌≡◌, ap, ◌∙◌}
 use mathlib.Core.Bool.{not, ◌&&◌}
 use mathlib.Core.List.{List, [], ◌∷◌}
-use Prim.Native.Nat.{ℕ, zero, suc, ◌≤◌, ◌<◌}
+use Prim.Native.Nat.{ℕ, zero, suc, ◌≤◌}
 use lib.Dec.{leb}
 use lib.ListN.{length}
-use borrow.Author.Tests.{lt-ltb, le-ltb}
+use borrow.Author.Tests.{le-ltb}
 use Rattle.lists.specs.Lists.{anyb}
 use Rattle.map.specs.Room.{Tables, long_enough}
 use Rattle.map.specs.Memory.{base, places}
@@ -15,17 +15,13 @@ use Rattle.nearby.specs.WithinCall.{within_refusal, Listing, WithinLeft, within_
 use Rattle.nearby.specs.NearestCall.{nearest_refusal, Closest, NearestLeft, nearest_left, nearest_given, nearest_call}
 use Rattle.c_values.specs.Words.{record_words, record_of, clamped_of}
 use Rattle.c_values.proofs.Clamps.{network_in, links_first_clamp}
-use Rattle.c_maps.specs.Nears.{ListedOut, listed_out, within_from, within_out, ChosenOut, chosen_out, closest_from, nearest_out}
+use Rattle.c_maps.specs.Nears.{ListedOut, within_from, within_out, ChosenOut, closest_from, nearest_out}
 
 -- ---- the depots within k handovers
 
 module _ (l links : List ℕ) (B : Tables) (codes : List ℕ) (old code k : ℕ) where
   abbrev listing_out : WithinLeft → ListedOut
   listing_out x = within_from x.answer x.lent x.codes old
-
-  pub within_short_out : length l < record_words → listed_out 1 old B codes ≡ within_out l links B codes old code k
-  unfolding within_out
-  within_short_out e = rw (lt-ltb (length l) record_words e)
 
   -- a number that is too large is spoilt, as the largest one is; the figures do not matter
   within_clamp_out : within_call base (clamped_of l) links B codes code k ≡ within_call base (record_of l) links B codes code k
@@ -56,10 +52,6 @@ module _ (l links : List ℕ) (B : Tables) (codes : List ℕ) (old code k : ℕ)
 module _ (l links : List ℕ) (B : Tables) (old old_distance code : ℕ) (listed : List ℕ) where
   abbrev choice_out : NearestLeft → ChosenOut
   choice_out x = closest_from x.answer x.lent old old_distance
-
-  pub nearest_short_out : length l < record_words → chosen_out 1 old old_distance B ≡ nearest_out l links B old old_distance code listed
-  unfolding nearest_out
-  nearest_short_out e = rw (lt-ltb (length l) record_words e)
 
   nearest_clamp_out : nearest_call base (clamped_of l) links B code listed ≡ nearest_call base (record_of l) links B code listed
   unfolding nearest_call nearest_given nearest_refusal clamped_of record_of

@@ -2,10 +2,10 @@
 use mathlib.Core.Path.{◌≡◌, ap, ◌∙◌}
 use mathlib.Core.Bool.{◌&&◌}
 use mathlib.Core.List.{List, [], ◌∷◌}
-use Prim.Native.Nat.{ℕ, zero, suc, ◌≤◌, ◌<◌}
+use Prim.Native.Nat.{ℕ, zero, suc, ◌≤◌}
 use lib.Dec.{leb, ltb}
 use lib.ListN.{length}
-use borrow.Author.Tests.{lt-ltb, le-ltb}
+use borrow.Author.Tests.{le-ltb}
 use Rattle.lists.specs.Lists.{countb}
 use Rattle.graph.specs.Network.{delivers}
 use Rattle.graph.specs.Distance.{vertices}
@@ -16,15 +16,11 @@ use Rattle.search.specs.SearchCall.{search_sizes}
 use Rattle.summary.specs.SummaryCall.{summary_refusal, Summing, SummaryLeft, summary_left, summary_given, summary_call}
 use Rattle.c_values.specs.Words.{record_words, record_of, clamped_of}
 use Rattle.c_values.proofs.Clamps.{network_in, links_first_clamp}
-use Rattle.c_maps.specs.Summaries.{FourNumbers, SummaryOut, summed_out, summary_from, summary_out}
+use Rattle.c_maps.specs.Summaries.{FourNumbers, SummaryOut, summary_from, summary_out}
 
 module _ (l links : List ℕ) (B : Tables) (counts : List ℕ) (old : FourNumbers) where
   abbrev report_out : SummaryLeft → SummaryOut
   report_out x = summary_from x.answer x.lent x.counts old
-
-  pub summary_short_out : length l < record_words → summed_out 1 old B counts ≡ summary_out l links B counts old
-  unfolding summary_out
-  summary_short_out e = rw (lt-ltb (length l) record_words e)
 
   -- a number that is too large is spoilt, as the largest one is; the figures do not matter
   summary_clamp_out : summary_call base (clamped_of l) links B counts ≡ summary_call base (record_of l) links B counts

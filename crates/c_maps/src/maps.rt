@@ -7,6 +7,7 @@ use map::{Room, Scratch};
 use outcome::Refusal;
 
 // Empties a map. 0; or 1 (short).
+#[tactic(auto, unfolding(crate::specs::Outs::empty_out))]
 #[unsafe(no_mangle)]
 pub extern "C" fn zorpedi_empty(words: &mut [u64], links: &mut [u64], pairs: &mut [u64]) -> u8
     ensures { emptied_out result words.new links.new pairs.new
@@ -27,6 +28,7 @@ pub extern "C" fn zorpedi_empty(words: &mut [u64], links: &mut [u64], pairs: &mu
 
 // The search from a depot. 0, its eccentricity, which is to depots that deliver, and its depth, the distance of the last layer, which is of all open
 // depots; or 1 (short), 2 (spoilt), 3 (apart), 4 (absent).
+#[tactic(auto, unfolding(crate::specs::Outs::search_out))]
 #[unsafe(no_mangle)]
 pub extern "C" fn zorpedi_search(
     words: &[u64],
@@ -59,6 +61,7 @@ pub extern "C" fn zorpedi_search(
 }
 
 // The whole reckoning. 0, and the number of searches; or 1 (short), 2 (spoilt), 3 (apart).
+#[tactic(auto, unfolding(crate::specs::Outs::reckon_out))]
 #[unsafe(no_mangle)]
 pub extern "C" fn zorpedi_reckon(
     words: &mut [u64],

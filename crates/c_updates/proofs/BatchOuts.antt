@@ -2,10 +2,10 @@
 use mathlib.Core.Path.{◌≡◌, refl, ap, ap₂, ◌∙◌}
 use mathlib.Core.Bool.{Bool, not, ◌&&◌}
 use mathlib.Core.List.{List, ◌∷◌}
-use Prim.Native.Nat.{ℕ, zero, suc, ◌≤◌, ◌<◌}
+use Prim.Native.Nat.{ℕ, zero, suc, ◌≤◌}
 use lib.Dec.{leb}
 use lib.ListN.{length, get_or}
-use borrow.Author.Tests.{lt-ltb, le-ltb}
+use borrow.Author.Tests.{le-ltb}
 use Rattle.lists.specs.Lists.{first_of}
 use Rattle.graph.specs.Distance.{vertices, connected}
 use Rattle.rows.specs.Rows.{table_bit}
@@ -26,10 +26,6 @@ module _ (l links : List ℕ) (B : Lent) (left : List ℕ) (old : ℕ) (lines : 
 
   abbrev first : Record → ℕ
   first rec = batch_refusal base rec links B.pairs (sizes_of links B) (length left) lines
-
-  pub batch_short : length l < record_words → batched_out 1 l old links B left ≡ batch_out l links B left old lines
-  unfolding batch_out
-  batch_short e = rw (lt-ltb (length l) record_words e)
 
   -- a figure that is too large is spoilt, as the largest one is
   batch_refusal_clamp : first (clamped_of l) ≡ first (record_of l)

@@ -1,12 +1,12 @@
 -- WHAT OPENING AND LINK LEAVE, way out by way out. Assumes nothing.
-use mathlib.Core.Path.{◌≡◌, refl, sym, ap, ap₂, ◌∙◌}
+use mathlib.Core.Path.{◌≡◌, refl, ap, ap₂, ◌∙◌}
 use mathlib.Core.Bool.{Bool, not, ◌&&◌}
 use mathlib.Core.List.{List, ◌∷◌}
-use Prim.Native.Nat.{ℕ, zero, suc, ◌≤◌, ◌<◌}
+use Prim.Native.Nat.{ℕ, zero, suc, ◌≤◌}
 use lib.ListN.{length, get_or}
-use borrow.Author.Tests.{lt-ltb, le-ltb, not-false}
+use borrow.Author.Tests.{le-ltb, not-false}
 use Rattle.std.proofs.lemmas.Bool.{and_parts}
-use Rattle.lists.specs.Lists.{overwrite, first_of}
+use Rattle.lists.specs.Lists.{first_of}
 use Rattle.lists.proofs.Members.{first_zero}
 use Rattle.graph.specs.Distance.{connected}
 use Rattle.graph.specs.Updates.{Update, update_faults}
@@ -15,37 +15,18 @@ use Rattle.map.specs.Room.{Lent, sizes_of, long_enough}
 use Rattle.map.specs.Memory.{base}
 use Rattle.checks.specs.Sound.{sound_links, sound_figures}
 use Rattle.map.specs.declared.Record.{Record}
-use Rattle.outcome.specs.Outcome.{letter_of}
-use Rattle.outcome.specs.declared.Change.{Change}
-use Rattle.outcome.specs.declared.Outcome.TheVariants.{Accepted, Refused}
 use Rattle.update.specs.UpdateCall.{UpdateLeft, update_left, update_refusal, update_given, update_call}
 use Rattle.update.specs.declared.Returned.{Returned}
-use Rattle.c_values.specs.Words.{record_words, record_of, words_of, clamped_of}
+use Rattle.c_values.specs.Words.{record_words, record_of, clamped_of}
 use Rattle.c_updates.specs.UpdateOuts.{Handed, handed, handed_by, UpdateOut, updated_out, update_from, update_out}
 use Rattle.c_values.proofs.Clamps.{network_in, links_clamp, figures_clamp, number_fits, figures-fit}
 use Rattle.lent_map.specs.Faults.{lent_faults}
-
--- ---- what is handed over
-
--- an outcome that was accepted, and one that was refused
-pub handed-done : (got : Returned) (l : List ℕ) (old : ℕ) {c : Change} {r : ℕ} {l' : List ℕ} → got.report.outcome ≡ Accepted c → r ≡ letter_of got.report.outcome → l' ≡ overwrite (words_of got.after) l
-    → handed r l' got.report.searches ≡ handed_by got.report.outcome got l old
-unfolding handed_by
-handed-done got l old e q w = ap₂ (λ (x : ℕ) (y : List ℕ). handed x y got.report.searches) (q ∙ ap letter_of e) w ∙ sym (ap (λ (x : _). handed_by x got l old) e)
-
-pub handed_refused : (got : Returned) (l : List ℕ) (old : ℕ) {k : ℕ} → got.report.outcome ≡ Refused k → handed k l old ≡ handed_by got.report.outcome got l old
-unfolding handed_by
-handed_refused got l old e = sym (ap (λ (x : _). handed_by x got l old) e)
 
 -- ---- the call
 
 module _ (l links : List ℕ) (B : Lent) (o : Update) (old : ℕ) where
   abbrev gives : UpdateLeft → UpdateOut
   gives x = update_from x l old
-
-  pub update_short : length l < record_words → updated_out 1 l old links B ≡ update_out l links B o old
-  unfolding update_out
-  update_short e = rw (lt-ltb (length l) record_words e)
 
   refusal-clamp : update_refusal base (clamped_of l) links B.pairs (sizes_of links B) o ≡ update_refusal base (record_of l) links B.pairs (sizes_of links B) o
   unfolding update_refusal lent_faults clamped_of record_of

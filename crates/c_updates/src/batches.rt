@@ -7,6 +7,7 @@ use map::Room;
 use outcome::Refusal;
 
 // Openings by up to 64 notice lines. 0, and how many lines are left over; or 1 (short), 2 (spoilt), 3 (apart), 11 (overfull), 12 (bare), 9 (garbled).
+#[tactic(auto, unfolding(crate::specs::BatchOuts::batch_out))]
 #[unsafe(no_mangle)]
 pub extern "C" fn zorpedi_open_batch(
     words: &mut [u64],

@@ -13,6 +13,7 @@ use outcome::{Outcome, Refusal};
 use update::Returned;
 
 // Hands what an update gave to its caller: the letter, and then record and number of searches are written; or the number of the refusal.
+#[tactic(auto, unfolding(crate::specs::UpdateOuts::handed_by))]
 fn hand_over(words: &mut [u64], searches: &mut u16, got: Returned) -> u8
     requires { record_words ≤ length words.old }
     ensures { handed result words.new searches.new ≡ handed_by got.report.outcome got words.old searches.old }
@@ -30,6 +31,7 @@ fn hand_over(words: &mut [u64], searches: &mut u16, got: Returned) -> u8
 }
 
 // The opening of a depot, or of a yard.
+#[tactic(auto, unfolding(crate::specs::UpdateOuts::update_out))]
 fn open_depot(
     words: &mut [u64],
     links: &mut [u64],
@@ -126,6 +128,7 @@ pub extern "C" fn zorpedi_open_yard(
 }
 
 // The link of two open depots. 75 (K, kept) or 83 (S, shrank), and the number of searches; or the number of the refusal.
+#[tactic(auto, unfolding(crate::specs::UpdateOuts::update_out))]
 #[unsafe(no_mangle)]
 pub extern "C" fn zorpedi_link(
     words: &mut [u64],

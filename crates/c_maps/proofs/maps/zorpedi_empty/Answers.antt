@@ -1,10 +1,7 @@
 -- `c_maps::maps::zorpedi_empty` meets its contract: short, done or refused, as the call that it wraps.
 use Rattle.c_maps.specs.Outs.{empty_from}
-use Rattle.c_maps.proofs.Answers.{empty_short, empty_called}
+use Rattle.c_maps.proofs.Answers.{empty_called}
 use Rattle.c_maps.proofs.maps.zorpedi_empty.Goals as goal
-
-pub returns-then-words-lt-RECORD_WORDS : goal.returns-then-words-lt-RECORD_WORDS
-returns-then-words-lt-RECORD_WORDS c = rw c.number.ensures (empty_short _ _ _ c.if-words-lt-RECORD_WORDS.true)
 
 pub returns-in-Ok : goal.returns-in-Ok
 unfolding empty_from

@@ -2,11 +2,8 @@
 use borrow.Author.Rules.{rules}
 use Rattle.c_values.proofs.Lent.{same_lent}
 use Rattle.c_maps.specs.Outs.{reckon_from}
-use Rattle.c_maps.proofs.Answers.{reckon_short, reckon_called}
+use Rattle.c_maps.proofs.Answers.{reckon_called}
 use Rattle.c_maps.proofs.maps.zorpedi_reckon.Goals as goal
-
-pub returns-then-words-lt-RECORD_WORDS : goal.returns-then-words-lt-RECORD_WORDS
-returns-then-words-lt-RECORD_WORDS c = rw c.number.ensures (reckon_short _ _ _ _ c.if-words-lt-RECORD_WORDS.true)
 
 pub returns-in-Ok : goal.returns-in-Ok
 unfolding reckon_from

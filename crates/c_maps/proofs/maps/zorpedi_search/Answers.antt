@@ -2,11 +2,8 @@
 use borrow.Author.Rules.{rules}
 use Rattle.rounds.proofs.Turns.{same_tables}
 use Rattle.c_maps.specs.Outs.{search_from}
-use Rattle.c_maps.proofs.Answers.{search_short, search_called}
+use Rattle.c_maps.proofs.Answers.{search_called}
 use Rattle.c_maps.proofs.maps.zorpedi_search.Goals as goal
-
-pub returns-then-words-lt-RECORD_WORDS : goal.returns-then-words-lt-RECORD_WORDS
-returns-then-words-lt-RECORD_WORDS c = rw c.number.ensures (search_short _ _ _ _ _ _ c.if-words-lt-RECORD_WORDS.true)
 
 pub returns-in-Ok : goal.returns-in-Ok
 unfolding search_from

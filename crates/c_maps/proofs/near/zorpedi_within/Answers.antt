@@ -2,11 +2,8 @@
 use borrow.Author.Rules.{rules}
 use Rattle.rounds.proofs.Turns.{same_tables}
 use Rattle.c_maps.specs.Nears.{within_from}
-use Rattle.c_maps.proofs.Nears.{within_short_out, within_called}
+use Rattle.c_maps.proofs.Nears.{within_called}
 use Rattle.c_maps.proofs.near.zorpedi_within.Goals as goal
-
-pub returns-then-words-lt-RECORD_WORDS : goal.returns-then-words-lt-RECORD_WORDS
-returns-then-words-lt-RECORD_WORDS c = rw c.number.ensures (within_short_out _ _ _ _ _ _ _ c.if-words-lt-RECORD_WORDS.true)
 
 pub returns-in-Ok : goal.returns-in-Ok
 unfolding within_from

@@ -2,11 +2,8 @@
 use borrow.Author.Rules.{rules}
 use Rattle.rounds.proofs.Turns.{same_tables}
 use Rattle.c_maps.specs.Summaries.{summary_from}
-use Rattle.c_maps.proofs.Summaries.{summary_short_out, summary_called}
+use Rattle.c_maps.proofs.Summaries.{summary_called}
 use Rattle.c_maps.proofs.summing.zorpedi_summary.Goals as goal
-
-pub returns-then-words-lt-RECORD_WORDS : goal.returns-then-words-lt-RECORD_WORDS
-returns-then-words-lt-RECORD_WORDS c = rw c.number.ensures (summary_short_out _ _ _ _ _ c.if-words-lt-RECORD_WORDS.true)
 
 pub returns-in-Ok : goal.returns-in-Ok
 unfolding summary_from

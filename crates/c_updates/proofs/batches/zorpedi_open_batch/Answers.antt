@@ -2,11 +2,8 @@
 use borrow.Author.Rules.{rules}
 use Rattle.c_values.proofs.Lent.{same_lent}
 use Rattle.c_updates.specs.BatchOuts.{batch_from}
-use Rattle.c_updates.proofs.BatchOuts.{batch_short, batch_called, batch_lent}
+use Rattle.c_updates.proofs.BatchOuts.{batch_called, batch_lent}
 use Rattle.c_updates.proofs.batches.zorpedi_open_batch.Goals as goal
-
-pub returns-then-words-lt-RECORD_WORDS : goal.returns-then-words-lt-RECORD_WORDS
-returns-then-words-lt-RECORD_WORDS c = rw c.number.ensures (batch_short _ _ _ _ _ _ c.if-words-lt-RECORD_WORDS.true)
 
 pub returns-in-Ok : goal.returns-in-Ok
 unfolding batch_from

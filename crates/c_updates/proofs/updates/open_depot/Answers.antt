@@ -1,10 +1,7 @@
 -- `c_updates::updates::open_depot` meets its contract: short, or the call that it wraps, handed over.
-use Rattle.c_updates.proofs.UpdateOuts.{update_short, update_done}
+use Rattle.c_updates.proofs.UpdateOuts.{update_done}
 use Rattle.c_updates.proofs.updates.open_depot.Goals as goal
 
 pub returns-clause-left : goal.returns-clause-left
 returns-clause-left c =
     update_done _ _ _ _ _ c.if-words-lt-RECORD_WORDS.false c.record_of-rec.ensures _ c.open_step-got.ensures.left c.hand_over.ensures
-
-pub returns-then-words-lt-RECORD_WORDS-clause-left : goal.returns-then-words-lt-RECORD_WORDS-clause-left
-returns-then-words-lt-RECORD_WORDS-clause-left c = rw c.number.ensures (update_short _ _ _ _ _ c.if-words-lt-RECORD_WORDS.true)

@@ -1,7 +1,7 @@
 -- `c_updates::updates::zorpedi_link` meets its contract: short, or the call that it wraps, handed over.
 use borrow.Author.Rules.{rules}
 use Rattle.c_values.proofs.Lent.{same_lent}
-use Rattle.c_updates.proofs.UpdateOuts.{update_short, update_done, update_lent}
+use Rattle.c_updates.proofs.UpdateOuts.{update_done, update_lent}
 use Rattle.c_updates.proofs.updates.zorpedi_link.Goals as goal
 
 pub returns : goal.returns
@@ -9,6 +9,3 @@ returns c =
     update_lent
     (update_done _ _ _ _ _ c.if-words-lt-RECORD_WORDS.false c.record_of-rec.ensures _ c.link_step-got.ensures.left c.hand_over.ensures)
     (search (rules, same_lent))
-
-pub returns-then-words-lt-RECORD_WORDS : goal.returns-then-words-lt-RECORD_WORDS
-returns-then-words-lt-RECORD_WORDS c = rw c.number.ensures (update_short _ _ _ _ _ c.if-words-lt-RECORD_WORDS.true)
