@@ -1,6 +1,5 @@
 -- `bounds::relax` meets its contract. The loop's invariant (Relaxing.antt): the codes below v are relaxed, the others as they were.
-use Rattle.bounds.proofs.Relaxing.{relax_none, relax_more, relax_end, relax_thinned}
-use borrow.Author.Rules.{rules}
+use Rattle.bounds.proofs.Relaxing.{relax_none, relax_more}
 use native.Mathlib.Omega.{arith}
 use Rattle.bounds.proofs.relax.Goals as goal
 
