@@ -68,7 +68,7 @@ fn join(
     sum
 }
 
-// ---- the chain shrank
+// ---- the chain shrank. The links that a plan reads and the room are lent apart, so that both are long enough is asked by each function.
 
 // Rounds with the candidate way, whose first reference is the search from a that stands in the tables.
 fn shrink(

@@ -92,7 +92,8 @@ fn open_map(
     Returned { report, after }
 }
 
-// The opening for callers that hold a proved map, whose memory nothing refuses: the same answer without checking it again.
+// The opening for callers that hold a proved map, whose memory nothing refuses: the same answer without checking it again. That is a fact of record, links
+// and room together, which are lent apart.
 #[tactic(auto, using(crate::proofs::Placed::judged, crate::proofs::Placed::called))]
 pub fn open_sound(
     rec: Record,

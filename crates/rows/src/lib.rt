@@ -1,5 +1,6 @@
 // Sets of numbers below 64 * words as rows of words, and tables of such rows. A row or table may stand in a longer buffer, as a rule allows: so each call is
-// told a row's width, `words`, which is a table's stride too. No slice's own length tells it, and a type for it would be taken apart at each index.
+// told a row's width, `words`, which is a table's stride too. No slice's own length tells it, and a type for it would be taken apart at each index. Which codes
+// and words are in range, and how far a row or table has to reach, depends on that number, so each contract says it.
 // What a function ensures of a row or table that it changes is one equation, so that callers rewrite by it.
 
 #![tactic(auto)]

@@ -16,7 +16,8 @@ pub const ROOM: usize = 84;
 // the most files of a run; in specifications `files_limit`
 pub const FILES_LIMIT: u32 = 1000;
 
-// The sums and the pairs of the files so far, added up, and how many files these are.
+// The sums and the pairs of the files so far, added up, and how many files these are. That they are of so many files is no ghost field: the last line takes
+// any totals.
 #[derive(Clone, Copy)]
 pub struct Totals {
     pub sum: u64,
@@ -44,7 +45,7 @@ pub fn files_read(arguments: usize) -> u32
     arguments as u32 - 1
 }
 
-// ---- a line
+// ---- a line: each function asks as much room as it writes, from its place on
 
 // Puts the four numbers of a report and the line's end at a place.
 #[tactic(auto, using(crate::proofs::Lines::widths))]
