@@ -1,6 +1,6 @@
 -- The chain shrank: rounds whose first reference is the finished search from the new depot. Assumes nothing.
 use mathlib.Core.Path.{◌≡◌, refl, sym, ap, ap₂, ◌∙◌, subst}
-use mathlib.Core.Bool.{Bool, true, false, cond, ◌||◌}
+use mathlib.Core.Bool.{Bool, true, false, ◌||◌}
 use mathlib.Core.List.{List}
 use mathlib.Core.Option.{Option, none, some}
 use Prim.Native.Nat.{ℕ, zero, suc, ◌≤◌, ◌<◌}
@@ -18,10 +18,10 @@ use Rattle.map.specs.Room.{Tables, Lent, lent}
 use Rattle.layers.specs.Layers.{search_leaves}
 use Rattle.map.specs.Memory.{Shape, IsShape, places}
 use Rattle.targets.specs.Reach.{Reached}
-use Rattle.pairs.specs.Pairs.{Tally, tally, Counted}
+use Rattle.pairs.specs.Pairs.{Tally, tally}
 use Rattle.bounds.specs.Bounds.{Marks, marks}
 use Rattle.rounds.specs.Leaves.{ran, ran_by, rounds_leave, search_after}
-use Rattle.rounds.specs.Workspace.{Workspace, workspace, Absorbed, absorbed, absorbing, holding, run_of, rounds_begun, rounds_begin_of}
+use Rattle.rounds.specs.Workspace.{Workspace, workspace, Absorbed, absorbed, absorbing, run_of, rounds_begun, rounds_begin_of}
 use Rattle.rounds.specs.Targets.{target_network, AreTargets}
 use Rattle.rounds.proofs.Holding.{Origin, Holds, leaves_over, after_snoc}
 use Rattle.rounds.proofs.Simulation.{Running, running_round, absorb_over}
