@@ -81,8 +81,8 @@ module _ (W : ℕ) (members yards links : List ℕ) (number : ℕ) where
   links_sound_if : AreLinksSound (64 * W) G number → sound_links (64 * W) G number ≡ true
   unfolding sound_links sound_link
   links_sound_if s =
-      and_from _ _ {a = eqb number (countb G.is_open (range (64 * W))) && sound_yards (64 * W) G}
-      (and_from _ _ {a = eqb number (countb G.is_open (range (64 * W)))} (eq-eqb number (countb G.is_open (range (64 * W))) s.counted) (yards_if s.is_sound.yards))
+      and_from (eqb number (countb G.is_open (range (64 * W))) && sound_yards (64 * W) G) _
+      (and_from (eqb number (countb G.is_open (range (64 * W)))) _ (eq-eqb number (countb G.is_open (range (64 * W))) s.counted) (yards_if s.is_sound.yards))
       (all_set_intro (64 * W) G.linked (sound_link G) (λ u v l m e. one u v e))
     where
       one : (u v : ℕ) → G.linked u v ≡ true → sound_link G u v ≡ true
