@@ -3,7 +3,7 @@ use mathlib.Core.Path.{◌≡◌, refl}
 use mathlib.Core.Bool.{Bool, true, false, ◌||◌}
 use Prim.Native.Nat.{ℕ, ◌+◌, ◌≤◌, ◌<◌}
 use lib.Dec.{ltb, leb}
-use borrow.Author.Tests.{ltb-false, leb-false}
+use borrow.Author.Tests.{le-ltb, ltb-false, leb-false}
 use Rattle.lists.proofs.Tests.{clash}
 use Rattle.report.specs.Line.{buffer_limit}
 use Rattle.transcript.specs.Transcript.{lines_limit}
@@ -13,6 +13,10 @@ use Rattle.line_buffer.specs.Lines.{is_stopped}
 or_false : (a b : Bool) → (a || b) ≡ false → (a ≡ false) × (b ≡ false)
 or_false true b e = absurd (clash refl e)
 or_false false b e = (refl, e)
+
+pub stopped_lines : (lines written room : ℕ) → written + buffer_limit ≤ room → leb lines_limit lines ≡ is_stopped lines written room
+unfolding is_stopped
+stopped_lines lines written room l = rw (le-ltb room (written + buffer_limit) l)
 
 -- where it does not stop there is a line to come, and room for its report
 pub going : (lines written room : ℕ) → is_stopped lines written room ≡ false → (lines < lines_limit) × (written + buffer_limit ≤ room)
