@@ -43,6 +43,8 @@ def thinned(path, text):
 def main():
     fix = '--fix' in sys.argv
     paths = glob.glob('crates/**/*.antt', recursive=True) + glob.glob('crates/**/*.rt', recursive=True)
+    # what a check made is no source
+    paths = [path for path in paths if not re.match(r'crates/[^/]+/out/', path)]
     texts = {path: read(path) for path in paths}
     stale = 0
     for path, text in texts.items():
