@@ -4,28 +4,15 @@ use mathlib.Core.Bool.{false}
 use Prim.Native.Nat.{ℕ, ◌+◌, ◌≤◌, ◌<◌}
 use Rattle.std.proofs.lemmas.Bool.{or_parts}
 use lib.Dec.{ltb, leb}
-<<<<<<< HEAD
-use borrow.Author.Tests.{ltb-false, leb-false}
-=======
 use borrow.Author.Tests.{le-ltb, ltb-false, leb-false}
-use Rattle.lists.proofs.Tests.{clash}
->>>>>>> f2adda4688e6ae03990885deeeb892327e44ba24
 use Rattle.report.specs.Line.{buffer_limit}
 use Rattle.transcript.specs.Transcript.{lines_limit}
 use Rattle.line_buffer.specs.Lines.{is_stopped}
-
--- neither test holds
-<<<<<<< HEAD
-=======
-or_false : (a b : Bool) → (a || b) ≡ false → (a ≡ false) × (b ≡ false)
-or_false true b e = absurd (clash refl e)
-or_false false b e = (refl, e)
 
 pub stopped_lines : (lines written room : ℕ) → written + buffer_limit ≤ room → leb lines_limit lines ≡ is_stopped lines written room
 unfolding is_stopped
 stopped_lines lines written room l = rw (le-ltb room (written + buffer_limit) l)
 
->>>>>>> f2adda4688e6ae03990885deeeb892327e44ba24
 -- where it does not stop there is a line to come, and room for its report
 pub going : (lines written room : ℕ) → is_stopped lines written room ≡ false → (lines < lines_limit) × (written + buffer_limit ≤ room)
 unfolding is_stopped

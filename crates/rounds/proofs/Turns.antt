@@ -9,7 +9,6 @@ use native.Mathlib.Nat.{lt_irrefl}
 use native.Mathlib.Omega.{arith}
 use lib.Dec.{ltb}
 use lib.ListN.{length}
-use borrow.Author.Tests.{lt-ltb, le-ltb}
 use Rattle.std.proofs.lemmas.Bool.{cases_Bool, and_parts, cases_eq}
 use Rattle.lists.specs.Lists.{range, filterb, mapl, countb, overwrite}
 use Rattle.lists.proofs.Tests.{clash}
@@ -35,12 +34,6 @@ use Rattle.rounds.proofs.Reaching.{reach_free}
 use Rattle.rounds.proofs.Finish.{cleared_table, count_no_pairs}
 
 -- ---- the leaves
-
-pub raise_higher : (c e : ℕ) → c < e → e ≡ cond (ltb c e) e c
-raise_higher c e l = rw (lt-ltb c e l)
-
-pub raise_same : (c e : ℕ) → e ≤ c → c ≡ cond (ltb c e) e c
-raise_same c e l = rw (le-ltb c e l)
 
 -- ---- a search taken in
 
