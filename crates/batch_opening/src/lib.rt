@@ -70,7 +70,7 @@ fn next_fit(rec: Record, frame: &mut [u8], taken: u64, openings: Openings<'_>) -
     openings.first_fit(&members, frame, map::WORDS, taken)
 }
 
-// Opens the notice that stands in the frame, and marks its line as taken.
+// Opens the notice that stands in the frame, and marks its line as taken. Record, links and room are lent apart, so that nothing refuses them is asked.
 #[tactic(auto, unfolding(batch_update::specs::BatchCall::opening_on))]
 fn take_line(
     progress: BatchProgress,

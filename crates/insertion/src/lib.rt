@@ -36,6 +36,7 @@ pub struct Figures {
 // ---- a call that searched from a alone
 
 // The pairs and marks after it, answering the number of pairs. It takes slices: of a whole room it would have to say besides that hops and rows stay.
+#[tactic(auto, using(crate::proofs::Once::join_is))]
 fn join(
     pairs: &mut [u64],
     bounds: &mut [u16],
@@ -71,6 +72,7 @@ fn join(
 // ---- the chain shrank. The links that a plan reads and the room are lent apart, so that both are long enough is asked by each function.
 
 // Rounds with the candidate way, whose first reference is the search from a that stands in the tables.
+#[tactic(auto, using(rounds::proofs::Turns::begun_counted, ranks::proofs::Ranks::thinned_ranks))]
 fn shrink(
     plan: Plan<'_>,
     room: &mut Room<'_>,
@@ -147,6 +149,7 @@ fn shrink(
 // ---- the whole step
 
 // The figures where what is a's own is not above the chain, without the stale pairs. A yard has nothing of its own: it keeps only a chain that was 0.
+#[tactic(auto, using(stale_pairs::proofs::Theorems::drop_counted, crate::proofs::Cases::equal_is, crate::proofs::Cases::kept_is, crate::proofs::Cases::shrank_is))]
 fn settle_low(
     plan: Plan<'_>,
     room: &mut Room<'_>,

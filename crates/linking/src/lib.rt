@@ -79,7 +79,8 @@ fn link_map(rec: Record, links: &mut [u64], room: &mut Room<'_>, first: u8, seco
     Returned { report, after }
 }
 
-// The link for callers that hold a proved map, whose memory nothing refuses: the same answer without checking it again.
+// The link for callers that hold a proved map, whose memory nothing refuses: the same answer without checking it again. That is a fact of record, links and
+// room together, which are lent apart.
 #[tactic(auto, using(crate::proofs::Joined::judged, crate::proofs::Joined::called))]
 pub fn link_sound(
     rec: Record,

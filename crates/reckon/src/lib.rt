@@ -34,6 +34,7 @@ fn reckon_refusal(rec: Record, links: &[u64], room: &Room<'_>) -> Result<(), Ref
 }
 
 // The whole reckoning of a sound, connected map.
+#[tactic(auto, using(rounds::proofs::Turns::begun_counted))]
 fn reckon_map(plan: Plan<'_>, room: &mut Room<'_>) -> RoundFigures
     requires { AreLong base (room_sizes (length plan.links.now) room.old)
         × IsNet (plan_network base.words plan) }

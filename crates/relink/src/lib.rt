@@ -31,6 +31,7 @@ use targets::Span;
 // ---- the chain is kept
 
 // Whether it is: a pair is left, or it was 0.
+#[tactic(auto, using(crate::proofs::Ends::kept_by_pair, crate::proofs::Ends::kept_at_zero, crate::proofs::Ends::not_kept))]
 fn is_kept(count: u32, chain: u16) -> bool
     ensures { result ≡ (not (eqb count 0) || eqb chain 0) }
 {
@@ -46,6 +47,7 @@ fn is_kept(count: u32, chain: u16) -> bool
 // ---- the chain shrank
 
 // The start of rounds with the candidate way, and the search from low, whose hops stand in near, taken in. Nobody is skipped yet.
+#[tactic(auto, using(rounds::proofs::Turns::begun_counted, crate::proofs::Taking::low_taken_lem, ranks::proofs::Ranks::thinned_ranks))]
 fn take_low(
     plan: Plan<'_>,
     pairs: &mut [u64],
@@ -92,6 +94,7 @@ fn take_low(
 }
 
 // Then the search from high, whose hops stand in far; after it depots are skipped.
+#[tactic(auto, using(crate::proofs::Taking::both_taken_lem, ranks::proofs::Ranks::thinned_ranks))]
 fn take_both(
     plan: Plan<'_>,
     pairs: &mut [u64],
@@ -145,7 +148,7 @@ fn take_both(
 }
 
 // Rounds with the candidate way, whose first two references are the searches from low and from high. The tables of the second stand in the room, and its
-// partners in a row that the rounds then use.
+// partners in a row that the rounds then use. The plan's links and the room are lent apart, so that both are long enough is asked by each function.
 fn shrink(
     plan: Plan<'_>,
     room: &mut Room<'_>,
@@ -209,6 +212,7 @@ fn shrink(
 // ---- the whole step
 
 // The figures by the finished searches of both ends, without the stale pairs.
+#[tactic(auto, using(crate::proofs::Cases::kept_is, crate::proofs::Cases::shrank_is))]
 fn settle(
     plan: Plan<'_>,
     room: &mut Room<'_>,

@@ -81,7 +81,8 @@ pub fn is_empty(row: &[u64], words: usize) -> bool
 
 // ---- a row as a set
 
-// Takes every member out of a row.
+// Takes every member out of a row. (One generic `fill` for words and numbers was tried: nothing is known of what a clone of a `T` is, so that its proof did
+// not close.)
 pub fn clear(row: &mut [u64], words: usize)
     requires { words ≤ length row.old }
     ensures { row.new ≡ overwrite (encode_row words (λ v. false)) row.old }

@@ -153,7 +153,7 @@ fn last_part<'a>(found: Result<Reach, Refusal>, even: &'a [u64], odd: &'a [u64])
 }
 
 // The search with its last layer (rule 3.3): the part of the row that holds it, beside both rows, so that no word is left unsaid. Of a refused call the
-// part is empty.
+// part is empty. The three buffers are lent one by one, since the part is handed back with its lender's lifetime.
 #[tactic(auto, unfolding(crate::specs::SearchCall::rows_of))]
 pub fn search_rows<'a>(
     rec: Record,

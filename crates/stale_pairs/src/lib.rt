@@ -32,7 +32,7 @@ pub struct RowsDropping {
 }
 
 // The way from u to v by the hops of a search, and no more than chain. Two hops may pass 65,535, so they are summed at 32 bits.
-fn way_by(hops: &[u16], u: usize, v: usize, chain: u16) -> u16
+pub fn way_by(hops: &[u16], u: usize, v: usize, chain: u16) -> u16
     requires { (u < length hops.now) × (v < length hops.now) }
     ensures { result ≡ min chain (way_by hops.now u v) }
 {
@@ -46,7 +46,7 @@ fn way_by(hops: &[u16], u: usize, v: usize, chain: u16) -> u16
 }
 
 // The lesser of the ways from u to v by the hops of two searches, and no more than chain.
-fn way_by_either(near: &[u16], far: &[u16], u: usize, v: usize, chain: u16) -> u16
+pub fn way_by_either(near: &[u16], far: &[u16], u: usize, v: usize, chain: u16) -> u16
     requires { (u < length near.now) × (v < length near.now) × (u < length far.now) × (v < length far.now) }
     ensures { result ≡ min chain (way_by_either near.now far.now u v) }
 {
@@ -236,7 +236,8 @@ pub fn drop_stale(pairs: &mut [u64], hops: &[u16], words: usize, chain: u16, tot
     }
 }
 
-// `drop_stale` by two searches: a pair is stale that either shows to be nearer than the chain.
+// `drop_stale` by two searches: a pair is stale that either shows to be nearer than the chain. Each of the two tells `drop_rows` its own way, so that no
+// caller needs a closure.
 #[tactic(auto, using(crate::proofs::StaleTable::below_few, crate::proofs::StaleTable::all_rows))]
 pub fn drop_stale_either(
     pairs: &mut [u64],

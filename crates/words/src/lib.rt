@@ -1,4 +1,4 @@
-// A word of 64 bits as a set of the numbers below 64.
+// A word of 64 bits as a set of the numbers below 64. Its members are walked from the least on, by trailing zeros, as a rule says.
 
 #![tactic(auto)]
 

@@ -7,16 +7,6 @@ use Rattle.map.proofs.Theorems.{base_shape}
 use borrow.Author.Rules.{rules}
 use Rattle.insertion.proofs.refigure.Goals as goal
 
-pub join-own-requires : goal.join-own-requires
-join-own-requires c =
-    let pre = c.requires in (
-      record { positive = omega arith; most = omega arith; table = pre.0.pairs; counted = pre.1.counted },
-      search rules,
-      search rules,
-      pre.2,
-      search rules,
-    )
-
 pub returns-then-chain-span-clause-left : goal.returns-then-chain-span-clause-left
 returns-then-chain-span-clause-left c =
     let pre = c.requires.1 in

@@ -26,15 +26,6 @@ returns-then-left-ne0-clause-left c =
     kept_is base _ _ _ _ _ _ _ pre.3 pre.2.ends pre.5 _ _ _ c.drop_stale-left.ensures c.if-span-chain.false
     c.if-left-ne0.true _ c.mark_once.ensures
 
-pub shrink-got-requires : goal.shrink-got-requires
-shrink-got-requires c =
-    let pre = c.requires in (
-      search rules,
-      pre.1,
-      record { net = pre.3.net; present = pre.3.present; spans = pre.3.spans; stands = pre.3.stands },
-      pre.4,
-    )
-
 pub returns-clause-left : goal.returns-clause-left
 returns-clause-left c =
     let pre = c.requires in

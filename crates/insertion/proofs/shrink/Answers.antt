@@ -4,7 +4,6 @@ use Rattle.map.specs.Memory.{base}
 use Rattle.map.proofs.Theorems.{base_shape}
 use Rattle.rounds.proofs.Turns.{begun_counted, same_marks}
 use Rattle.insertion.proofs.Shrinking.{shrink_is}
-use Rattle.ranks.proofs.Ranks.{thinned_ranks}
 use borrow.Author.Rules.{rules}
 use Rattle.insertion.proofs.shrink.Goals as goal
 
@@ -15,16 +14,6 @@ absorb-first-requires c =
       search rules,
       search rules,
       search rules,
-      search rules,
-    )
-
-pub run_rounds-requires : goal.run_rounds-requires
-run_rounds-requires c =
-    let pre = c.requires in (
-      search rules,
-      c.absorb-first.ensures.counted,
-      search rules,
-      search (thinned_ranks, rules),
       search rules,
     )
 

@@ -5,16 +5,8 @@ use Rattle.std.proofs.lemmas.Result.{err_from_is_err_and}
 use Rattle.outcome.proofs.Numbering.{refuses}
 use Rattle.map.specs.Memory.{base}
 use Rattle.reckon.proofs.Reckons.{granted_long, granted_targets, granted_same, granted_target_net, refused_call, accepted_call}
-use borrow.Author.Rules.{rules}
 use Rattle.map.proofs.Theorems.{base_shape}
 use Rattle.reckon.proofs.reckon_all.Goals as goal
-
-pub slice_bounds-keep_delivering-end-2 : goal.slice_bounds-keep_delivering-end-2
-slice_bounds-keep_delivering-end-2 c = search rules
-
-pub keep_delivering-requires : goal.keep_delivering-requires
-keep_delivering-requires c =
-    (omega arith, omega (arith, slice_bounds-keep_delivering-end-2 c))
 
 pub invariant_of-plan : goal.invariant_of-plan
 invariant_of-plan c =

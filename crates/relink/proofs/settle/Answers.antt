@@ -1,5 +1,4 @@
 -- `relink::settle` meets its contract: each end is one of the network's linking, by the test before it.
-use borrow.Author.Rules.{rules}
 use Rattle.map.specs.Memory.{base}
 use Rattle.relink.proofs.Cases.{kept_is, shrank_is}
 use Rattle.relink.proofs.settle.Goals as goal
@@ -9,18 +8,6 @@ returns-then-is_kept-clause-left c =
     let pre = c.requires in
     kept_is base _ _ _ _ _ _ _ _ _ _ pre.5 pre.1.ends _ _ _ c.drop_stale_either-left.ensures _ c.is_kept.ensures
     c.if-is_kept.true _ c.mark_twice.ensures
-
-pub shrink-got-requires : goal.shrink-got-requires
-shrink-got-requires c =
-    let pre = c.requires in (
-      search rules,
-      pre.2,
-      pre.3,
-      pre.4,
-      pre.5,
-      pre.6,
-      pre.7,
-    )
 
 pub returns-clause-left : goal.returns-clause-left
 returns-clause-left c =
