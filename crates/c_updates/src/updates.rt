@@ -90,7 +90,8 @@ pub extern "C" fn zorpedi_open(
     open_depot(words, links, &mut room, searches, notice)
 }
 
-// The opening of a yard, which makes no chain grow: a call of its own, since C's interface has a name for each kind. 75 (K, kept) or 83 (S, shrank), and the number of searches; or the number of the refusal.
+// The opening of a yard, which makes no chain grow: a call of its own, since C's interface has a name for each kind.
+// 75 (K, kept) or 83 (S, shrank), and the number of searches; or the number of the refusal.
 #[unsafe(no_mangle)]
 pub extern "C" fn zorpedi_open_yard(
     words: &mut [u64],
