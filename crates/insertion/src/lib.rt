@@ -149,7 +149,6 @@ fn shrink(
 // ---- the whole step
 
 // The figures where what is a's own is not above the chain, without the stale pairs. A yard has nothing of its own: it keeps only a chain that was 0.
-#[tactic(auto, using(stale_pairs::proofs::Theorems::drop_counted, crate::proofs::Cases::equal_is, crate::proofs::Cases::kept_is, crate::proofs::Cases::shrank_is))]
 fn settle_low(
     plan: Plan<'_>,
     room: &mut Room<'_>,

@@ -212,7 +212,6 @@ fn shrink(
 // ---- the whole step
 
 // The figures by the finished searches of both ends, without the stale pairs.
-#[tactic(auto, using(crate::proofs::Cases::kept_is, crate::proofs::Cases::shrank_is))]
 fn settle(
     plan: Plan<'_>,
     room: &mut Room<'_>,
