@@ -40,7 +40,7 @@ fn keep_unseen(seen: &[u64], next: &mut [u64], words: usize) -> bool
     for j in 0..words {
         let x = next[j] & !seen[j];
         next[j] = x;
-        all = all | x;
+        all |= x;
     }
     all != 0
 }
@@ -54,7 +54,7 @@ fn pass_on(other: &mut [u64], seen: &mut [u64], next: &[u64], words: usize)
     for j in 0..words {
         let x = next[j];
         other[j] = x;
-        seen[j] = seen[j] | x;
+        seen[j] |= x;
     }
 }
 

@@ -64,7 +64,7 @@ pub fn keep_delivering(members: &mut [u64], yards: &[u64], words: usize)
         members.new ≡ overwrite (encode_row words (delivers G)) members.old }
 {
     for j in 0..words {
-        members[j] = members[j] & !yards[j];
+        members[j] &= !yards[j];
     }
 }
 

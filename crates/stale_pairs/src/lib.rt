@@ -14,7 +14,7 @@ ghost use Rattle.graph.specs.Chart.{count_pairs};
 ghost use Rattle.rows.specs.Rows.{table_bit};
 
 // as many pairs as a count can tell: no table has more
-const MOST: u32 = 4294967295;
+const MOST: u32 = u32::MAX;
 
 // How many pairs stay, and the greatest way of those that were there.
 #[derive(Clone, Copy)]
@@ -94,10 +94,10 @@ fn sift<F: Fn(usize, usize) -> u16>(tell: &F, x: u64, u: usize, first: usize, ch
         }
     }
     Sifted {
-        word: word,
-        gone: gone,
-        kept: kept,
-        way: way,
+        word,
+        gone,
+        kept,
+        way,
     }
 }
 
@@ -134,11 +134,7 @@ fn drop_row<F: Fn(usize, usize) -> u16>(
             way = way.max(left.way);
         }
     }
-    RowsDropping {
-        gone: gone,
-        count: count,
-        way: way,
-    }
+    RowsDropping { gone, count, way }
 }
 
 // Where the rows from u on that have no pair end, as far as whole groups of 8 tell: two groups a turn, while there are two.
@@ -213,11 +209,7 @@ pub fn drop_rows<F: Fn(usize, usize) -> u16>(
             u = next_row(&*pairs, words, rows, u + 1);
         }
     }
-    RowsDropping {
-        gone: gone,
-        count: count,
-        way: way,
-    }
+    RowsDropping { gone, count, way }
 }
 
 // Drops the stale pairs of the table in place, of which it has no more than `total`, and answers what is left of them and the greatest way that was

@@ -67,7 +67,7 @@ fn search_target(
     let found = search::search_to(targets, links, scratch, u);
     let later = sum_later(targets, &*scratch, u);
     let e = found.ecc as usize;
-    counts[e] = counts[e] + 1;
+    counts[e] += 1;
     Tally {
         sum: later.sum,
         pairs: later.pairs,

@@ -74,7 +74,7 @@ fn meet(a: &[u64], b: &[u64], words: usize) -> bool
 {
     let mut both: u64 = 0;
     for w in 0..words {
-        both = both | (a[w] & b[w]);
+        both |= a[w] & b[w];
     }
     both != 0
 }
@@ -196,7 +196,7 @@ fn above(w: u64, b: usize) -> u64
 }
 
 // The word of which every bit is a member.
-const FULL: u64 = 18446744073709551615;
+const FULL: u64 = u64::MAX;
 
 // The targets above a code: their hops added, and how many they are.
 #[derive(Clone, Copy)]
@@ -230,7 +230,7 @@ fn sum_of_word(hops: &[u16], w: usize, word: u64) -> u64
     let mut x = word;
     while x != 0 {
         let v = 64 * w + words::least(x);
-        sum = sum + hops[v] as u64;
+        sum += hops[v] as u64;
         x = words::drop_least(x);
     }
     sum
@@ -252,12 +252,9 @@ impl TargetHops<'_> {
         let mut pairs = words::count(x) as u64;
         for w in first + 1..self.words {
             let word = self.targets[w];
-            sum = sum + sum_of_word(hops, w, word);
-            pairs = pairs + words::count(word) as u64;
+            sum += sum_of_word(hops, w, word);
+            pairs += words::count(word) as u64;
         }
-        Later {
-            sum: sum,
-            pairs: pairs,
-        }
+        Later { sum, pairs }
     }
 }
