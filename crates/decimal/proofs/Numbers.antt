@@ -115,9 +115,14 @@ unfolding field
 field-length text = omega arith
 
 -- a space, and the text behind it
-pub field_placed : {text old new : List ℕ} {at end : ℕ} → Placed text (at + 1) (set old at 32) end new → at + length (field text) ≤ length old
+pub field_placed : {text old new : List ℕ} {at end : ℕ} → Placed text (at + 1) (set old at 32) end new → at < length old → Placed (field text) at old end new
+unfolding field
+field_placed {old = old} {at = at} w h = placed_join (placed_byte at old 32 h) w (omega arith)
+
+-- by the room that the field has
+pub field_fits : {text old new : List ℕ} {at end : ℕ} → Placed text (at + 1) (set old at 32) end new → at + length (field text) ≤ length old
     → Placed (field text) at old end new
 unfolding field
-field_placed {old = old} {at = at} w h = placed_join (placed_byte at old 32 (omega arith)) w (omega arith)
+field_fits w h = field_placed w (omega arith)
 
-pub ruleset fields = (field-length, field_placed, length-set)
+pub ruleset fields = (field-length, field_fits, length-set)
