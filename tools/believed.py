@@ -18,7 +18,7 @@ import sys
 
 # what is counted: the crates of public calls, and theorems, by what they make good
 GROUPS = [
-    ('the calls on a map, and demands 1 to 3', 'map search nearby summary reckon opening lent_opening linking batch_opening', [
+    ('the calls on a map, and demands 1 to 3', 'map search nearby summary reckon step lent_opening batch_opening', [
         'empty_refusals', 'search_refusals', 'within_refusals', 'nearest_refusals', 'summary_refusals', 'reckon_refusals', 'update_refusals', 'batch_refusals',  # demand 1
         'search_demand2', 'within_demand2', 'nearest_demand2', 'summary_demand2', 'reckon_demand2', 'update_demand2', 'update_tables', 'emptied_is_empty', 'batch_demand2', 'batch_most',  # demand 2
         'demand3']),

@@ -93,31 +93,32 @@ pub fn link_depot(links: &mut [u64], words: usize, code: u8, neighbours: &[u8])
 
 // ---- a link between two depots
 
+// The codes of two depots that are to be linked. The calls hand both on together.
+#[derive(Clone, Copy)]
+pub struct Link {
+    pub first: u8,
+    pub second: u8,
+}
+
 // The first of the refusals 4, 13 and 14 that holds.
 #[tactic(auto, using(crate::proofs::Links::refusals, crate::proofs::Linking::in_table))]
-pub fn link_refusal(
-    members: &[u64],
-    links: &[u64],
-    words: usize,
-    first: u8,
-    second: u8,
-) -> Result<(), Refusal>
+pub fn link_refusal(members: &[u64], links: &[u64], words: usize, link: Link) -> Result<(), Refusal>
     requires { (base.words ≤ words)
         × (words < 513)
         × (words ≤ length members.now)
         × (words * (64 * words) ≤ length links.now) }
-    ensures { refused_by result ≡ first_of (link_faults (network_of words members.now links.now) first second) }
+    ensures { refused_by result ≡ first_of (link_faults (network_of words members.now links.now) link.first link.second) }
 {
-    if !map::is_open(members, words, first as usize) {
+    if !map::is_open(members, words, link.first as usize) {
         return Err(Refusal::Absent);
     }
-    if !map::is_open(members, words, second as usize) {
+    if !map::is_open(members, words, link.second as usize) {
         return Err(Refusal::Absent);
     }
-    if first == second {
+    if link.first == link.second {
         return Err(Refusal::Itself);
     }
-    if rows::row_test(links, words, first as usize, second as usize) {
+    if rows::row_test(links, words, link.first as usize, link.second as usize) {
         return Err(Refusal::Linked);
     }
     Ok(())
@@ -125,12 +126,14 @@ pub fn link_refusal(
 
 // Links two codes, both ways.
 #[tactic(auto, using(crate::proofs::Linking::in_table))]
-pub fn link_codes(links: &mut [u64], words: usize, first: u8, second: u8)
+pub fn link_codes(links: &mut [u64], words: usize, link: Link)
     requires { (base.words ≤ words) × (words < 513) × (words * (64 * words) ≤ length links.old) }
     ensures { let before = links.old in
-        let table = encode_table words (λ u v. (eqb u first && eqb v second) || (eqb v first && eqb u second) || table_bit words before u v) in
+        let a = link.first in
+        let b = link.second in
+        let table = encode_table words (λ u v. (eqb u a && eqb v b) || (eqb v a && eqb u b) || table_bit words before u v) in
         links.new ≡ overwrite table before }
 {
-    rows::row_set(links, words, first as usize, second as usize);
-    rows::row_set(links, words, second as usize, first as usize);
+    rows::row_set(links, words, link.first as usize, link.second as usize);
+    rows::row_set(links, words, link.second as usize, link.first as usize);
 }

@@ -1,7 +1,9 @@
 // A line's map, and the notices that it takes.
+use admission::Link;
 use map::{Record, Room};
 use outcome::{Outcome, Refusal};
 use std::fmt;
+use step::Asked;
 use update::Returned;
 
 // The map: both tables and the record.
@@ -111,7 +113,8 @@ impl Map {
             even: &mut scratch.even,
             odd: &mut scratch.odd,
         };
-        let got = linking::link_step(self.rec, &mut self.links, &mut room, first, second);
+        let asked = Asked::Link(Link { first, second });
+        let got = step::step(self.rec, &mut self.links, &mut room, asked);
         self.keep(got)
     }
 

@@ -3,13 +3,15 @@ ghost use Rattle.std.specs.Prelude.{◌≡◌, true, false, ◌≤◌, length};
 ghost use Rattle.map.specs.Slices.{lent_in, lent_before, lent_after, IsSameRoom};
 ghost use Rattle.graph.specs.Updates.{opens, joins};
 ghost use Rattle.graph.specs.Opening.{notice_of};
-ghost use Rattle.opening.specs.Asked.{asked};
+ghost use Rattle.step.specs.Asks.{update_of};
 ghost use Rattle.c_values.specs.Words.{record_words};
 ghost use Rattle.c_updates.specs.UpdateOuts.{handed, handed_by, update_out, updated_out};
 
+use admission::Link;
 use map::Room;
 use opening::Notice;
 use outcome::{Outcome, Refusal};
+use step::Asked;
 use update::Returned;
 
 // Hands what an update gave to its caller: the letter, and then record and number of searches are written; or the number of the refusal.
@@ -30,26 +32,26 @@ fn hand_over(words: &mut [u64], searches: &mut u16, got: Returned) -> u8
     }
 }
 
-// The opening of a depot, or of a yard.
+// A call that changes the network, whatever it asks for.
 #[tactic(auto, unfolding(crate::specs::UpdateOuts::update_out))]
-fn open_depot(
+fn change(
     words: &mut [u64],
     links: &mut [u64],
     room: &mut Room<'_>,
     searches: &mut u16,
-    notice: Notice<'_>,
+    asked: Asked<'_>,
 ) -> u8
     ensures same { IsSameRoom room.old room.new }
     ensures left { let before = lent_in room.old in
         let after = lent_in room.new in
         updated_out result words.new searches.new links.new after
-        ≡ update_out words.old links.old before (asked notice.entry) searches.old }
+        ≡ update_out words.old links.old before (update_of asked.entry) searches.old }
 {
     if words.len() < c_values::RECORD_WORDS {
         return Refusal::Short.number();
     }
     let rec = c_values::record_of(&*words);
-    let got = opening::open_step(rec, links, room, notice);
+    let got = step::step(rec, links, room, asked);
     hand_over(words, searches, got)
 }
 
@@ -87,7 +89,7 @@ pub extern "C" fn zorpedi_open(
         code,
         neighbours,
     };
-    open_depot(words, links, &mut room, searches, notice)
+    change(words, links, &mut room, searches, Asked::Opening(notice))
 }
 
 // The opening of a yard, which makes no chain grow: a call of its own, since C's interface has a name for each kind.
@@ -125,11 +127,10 @@ pub extern "C" fn zorpedi_open_yard(
         code,
         neighbours,
     };
-    open_depot(words, links, &mut room, searches, notice)
+    change(words, links, &mut room, searches, Asked::Opening(notice))
 }
 
 // The link of two open depots. 75 (K, kept) or 83 (S, shrank), and the number of searches; or the number of the refusal.
-#[tactic(auto, unfolding(crate::specs::UpdateOuts::update_out))]
 #[unsafe(no_mangle)]
 pub extern "C" fn zorpedi_link(
     words: &mut [u64],
@@ -150,10 +151,6 @@ pub extern "C" fn zorpedi_link(
         updated_out result words.new searches.new links.new after
         ≡ update_out words.old links.old before asked searches.old }
 {
-    if words.len() < c_values::RECORD_WORDS {
-        return Refusal::Short.number();
-    }
-    let rec = c_values::record_of(&*words);
     let mut room = Room {
         pairs,
         hops,
@@ -162,6 +159,6 @@ pub extern "C" fn zorpedi_link(
         even,
         odd,
     };
-    let got = linking::link_step(rec, links, &mut room, first, second);
-    hand_over(words, searches, got)
+    let link = Link { first, second };
+    change(words, links, &mut room, searches, Asked::Link(link))
 }

@@ -10,6 +10,7 @@ ghost use Rattle.opening.specs.Asked.{asked};
 
 use map::{Record, Room};
 use opening::Notice;
+use step::Asked;
 use update::{Report, Returned};
 
 // The opening of a depot, or of a yard, on a record that is lent, and is brought up to date (rule 4.1).
@@ -18,7 +19,7 @@ pub fn open(rec: &mut Record, links: &mut [u64], room: &mut Room<'_>, notice: No
     ensures left { left_of result rec.new links.new (lent_in room.new)
         ≡ update_call base rec.old links.old (lent_in room.old) (asked notice.entry) }
 {
-    let got = opening::open_step(*rec, links, room, notice);
+    let got = step::step(*rec, links, room, Asked::Opening(notice));
     *rec = got.after;
     got.report
 }

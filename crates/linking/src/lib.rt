@@ -17,6 +17,7 @@ ghost use Rattle.relink.specs.Relinked.{relinked_by, IsRelinkable};
 ghost use Rattle.update.specs.UpdateCall.{update_refusal, update_left, update_given, update_call};
 ghost use Rattle.update.specs.Steps.{map_refusal};
 
+use admission::Link;
 use insertion::Figures;
 use map::{Record, Room};
 use outcome::Outcome;
@@ -37,28 +38,32 @@ fn keep_targets(targets: &mut [u64], yards: &[u64])
 }
 
 // The figures after the link of two codes, the lower one's search first.
-fn relink_codes(plan: Plan<'_>, room: &mut Room<'_>, first: u8, second: u8, chain: u16) -> Figures
-    requires { AreLong base (room_sizes (length plan.links.now) room.old)
-        × IsRelinkable base plan.members.now plan.targets.now plan.links.now (lent_in room.old) (min first second) (max first second) }
+fn relink_codes(plan: Plan<'_>, room: &mut Room<'_>, link: Link, chain: u16) -> Figures
+    requires { let low = min link.first link.second in
+        let high = max link.first link.second in
+        AreLong base (room_sizes (length plan.links.now) room.old)
+        × IsRelinkable base plan.members.now plan.targets.now plan.links.now (lent_in room.old) low high }
     ensures same { IsSameRoom room.old room.new }
     ensures left { let G = plan_network base.words plan.entry in
+        let low = min link.first link.second in
+        let high = max link.first link.second in
         figured result.change (ran (lent_in room.new) result.chain result.count result.searches)
-        ≡ relinked_by base G (min first second) (max first second) chain (lent_in room.old) }
+        ≡ relinked_by base G low high chain (lent_in room.old) }
 {
-    let low = first.min(second);
-    let high = first.max(second);
+    let low = link.first.min(link.second);
+    let high = link.first.max(link.second);
     relink::relink(plan, room, low as usize, high as usize, chain)
 }
 
 // A link that nothing refuses: put in place, then the figures, the lower code's search first.
-fn link_map(rec: Record, links: &mut [u64], room: &mut Room<'_>, first: u8, second: u8) -> Returned
+fn link_map(rec: Record, links: &mut [u64], room: &mut Room<'_>, link: Link) -> Returned
     requires { let long = room_sizes (length links.old) room.old in
-        update_refusal base rec links.old room.old.pairs.now long (joins first second) ≡ 0 }
+        update_refusal base rec links.old room.old.pairs.now long (joins link.first link.second) ≡ 0 }
     ensures same { IsSameRoom room.old room.new }
     ensures left { update_left result links.new (lent_in room.new)
-        ≡ update_given 0 base rec links.old (lent_in room.old) (joins first second) }
+        ≡ update_given 0 base rec links.old (lent_in room.old) (joins link.first link.second) }
 {
-    admission::link_codes(links, map::WORDS, first, second);
+    admission::link_codes(links, map::WORDS, link);
     let members = rec.members;
     let yards = rec.yards;
     let mut targets = rec.members;
@@ -68,7 +73,7 @@ fn link_map(rec: Record, links: &mut [u64], room: &mut Room<'_>, first: u8, seco
         targets: &targets,
         links: &*links,
     };
-    let got = relink_codes(plan, room, first, second, rec.chain);
+    let got = relink_codes(plan, room, link, rec.chain);
     let mut after = rec;
     after.chain = got.chain;
     after.count = got.count;
@@ -82,41 +87,16 @@ fn link_map(rec: Record, links: &mut [u64], room: &mut Room<'_>, first: u8, seco
 // The link for callers that hold a proved map, whose memory nothing refuses: the same answer without checking it again. That is a fact of record, links and
 // room together, which are lent apart.
 #[tactic(auto, using(crate::proofs::Joined::judged, crate::proofs::Joined::called))]
-pub fn link_sound(
-    rec: Record,
-    links: &mut [u64],
-    room: &mut Room<'_>,
-    first: u8,
-    second: u8,
-) -> Returned
+pub fn link_sound(rec: Record, links: &mut [u64], room: &mut Room<'_>, link: Link) -> Returned
     requires { let long = room_sizes (length links.old) room.old in
         map_refusal base rec links.old room.old.pairs.now long ≡ 0 }
     ensures same { IsSameRoom room.old room.new }
     ensures left { update_left result links.new (lent_in room.new)
-        ≡ update_call base rec links.old (lent_in room.old) (joins first second) }
+        ≡ update_call base rec links.old (lent_in room.old) (joins link.first link.second) }
 {
     let members = rec.members;
-    match admission::link_refusal(&members, &*links, map::WORDS, first, second) {
-        Ok(()) => link_map(rec, links, room, first, second),
-        Err(refusal) => update::refused(rec, refusal.number()),
-    }
-}
-
-// A link between two open depots, record in and out by value: kept or shrank with the number of searches; or the first refusal that holds, and then
-// nothing is changed.
-pub fn link_step(
-    rec: Record,
-    links: &mut [u64],
-    room: &mut Room<'_>,
-    first: u8,
-    second: u8,
-) -> Returned
-    ensures same { IsSameRoom room.old room.new }
-    ensures left { update_left result links.new (lent_in room.new)
-        ≡ update_call base rec links.old (lent_in room.old) (joins first second) }
-{
-    match update::map_refusal(rec, &*links, &*room) {
-        Ok(()) => link_sound(rec, links, room, first, second),
+    match admission::link_refusal(&members, &*links, map::WORDS, link) {
+        Ok(()) => link_map(rec, links, room, link),
         Err(refusal) => update::refused(rec, refusal.number()),
     }
 }

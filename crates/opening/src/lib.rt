@@ -120,21 +120,3 @@ pub fn open_sound(
         Err(refusal) => update::refused(rec, refusal.number()),
     }
 }
-
-// The opening of a depot, or of a yard, record in and out by value: grew, kept or shrank with the number of searches; or the first refusal that holds, and then
-// nothing is changed.
-pub fn open_step(
-    rec: Record,
-    links: &mut [u64],
-    room: &mut Room<'_>,
-    notice: Notice<'_>,
-) -> Returned
-    ensures same { IsSameRoom room.old room.new }
-    ensures left { update_left result links.new (lent_in room.new)
-        ≡ update_call base rec links.old (lent_in room.old) (asked notice.entry) }
-{
-    match update::map_refusal(rec, &*links, &*room) {
-        Ok(()) => open_sound(rec, links, room, notice),
-        Err(refusal) => update::refused(rec, refusal.number()),
-    }
-}

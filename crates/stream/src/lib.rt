@@ -12,8 +12,10 @@ ghost use Rattle.update.specs.Steps.{map_refusal};
 ghost use Rattle.transcript.specs.Transcript.{lines_limit, update_in};
 ghost use Rattle.stream.specs.Feeding.{stream_begun, begin_call, answer_to, IsReady, feeding, took_line, feed_call, finish_call};
 
+use admission::Link;
 use map::{Record, Room};
 use opening::Notice;
+use step::Asked;
 use update::Returned;
 
 // How far a stream has come: the map's record, the lines answered, and the bytes that the line buffer holds of the next one.
@@ -59,15 +61,19 @@ fn answer_frame(rec: Record, links: &mut [u64], room: &mut Room<'_>, frame: &[u8
         ≡ update_call base rec links.old (lent_in room.old) (update_in frame.now) }
 {
     let code = frame[1];
-    if notice::opens_depot(frame[0]) {
-        let asked = Notice {
+    let asked = if notice::opens_depot(frame[0]) {
+        Asked::Opening(Notice {
             yard: notice::opens_yard(frame[0]),
             code,
             neighbours: &frame[3..],
-        };
-        return opening::open_sound(rec, links, room, asked);
-    }
-    linking::link_sound(rec, links, room, code, frame[2])
+        })
+    } else {
+        Asked::Link(Link {
+            first: code,
+            second: frame[2],
+        })
+    };
+    step::step_sound(rec, links, room, asked)
 }
 
 // Answers a line: the reader's refusal, or what its frame asks for.

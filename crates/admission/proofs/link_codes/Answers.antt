@@ -5,6 +5,5 @@ use Rattle.admission.proofs.link_codes.Goals as goal
 
 pub returns : goal.returns
 returns c =
-    codes_linked _ _ _ _ c.requires.2 (λ i l. (c.slice_known-1.given i).fits)
-    (omega (arith, c.requires.0, c.ranges.first.fits)) (omega (arith, c.requires.0, c.ranges.second.fits))
+    codes_linked _ _ _ _ c.requires.2 (λ i l. grind arith) (omega arith) (omega arith)
     c.row_set.ensures c.row_set-2.ensures

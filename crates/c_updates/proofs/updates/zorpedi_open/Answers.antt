@@ -5,4 +5,4 @@ use Rattle.c_updates.proofs.UpdateOuts.{update_lent}
 use Rattle.c_updates.proofs.updates.zorpedi_open.Goals as goal
 
 pub returns : goal.returns
-returns c = update_lent c.open_depot.ensures.left (search (rules, same_lent))
+returns c = update_lent c.change.ensures.left (search (rules, same_lent))

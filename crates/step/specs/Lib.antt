@@ -1,0 +1,2 @@
+-- what a call that changes a map asks for
+pub mod Asks
