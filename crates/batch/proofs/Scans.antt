@@ -9,7 +9,8 @@ use native.Mathlib.Omega.{arith}
 use lib.Dec.{eqb}
 use borrow.Author.Tests.{ne_eqb}
 use lib.ListN.{length, get_or, set, take, drop, length-append, length-drop, drop_of_length-le}
-use lib.Seq.{drop-drop}
+use lib.Seq.{drop-drop, take_all}
+use Rattle.std.proofs.lemmas.List.{get_or-take, drop-take}
 use Rattle.std.specs.Prelude.{Result, Ok, Err, Some, None, is_ok}
 use Rattle.outcome.specs.Refusals.{number_of, refused_by}
 use Rattle.outcome.specs.declared.Refusal.{Refusal}
@@ -24,7 +25,7 @@ use Rattle.graph.specs.Network.{Network}
 use Rattle.graph.specs.Opening.{Notice, notice_of, open_faults}
 use Rattle.graph.specs.Updates.{update_faults}
 use Rattle.graph.specs.Batch.{Entry, accepts, first_fit}
-use Rattle.notice.specs.Lines.{opens_depot, garbled, frame, lines_of, read_line}
+use Rattle.notice.specs.Lines.{yard_kind, opens_depot, garbled, frame, lines_of, read_line}
 use Rattle.notice.proofs.Readings.{behind, FrameStands, frame_read, garbled_read}
 use Rattle.batch.specs.Lines.{is_opening, entries_from, entries_of}
 use Rattle.batch.specs.Steps.{waiting_of, notice_at, fit_of, Leavings, leavings, left_numbers, left_over, put_number}
@@ -66,6 +67,14 @@ module _ (G : Network) (taken number : ℕ) (s f : List ℕ) (u : ℕ) {n : ℕ}
       → first_fit G (waiting_of taken (entries_from number (lines_of s))) ≡ first_fit G (waiting_of taken (entries_from (number + 1) (lines_of (drop u s))))
   scan_passes e h = fit_reads ∙ rw (← e, h, add-one number)
 
+-- the notice of the frame alone is that of the frame in its buffer
+notice_cut : (bytes : List ℕ) (n : ℕ) → 3 ≤ n → notice_at (take n bytes) (length (take n bytes)) ≡ notice_at bytes n
+notice_cut bytes n long =
+    rw (get_or-take n bytes 0 0 (omega arith), get_or-take n bytes 1 0 (omega arith))
+    (ap (notice_of (eqb (get_or bytes 0 0) yard_kind) (get_or bytes 1 0))
+    (take_all (length (take n bytes) - 3) (drop 3 (take n bytes)) (omega (arith, length-drop 3 (take n bytes)))
+    ∙ ap (λ (k : ℕ). drop 3 (take k bytes)) (omega arith) ∙ drop-take 3 (n - 3) bytes))
+
 -- how far a scan has come: the place `at` of line `number`, among whose entries and those behind it the first is
 pub record IsScanned (G : Network) (taken : ℕ) (s : List ℕ) (number at : ℕ) : Type 0 where
   pub within : at ≤ length s
@@ -102,7 +111,10 @@ module _ {G : Network} {taken : ℕ} {s : List ℕ} {number at : ℕ} (is : IsSc
     scan_number = omega (arith, is.counted, ap length r.lines)
 
     module _ {n : ℕ} {after : List ℕ} (stands : FrameStands f n after) {b : Bool}
-        (e : b ≡ (not (bit taken number) && accepts G (notice_at after n))) where
+        (cut : b ≡ (not (bit taken number) && accepts G (notice_at (take n after) (length (take n after))))) where
+      e : b ≡ (not (bit taken number) && accepts G (notice_at after n))
+      e = cut ∙ ap (λ (o : Notice). not (bit taken number) && accepts G o) (notice_cut after n stands.long)
+
       pub scan_found : b ≡ true → fit_of (Some (fit number n)) after ≡ first_fit G (waiting_of taken (entries_of s))
       scan_found h = scan_takes G taken number (drop at s) f u r opens_one stands e h ∙ sym is.same
 

@@ -80,18 +80,18 @@ fn all_open(lines: &[u8]) -> bool
 
 // ---- the scan
 
-// Whether the line of a number is not taken, and its notice, which stands in the frame, can be accepted.
+// Whether the line of a number is not taken, and the notice of its frame can be accepted.
 #[tactic(auto, using(crate::proofs::Scans::fits_taken, crate::proofs::Scans::fits_by))]
-fn fits(members: &[u64], frame: &[u8], words: usize, taken: u64, number: u8, n: usize) -> bool
-    requires { (base.words ≤ words) × (words < 513) × (words ≤ length members.now) × (number < batch_limit) × (3 ≤ n) × (n ≤ length frame.now) }
+fn fits(members: &[u64], frame: &[u8], words: usize, taken: u64, number: u8) -> bool
+    requires { (base.words ≤ words) × (words < 513) × (words ≤ length members.now) × (number < batch_limit) × (3 ≤ length frame.now) }
     ensures { let G = network_of words members.now [] in
-        result ≡ (not (bit taken number) && accepts G (notice_at frame.now n)) }
+        result ≡ (not (bit taken number) && accepts G (notice_at frame.now (length frame.now))) }
 {
     if words::test(taken, number as usize) {
         return false;
     }
     let code = frame[1];
-    admission::notice_refusal(members, words, code, &frame[3..n]).is_ok()
+    admission::notice_refusal(members, words, code, &frame[3..]).is_ok()
 }
 
 // The lines of a batch that nothing refuses: each opens something, and they are counted.
@@ -147,7 +147,7 @@ impl<'a> Openings<'a> {
             let Ok(got) = notice::read_notice(frame, &self.lines[at..]) else {
                 return None;
             };
-            if fits(members, &*frame, words, taken, number, got.length) {
+            if fits(members, &frame[..got.length], words, taken, number) {
                 return Some(Fit {
                     number,
                     length: got.length,

@@ -54,18 +54,17 @@ pub fn search_table(
     let hops = &mut *scratch.hops;
     let even = &mut *scratch.even;
     let odd = &mut *scratch.odd;
+    // The row of k's parity holds layer k, and the other row takes the next one. The layers end where a step reaches nothing new, so that no range counts them.
     let mut k: u16 = 0;
     loop {
-        if k % 2 == 0 {
-            if !frontier::step(links, hops, &*even, odd, seen, next, words, k) {
-                return k;
-            }
-            k += 1;
+        let more = if k % 2 == 0 {
+            frontier::step(links, hops, &*even, odd, seen, next, words, k)
         } else {
-            if !frontier::step(links, hops, &*odd, even, seen, next, words, k) {
-                return k;
-            }
-            k += 1;
+            frontier::step(links, hops, &*odd, even, seen, next, words, k)
+        };
+        if !more {
+            return k;
         }
+        k += 1;
     }
 }

@@ -1,7 +1,8 @@
 -- What the kind of a byte says of the frames that begin with it. Assumes nothing.
 use mathlib.Core.Path.{◌≡◌, sym, ap, ◌∙◌}
 use mathlib.Core.Bool.{Bool, false}
-use Prim.Native.Nat.{ℕ}
+use Prim.Native.Nat.{ℕ, ◌<◌}
+use native.Mathlib.Omega.{arith}
 use lib.Dec.{eqb}
 use borrow.Author.Tests.{ne_eqb}
 use Rattle.std.specs.Option.{option_eq}
@@ -31,6 +32,11 @@ opens_yard_by b None n = sym (ne_eqb b yard_kind (λ e. n Yard (sym e)))
 
 -- ---- how long they are
 
-pub length_none : (b third : ℕ) → ((k : Kind) → byte_of k ≡ b → ⊥) → 0 ≡ frame_length b third
+length_none : (b third : ℕ) → ((k : Kind) → byte_of k ≡ b → ⊥) → frame_length b third ≡ 0
 unfolding frame_length opens_depot
 length_none b third n = rw (ne_eqb b opening_kind (λ e. n Depot (sym e)), ne_eqb b yard_kind (λ e. n Yard (sym e)), ne_eqb b link_kind (λ e. n Link (sym e)))
+
+pub length_by : (n b third : ℕ) (o : Option Kind) {P : Kind → Type 0} {r : Bool} → 0 < n → KindIs b o → MatchOption o (r ≡ false) P
+    → ((k : Kind) → P k → r ≡ eqb n (frame_length (byte_of k) third)) → r ≡ eqb n (frame_length b third)
+length_by n b third (Some k) some e q h = h k q ∙ ap (λ (x : ℕ). eqb n (frame_length x third)) e
+length_by n b third None some none q h = q ∙ sym (ne_eqb n (frame_length b third) (λ e. omega (arith, length_none b third none)))

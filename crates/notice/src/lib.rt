@@ -4,7 +4,7 @@
 
 #![tactic(auto)]
 
-ghost use Rattle.std.specs.Prelude.{◌≡◌, eqb, take};
+ghost use Rattle.std.specs.Prelude.{◌≡◌, ◌<◌, eqb, take};
 ghost use Rattle.notice.specs.Lines.{line_limit, yard_kind, opens_depot, frame_length, is_frame, spells_frame};
 ghost use Rattle.notice.specs.Kinds.{byte_of, KindIs};
 ghost use Rattle.notice.specs.Calls.{reading_of, writing_of, line_left, read_call, write_call};
@@ -149,15 +149,12 @@ pub fn opens_yard(kind: u8) -> bool
     Kind::of(kind) == Some(Kind::Yard)
 }
 
-// How many bytes a frame of a kind has, by its third byte; 0 for a byte that is no kind.
-#[tactic(auto, using(crate::proofs::Bytes::length_none))]
-fn frame_length(kind: u8, third: u8) -> usize
-    ensures { result ≡ frame_length kind third }
+// Whether n bytes are as many as a frame of a kind has, by its third byte. A byte that is no kind begins no frame.
+fn has_length(n: usize, kind: u8, third: u8) -> bool
+    requires { 0 < n }
+    ensures { result ≡ eqb n (frame_length kind third) }
 {
-    match Kind::of(kind) {
-        Some(k) => k.frame_length(third),
-        None => 0,
-    }
+    Kind::of(kind).is_some_and(|k| n == k.frame_length(third))
 }
 
 // Whether the digits of a line spell a frame: its kind and its third byte say how long it is.
@@ -172,9 +169,7 @@ fn spells_frame(digits: Digits<'_>) -> bool
     if n < 6 {
         return false;
     }
-    let kind = digits.byte_at(0);
-    let third = digits.byte_at(2);
-    n / 2 == frame_length(kind, third)
+    has_length(n / 2, digits.byte_at(0), digits.byte_at(2))
 }
 
 // Whether a frame has the length that its kind and its third byte say.
@@ -185,5 +180,5 @@ fn is_frame(frame: &[u8]) -> bool
     if frame.len() < 3 {
         return false;
     }
-    frame.len() == frame_length(frame[0], frame[2])
+    has_length(frame.len(), frame[0], frame[2])
 }

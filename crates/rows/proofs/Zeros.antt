@@ -1,78 +1,60 @@
 -- Words that are all 0: their union is 0, the bits of the rows among them are not set, and words are made 0. Assumes nothing.
-use mathlib.Core.Path.{◌≡◌, refl, sym, ap, ◌∙◌}
-use mathlib.Core.Logic.{◌⊎◌, inl, inr}
-use mathlib.Core.Bool.{true, false}
-use mathlib.Core.List.{List, [], ◌∷◌}
-use Prim.Native.Nat.{ℕ, zero, suc, ◌+◌, ◌-◌, ◌*◌, ◌/◌, ◌%◌, ◌≤◌, ◌<◌}
+use mathlib.Core.Path.{◌≡◌, refl, sym, ap, ap₂, ◌∙◌}
+use mathlib.Core.Bool.{Bool, true, false, ◌&&◌, and_assoc, and-true}
+use mathlib.Core.List.{List, [], ◌∷◌, ◌++◌}
+use Prim.Native.Nat.{ℕ, ◌+◌, ◌-◌, ◌*◌, ◌/◌, ◌%◌, ◌≤◌, ◌<◌}
 use native.Mathlib.Nat.{mul-le-mul_left, mul-add}
 use native.Mathlib.Omega.{arith}
 use lib.Dec.{eqb}
-use lib.ListN.{length, get_or}
-use lib.Bits.{bit_or, or_zero_l, or_add_and, and_le_l, and_le_r}
+use lib.ListN.{length, get_or, take, drop, replicate, length-append}
+use lib.Seq.{take-append_seam}
+use lib.Bits.{bit_or, or_add_and, and_le_l, and_le_r}
 use borrow.Author.Tests.{eqb-true, eq-eqb}
-use Rattle.std.proofs.lemmas.Bool.{cases_lt}
-use Rattle.std.proofs.lemmas.List.{get_or_past}
+use borrow.Rule.Slice.PartMut.{put_mid}
+use Rattle.std.proofs.lemmas.Bool.{and_parts}
+use Rattle.std.proofs.lemmas.List.{take-append-drop, length-replicate, replicate-append-replicate}
 use Rattle.std.proofs.lemmas.List.Edits.{get_or-between, length-between}
+use Rattle.std.proofs.lemmas.Slice.{take-put_mid, drop-put_mid, drop-append-drop}
 use Rattle.std.specs.List.{fold, between}
-use Rattle.lists.specs.Lists.{range, mapl, allb, overwrite}
+use Rattle.lists.specs.Lists.{allb}
 use Rattle.lists.proofs.Tests.{same_test}
-use Rattle.lists.proofs.Members.{range_in, range_out, all_intro, all_elim}
-use Rattle.lists.proofs.Fills.{fill_at, fill_rest, fill_length}
-use Rattle.lists.proofs.Buffers.{buffer_ext}
-use Rattle.words.specs.Bits.{bit, word_of}
-use Rattle.words.proofs.Bits.{bit_of_zero, word_of-none}
-use Rattle.rows.specs.Rows.{table_bit, encode_row, Zeroed}
+use Rattle.lists.proofs.Scans.{all-at}
+use Rattle.words.specs.Bits.{bit}
+use Rattle.words.proofs.Bits.{bit_of_zero}
+use Rattle.rows.specs.Rows.{table_bit}
 use Rattle.rows.proofs.Written.{table_in}
-
-or_zero : (a b : ℕ) → bit_or a b ≡ 0 → (a ≡ 0) × (b ≡ 0)
-or_zero a b e = (omega (arith, or_add_and a b, and_le_r a b), omega (arith, or_add_and a b, and_le_l a b))
 
 -- ---- the union of words is 0 where each of them is
 
-union_zeros : (xs : List ℕ) (x : ℕ) → fold bit_or x xs ≡ 0 → (x ≡ 0) × ((k : ℕ) → get_or xs k 0 ≡ 0)
-union_zeros [] x e = (e, λ k. refl)
-union_zeros (y ∷ ys) x e =
-    let r = union_zeros ys (bit_or x y) e in
-    let q = or_zero x y r.0 in (q.0, go q.1 r.1)
-  where
-    go : y ≡ 0 → ((k : ℕ) → get_or ys k 0 ≡ 0) → (k : ℕ) → get_or (y ∷ ys) k 0 ≡ 0
-    go h t zero = h
-    go h t (suc k) = t k
+or_zero : (a b : ℕ) → eqb (bit_or a b) 0 ≡ (eqb a 0 && eqb b 0)
+or_zero a b =
+    same_test (eqb (bit_or a b) 0) (eqb a 0 && eqb b 0)
+    (λ e. let q = eqb-true (bit_or a b) 0 e in
+    rw (eq-eqb a 0 (omega (arith, or_add_and a b, and_le_r a b)), eq-eqb b 0 (omega (arith, or_add_and a b, and_le_l a b))))
+    (λ e. let p = and_parts (eqb a 0) (eqb b 0) e in
+    eq-eqb (bit_or a b) 0 (omega (arith, or_add_and a b, eqb-true a 0 p.0, eqb-true b 0 p.1)))
 
-zeros_union : (xs : List ℕ) → ((k : ℕ) → get_or xs k 0 ≡ 0) → fold bit_or 0 xs ≡ 0
-zeros_union [] h = refl
-zeros_union (y ∷ ys) h = ap (λ (x : ℕ). fold bit_or x ys) (ap (bit_or 0) (h 0) ∙ or_zero_l 0) ∙ zeros_union ys (λ k. h (suc k))
+union_with : (xs : List ℕ) (x : ℕ) → eqb (fold bit_or x xs) 0 ≡ (eqb x 0 && allb (λ y. eqb y 0) xs)
+unfolding allb
+union_with [] x = sym (and-true (eqb x 0))
+union_with (y ∷ ys) x = union_with ys (bit_or x y) ∙ ap (λ (b : Bool). b && allb (λ y. eqb y 0) ys) (or_zero x y) ∙ and_assoc (eqb x 0) (eqb y 0) (allb (λ y. eqb y 0) ys)
 
--- n words from base on
-pub union_part : (t : List ℕ) (base n : ℕ) → base + n ≤ length t
-    → eqb (fold bit_or 0 (between base (base + n) t)) 0 ≡ allb (λ i. eqb (get_or t (base + i) 0) 0) (range n)
-union_part t base n h =
-    same_test (eqb (fold bit_or 0 part) 0) (allb (λ i. eqb (get_or t (base + i) 0) 0) (range n))
-    (λ e. all_intro (λ i. eqb (get_or t (base + i) 0) 0) (range n)
-    (λ i m. eq-eqb (get_or t (base + i) 0) 0 (sym (word i (range_out n m)) ∙ (union_zeros part 0 (eqb-true (fold bit_or 0 part) 0 e)).1 i)))
-    (λ e. eq-eqb (fold bit_or 0 part) 0 (zeros_union part (λ i. zero i e (cases_lt i n))))
-  where
-    part : List ℕ
-    part = between base (base + n) t
-
-    word : (i : ℕ) → i < n → get_or part i 0 ≡ get_or t (base + i) 0
-    word i l = get_or-between t base (base + n) i 0 (omega arith)
-
-    zero : (i : ℕ) → allb (λ i. eqb (get_or t (base + i) 0) 0) (range n) ≡ true → (i < n) ⊎ (n ≤ i) → get_or part i 0 ≡ 0
-    zero i e (inl l) = word i l ∙ eqb-true (get_or t (base + i) 0) 0 (all_elim (λ i. eqb (get_or t (base + i) 0) 0) (range n) e (range_in n l))
-    zero i e (inr l) = get_or_past part i 0 (omega (arith, length-between t base (base + n) h))
+pub union_zero : (part : List ℕ) → eqb (fold bit_or 0 part) 0 ≡ allb (λ x. eqb x 0) part
+union_zero part = union_with part 0
 
 -- ---- n words from row u on are all 0, k rows and maybe more: no bit of those rows is set
 
-pub rows_zero : (W : ℕ) (t : List ℕ) (u k n : ℕ) → u + k ≤ 64 * W → W * k ≤ n → true ≡ allb (λ i. eqb (get_or t (W * u + i) 0) 0) (range n)
+pub rows_zero : (W : ℕ) (t : List ℕ) (u k n : ℕ) → u + k ≤ 64 * W → W * k ≤ n → W * u + n ≤ length t → true ≡ allb (λ x. eqb x 0) (between (W * u) (W * u + n) t)
     → (p v : ℕ) → u ≤ p → p < u + k → v < 64 * W → table_bit W t p v ≡ false
-rows_zero W t u k n f s e p v l h m =
+rows_zero W t u k n f s r e p v l h m =
     let a : W * p ≡ W * u + W * (p - u) = ap (λ (x : ℕ). W * x) (omega arith) ∙ mul-add W u (p - u) in
     let b : W * (p - u + 1) ≤ W * k = mul-le-mul_left W (omega arith) in
     let c : W * (p - u + 1) ≡ W * (p - u) + W * 1 = mul-add W (p - u) 1 in
-    let z : get_or t (W * u + (W * (p - u) + v / 64)) 0 ≡ 0 =
-    eqb-true (get_or t (W * u + (W * (p - u) + v / 64)) 0) 0
-    (all_elim (λ i. eqb (get_or t (W * u + i) 0) 0) (range n) (sym e) (range_in n (omega arith))) in
+    let i : ℕ = W * (p - u) + v / 64 in
+    let z : get_or t (W * u + i) 0 ≡ 0 =
+    sym (get_or-between t (W * u) (W * u + n) i 0 (omega arith))
+    ∙ eqb-true (get_or (between (W * u) (W * u + n) t) i 0) 0
+    (all-at (λ x. eqb x 0) (between (W * u) (W * u + n) t) i 0 (omega (arith, length-between t (W * u) (W * u + n) r)) (sym e)) in
     table_in W t p v (omega arith) m ∙ ap (λ (x : ℕ). bit x (v % 64)) (ap (λ (i : ℕ). get_or t i 0) (omega arith) ∙ z) ∙ bit_of_zero (v % 64)
 
 -- k rows from row u on are inside the table
@@ -83,29 +65,36 @@ rows_fit W u k n l h =
 
 -- ---- the loop of `clear_table`: the first k words are made 0
 
--- a part that is made 0 behind them
-pub cleared_part : (k n : ℕ) (l₀ l l' : List ℕ) → l ≡ overwrite (encode_row k (λ v. false)) l₀ → k + n ≤ length l₀ → Zeroed k n l l'
-    → l' ≡ overwrite (encode_row (k + n) (λ v. false)) l₀
-unfolding encode_row
-cleared_part k n l₀ l l' e h z =
-    buffer_ext (k + n) l' (overwrite (mapl none (range (k + n))) l₀)
-    (z.size ∙ ap length e ∙ fill_length none l₀ k (omega arith) ∙ sym (fill_length none l₀ (k + n) h))
-    (λ i m. before i m (cases_lt i k) ∙ sym (fill_at none l₀ (k + n) i 0 m ∙ word_of-none 64))
-    (λ i m. z.high i m ∙ ap (λ (s : List ℕ). get_or s i 0) e ∙ fill_rest none l₀ k i 0 (omega arith) ∙ sym (fill_rest none l₀ (k + n) i 0 m))
-  where
-    none : ℕ → ℕ
-    none w = word_of 64 (λ b. false)
-
-    before : (i : ℕ) → i < k + n → (i < k) ⊎ (k ≤ i) → get_or l' i 0 ≡ 0
-    before i m (inl a) = z.low i a ∙ ap (λ (s : List ℕ). get_or s i 0) e ∙ fill_at none l₀ k i 0 a ∙ word_of-none 64
-    before i m (inr a) = z.zeros i a m
-
 -- a part that is 0 already
-pub zeroed_already : (base n : ℕ) (l : List ℕ) → allb (λ i. eqb (get_or l (base + i) 0) 0) (range n) ≡ true → Zeroed base n l l
-zeroed_already base n l e = record { size = refl; zeros = go; low = λ i h. refl; high = λ i h. refl }
+pub zeros_are : (part : List ℕ) → true ≡ allb (λ x. eqb x 0) part → part ≡ replicate (length part) 0
+unfolding allb
+zeros_are [] e = refl
+zeros_are (x ∷ xs) e =
+    let p = and_parts (eqb x 0) (allb (λ x. eqb x 0) xs) (sym e) in
+    ap₂ (λ (y : ℕ) (ys : List ℕ). y ∷ ys) (eqb-true x 0 p.0) (zeros_are xs (sym p.1))
+
+-- a part of n words that is 0 behind them
+pub zeros_more : (k n e : ℕ) (l₀ : List ℕ) {l l' part : List ℕ} {m : ℕ} → l' ≡ put_mid k n l part → part ≡ replicate m 0 → m ≡ n → l ≡ replicate k 0 ++ drop k l₀ → k + n ≡ e → e ≤ length l₀
+    → l' ≡ replicate e 0 ++ drop e l₀
+zeros_more k n e l₀ {l} {l'} {part} {m} p z i q j h =
+    p ∙ sym (take-append-drop e (put_mid k n l part)) ∙ ap₂ (λ (a b : List ℕ). a ++ b) first rest
   where
-    go : (i : ℕ) → base ≤ i → i < base + n → get_or l i 0 ≡ 0
-    go i h m =
-        let q : i ≡ base + (i - base) = omega arith in
-        ap (λ (i : ℕ). get_or l i 0) q
-        ∙ eqb-true (get_or l (base + (i - base)) 0) 0 (all_elim (λ i. eqb (get_or l (base + i) 0) 0) (range n) e (range_in n (omega arith)))
+    zeros : ℕ → List ℕ
+    zeros k = replicate k 0
+
+    inside : k ≤ length l
+    inside = omega (arith, ap length q, length-append (zeros k) (drop k l₀), length-replicate {A = ℕ} k 0)
+
+    long : length part ≡ n
+    long = ap length z ∙ length-replicate m 0 ∙ i
+
+    before : take k l ≡ zeros k
+    before = ap (take k) q ∙ ap (λ (j : ℕ). take j (zeros k ++ drop k l₀)) (sym (length-replicate k 0)) ∙ take-append_seam (zeros k) (drop k l₀)
+
+    first : take e (put_mid k n l part) ≡ zeros e
+    first =
+        take-put_mid k n l part e (omega (arith, long)) inside ∙ ap₂ (λ (a b : List ℕ). a ++ b) before (z ∙ ap zeros i)
+        ∙ replicate-append-replicate k n 0 ∙ ap zeros j
+
+    rest : drop e (put_mid k n l part) ≡ drop e l₀
+    rest = drop-put_mid k n l part e (omega arith) inside long ∙ ap (drop e) q ∙ drop-append-drop k l₀ (zeros k) e (omega arith) (length-replicate k 0)

@@ -1,7 +1,7 @@
 -- Sets of numbers below 64 W as rows of W words, and tables of 64 W such rows (rule 1.2). A map has W = 4; every definition takes W.
 -- Row u of a table is words W * u to W * u + W - 1.
 -- Assumes nothing.
-use Rattle.std.specs.Prelude.{◌≡◌, Bool, cond, ◌&&◌, List, ℕ, ◌+◌, ◌*◌, ◌/◌, ◌%◌, ◌≤◌, ◌<◌, eqb, ltb, length, get_or, set}
+use Rattle.std.specs.Prelude.{Bool, cond, ◌&&◌, List, ℕ, ◌+◌, ◌*◌, ◌/◌, ◌%◌, ◌≤◌, ◌<◌, eqb, ltb, length, get_or, set}
 use Rattle.lists.specs.Lists.{range, mapl}
 use Rattle.words.specs.Bits.{bit, word_of}
 
@@ -38,10 +38,3 @@ pub record InTable (W : ℕ) (t : List ℕ) (u v : ℕ) : Type 0 where
 -- the members that x holds as word w of a row
 unfoldable pub in_word : ℕ → ℕ → ℕ → Bool
 in_word w x u = eqb (u / 64) w && bit x (u % 64)
-
--- The buffer after is before with n words from base on made 0.
-pub record Zeroed (base n : ℕ) (before after : List ℕ) : Type 0 where
-  pub size : length after ≡ length before
-  pub zeros : (i : ℕ) → base ≤ i → i < base + n → get_or after i 0 ≡ 0
-  pub low : (i : ℕ) → i < base → get_or after i 0 ≡ get_or before i 0
-  pub high : (i : ℕ) → base + n ≤ i → get_or after i 0 ≡ get_or before i 0

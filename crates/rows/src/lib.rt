@@ -5,9 +5,9 @@
 
 #![tactic(auto)]
 
-ghost use Rattle.std.specs.Prelude.{◌≡◌, true, false, not, ◌+◌, ◌*◌, ◌^◌, ◌<◌, ◌≤◌, eqb, length, get_or};
+ghost use Rattle.std.specs.Prelude.{◌≡◌, true, false, not, ◌+◌, ◌*◌, ◌^◌, ◌<◌, ◌≤◌, eqb, length};
 ghost use Rattle.lists.specs.Lists.{range, mapl, countb, anyb, allb, overwrite};
-ghost use Rattle.rows.specs.Rows.{row_bit, table_bit, encode_row, put_bit, InTable, Zeroed};
+ghost use Rattle.rows.specs.Rows.{row_bit, table_bit, encode_row, put_bit, InTable};
 ghost use Rattle.rows.specs.Next.{NextIs};
 
 // ---- one bit of a table
@@ -92,32 +92,24 @@ pub fn clear(row: &mut [u64], words: usize)
 
 // ---- words of a table
 
-// Whether n words from base on are all 0: one union and one test, without a branch at each word.
-#[tactic(auto, using(crate::proofs::Zeros::union_part))]
-pub fn all_zero(t: &[u64], base: usize, n: usize) -> bool
-    requires { base + n ≤ length t.now }
-    ensures { result ≡ allb (λ i. eqb (get_or t.now (base + i) 0) 0) (range n) }
+// Whether every word of a part is 0: one union and one test, without a branch at each word.
+#[tactic(auto, using(crate::proofs::Zeros::union_zero))]
+pub fn all_zero(part: &[u64]) -> bool
+    ensures { result ≡ allb (λ x. eqb x 0) part.now }
 {
-    t[base..base + n].iter().fold(0, |union, x| union | *x) == 0
-}
-
-// Makes n words from base on 0.
-fn clear_part(t: &mut [u64], base: usize, n: usize)
-    requires { base + n ≤ length t.old }
-    ensures { Zeroed base n t.old t.new }
-{
-    t[base..base + n].fill(0);
+    part.iter().fold(0, |union, x| union | *x) == 0
 }
 
 // Makes a table 0, by groups of 64 words: a group that is 0 already is only read, as most of a pair table is.
-#[tactic(auto, using(crate::proofs::Turns::turn_none))]
+#[tactic(auto, using(crate::proofs::Filled::filled_zero))]
 pub fn clear_table(t: &mut [u64], words: usize)
     requires { words * (64 * words) ≤ length t.old }
     ensures { t.new ≡ overwrite (encode_row (words * (64 * words)) (λ v. false)) t.old }
 {
     for g in 0..words * words {
-        if !all_zero(&*t, 64 * g, 64) {
-            clear_part(t, 64 * g, 64);
+        let group = &mut t[64 * g..64 * g + 64];
+        if !all_zero(&*group) {
+            group.fill(0);
         }
     }
 }

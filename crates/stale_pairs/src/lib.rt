@@ -146,11 +146,11 @@ fn bare_groups(pairs: &[u64], words: usize, rows: usize, u: usize) -> usize
     // A for over the turns was tried: it sets up its range at each call, and `next_row` then takes 4 to 20 % more instructions.
     let mut p = u;
     while p + 16 <= rows {
-        if !rows::all_zero(pairs, words * p, 8 * words) {
+        if !rows::all_zero(&pairs[words * p..words * p + 8 * words]) {
             return p;
         }
         p += 8;
-        if !rows::all_zero(pairs, words * p, 8 * words) {
+        if !rows::all_zero(&pairs[words * p..words * p + 8 * words]) {
             return p;
         }
         p += 8;
@@ -165,7 +165,7 @@ fn next_row(pairs: &[u64], words: usize, rows: usize, u: usize) -> usize
     ensures { Bare words rows pairs.now u result }
 {
     for p in bare_groups(pairs, words, rows, u)..rows {
-        if !rows::all_zero(pairs, words * p, words) {
+        if !rows::all_zero(&pairs[words * p..words * p + words]) {
             return p;
         }
     }

@@ -18,6 +18,7 @@ use Rattle.update.specs.Steps.{map_refusal}
 use Rattle.update.proofs.Keeps.{map_kept}
 use Rattle.transcript.specs.Transcript.{update_in}
 use Rattle.line_buffer.specs.Lines.{Holding, holding, hold_byte, PartLeft, part_from}
+use Rattle.line_buffer.proofs.Stops.{going}
 use Rattle.stream.specs.Feeding.{answer_to, Feeding, feeding, progress_of, fed_of, stopped, took_line, held_byte, take_byte, feed_bytes}
 use Rattle.stream.proofs.Answers.{read-within}
 use Rattle.map.proofs.Theorems.{base_shape}
@@ -235,5 +236,5 @@ module _ (piece : List ℕ) (F : Feeding) (on : stopped F ≡ false) where
         held = omega (arith, took_held (with_part P F));
       })
 
--- what is known of the bytes that are left
-pub ruleset bytes = (parts, bytes_stop, bytes_over, part_held_all)
+-- what is known of the bytes that are left, where the step stops and where it does not
+pub ruleset bytes = (parts, bytes_stop, bytes_over, part_held_all, going)

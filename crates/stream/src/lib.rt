@@ -125,7 +125,7 @@ fn take_line(fed: Fed, links: &mut [u64], room: &mut Room<'_>, line: &[u8], out:
 // Feeds a piece of the input: answers each line that ends in it, holds what is left, and writes the reports from the start of `out`. It
 // stops before a line whose report might not fit and after the last line of a stream; what is not used is to be fed again. `IsReady` is of values that are
 // lent apart: a struct that lends them together was tried, and tables lent inside a lent struct are not covered by the borrow checker.
-#[tactic(auto, using(crate::proofs::Feeds::bytes), unfolding(crate::specs::Feeding::feed_call, line_buffer::specs::Lines::is_stopped, map::specs::Room::sizes_of))]
+#[tactic(auto, using(crate::proofs::Feeds::bytes), unfolding(crate::specs::Feeding::feed_call, map::specs::Room::sizes_of))]
 pub fn feed(
     progress: Progress,
     links: &mut [u64],

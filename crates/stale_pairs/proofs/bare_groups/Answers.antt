@@ -9,7 +9,7 @@ use Rattle.stale_pairs.proofs.bare_groups.Goals.{Else-not-all_zero}
 
 -- the first group of a turn has no pair
 one-group : (c : Else-not-all_zero) → let a = c.args in Bare a.words a.rows a.pairs.now a.u (c.loop-p.p + 8)
-one-group c = group_bare _ _ _ _ c.loop-p.invariant c.requires.2 (omega arith) c.all_zero.ensures c.if-not-all_zero.false
+one-group c = group_bare _ _ _ _ c.loop-p.invariant c.requires.2 (omega arith) c.requires.1 c.all_zero.ensures c.if-not-all_zero.false
 
 pub returns-then-not-all_zero-2 : goal.returns-then-not-all_zero-2
 returns-then-not-all_zero-2 c =
@@ -17,5 +17,5 @@ returns-then-not-all_zero-2 c =
 
 pub loop-p-preserved : goal.loop-p-preserved
 loop-p-preserved c =
-    group_bare _ _ _ _ (one-group (goal.at.loop-p-preserved c).Else-not-all_zero) c.requires.2 (omega arith)
+    group_bare _ _ _ _ (one-group (goal.at.loop-p-preserved c).Else-not-all_zero) c.requires.2 (omega arith) c.requires.1
     c.all_zero-in-loop-p.ensures c.if-not-all_zero-2.false

@@ -3,7 +3,7 @@
 use mathlib.Core.List.{List}
 use Prim.Native.Nat.{ℕ, ◌≤◌, ◌<◌}
 use native.Mathlib.Omega.{arith}
-use lib.ListN.{length, drop}
+use lib.ListN.{length, drop, length-take}
 use Rattle.notice.proofs.Readings.{FrameStands, frame_read, garbled_read}
 use Rattle.batch.specs.Lines.{batch_limit}
 use Rattle.batch.proofs.Lines.{LineReads}
@@ -27,10 +27,18 @@ placed c =
       omega (arith, got.2.fits, c.loop-at.invariant.1, c.requires.3, c.read_notice.auto),
     )
 
+pub slice_bounds-fits-end : goal.slice_bounds-fits-end
+slice_bounds-fits-end c = (placed (goal.at.slice_bounds-fits-end c).In-Ok).2
+
+pub slice_bounds-fits-end-in-loop-at : goal.slice_bounds-fits-end-in-loop-at
+slice_bounds-fits-end-in-loop-at c =
+    let at = placed (goal.at.slice_bounds-fits-end-in-loop-at c).In-Ok in
+    omega (arith, at, length-take c.in-Ok.got.length c.read_notice.new.frame)
+
 pub fits-requires : goal.fits-requires
 fits-requires c =
     let at = placed (goal.at.fits-requires c).In-Ok in
-    (c.requires.0, c.requires.1, c.requires.2, at.0, at.1, at.2)
+    (c.requires.0, c.requires.1, c.requires.2, at.0, omega (arith, at, length-take c.in-Ok.got.length c.read_notice.new.frame))
 
 pub returns-then-fits : goal.returns-then-fits
 returns-then-fits c =
