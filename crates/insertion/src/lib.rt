@@ -231,13 +231,25 @@ pub fn refigure(plan: Plan<'_>, room: &mut Room<'_>, a: usize, chain: u16, count
         ≡ figured_by base (plan_network base.words plan.entry) a chain (lent_in room.old) }
 {
     let mut partners = [0u64; map::WORDS];
+    let hops = &mut *room.hops;
+    let even = &mut *room.even;
+    let odd = &mut *room.odd;
     let mut scratch = Scratch {
-        hops: &mut *room.hops,
-        even: &mut *room.even,
-        odd: &mut *room.odd,
+        hops: &mut *hops,
+        even: &mut *even,
+        odd: &mut *odd,
     };
     let depth = search::search_sound(plan.links, &mut scratch, a);
-    let span = rounds::reach_by(plan.targets, &scratch, &mut partners, map::WORDS, a, depth);
+    let span = rounds::reach_by(
+        plan.targets,
+        &*hops,
+        &*even,
+        &*odd,
+        &mut partners,
+        map::WORDS,
+        a,
+        depth,
+    );
     if chain < span.own {
         let found = Finished {
             span,

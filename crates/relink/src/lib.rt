@@ -292,14 +292,35 @@ pub fn relink(plan: Plan<'_>, room: &mut Room<'_>, low: usize, high: usize, chai
         odd: &mut odds,
     };
     let d = search::search_sound(plan.links, &mut own, low);
-    let e = rounds::reach_by(plan.targets, &own, &mut nears, map::WORDS, low, d);
+    let e = rounds::reach_by(
+        plan.targets,
+        &near,
+        &evens,
+        &odds,
+        &mut nears,
+        map::WORDS,
+        low,
+        d,
+    );
+    let hops = &mut *room.hops;
+    let even = &mut *room.even;
+    let odd = &mut *room.odd;
     let mut lent = Scratch {
-        hops: &mut *room.hops,
-        even: &mut *room.even,
-        odd: &mut *room.odd,
+        hops: &mut *hops,
+        even: &mut *even,
+        odd: &mut *odd,
     };
     let b = search::search_sound(plan.links, &mut lent, high);
-    let f = rounds::reach_by(plan.targets, &lent, &mut fars, map::WORDS, high, b);
+    let f = rounds::reach_by(
+        plan.targets,
+        &*hops,
+        &*even,
+        &*odd,
+        &mut fars,
+        map::WORDS,
+        high,
+        b,
+    );
     let found = Finished {
         span: e,
         partners: &nears,

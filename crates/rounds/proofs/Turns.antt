@@ -54,14 +54,14 @@ hold_is W mark r R h A t c m a b d = rw (d, a, b)
 pub ruleset taken = (absorb_is, hold_is, settle_counted)
 
 pub round_is_absorbed : (W : ℕ) (targets links : List ℕ) (mark r : ℕ) (M : Workspace) (d : ℕ) (T : Tables) (R : Reached) (row h : List ℕ) (t : Tally) (m : Marks) (c n : ℕ)
-    → searched d T ≡ search_table W links r M.searched → R ≡ reach_in W targets r d T row
+    → searched d T ≡ search_table W links r M.searched → (T' : Tables) → R ≡ reach_in W targets r d T' row → T' ≡ T
     → h ≡ T.hops → absorbed t m c ≡ absorbing W mark r R h (absorbed M.paired M.marked M.candidate) → n ≡ M.searches + 1
     → workspace t T m c n ≡ round_of W targets links mark r M
 unfolding round_of absorb_of
-round_is_absorbed W targets links mark r M d T R row h t m c n s q l a k =
+round_is_absorbed W targets links mark r M d T R row h t m c n s T' q e l a k =
     let A = absorbed M.paired M.marked M.candidate in
     let b : absorbed t m c ≡ absorbing W mark r (reach_in W targets r d T []) T.hops A =
-    a ∙ ap (λ (h : List ℕ). absorbing W mark r R h A) l ∙ ap (λ (R : Reached). absorbing W mark r R T.hops A) q ∙ reach_free W mark r d targets T.hops (last_row d T) row [] T.hops A in
+    a ∙ ap (λ (h : List ℕ). absorbing W mark r R h A) l ∙ ap (λ (R : Reached). absorbing W mark r R T.hops A) (q ∙ ap (λ (X : Tables). reach_in W targets r d X row) e) ∙ reach_free W mark r d targets T.hops (last_row d T) row [] T.hops A in
     ap₂ (λ (A : Absorbed) (x : ℕ). workspace A.paired T A.marked A.candidate x) b k
     ∙ ap (λ (X : Searched). absorb_of W mark r (reach_in W targets r X.depth X.left []) X.left M) s
 

@@ -8,7 +8,8 @@ ghost use Rattle.bounds.specs.Bounds.{leave_of, relax_of};
 ghost use Rattle.ranks.specs.Ranks.{AreRanks, AreThinned, PickIs};
 ghost use Rattle.targets.specs.Reach.{reached};
 ghost use Rattle.rounds.specs.Workspace.{reach_in, absorbed, absorbing, holding, round_of, run_of, rounds_begun, rounds_begin_of};
-ghost use Rattle.map.specs.Slices.{tables_in, IsSameRoom};
+ghost use Rattle.map.specs.Room.{tables};
+ghost use Rattle.map.specs.Slices.{IsSameRoom};
 ghost use Rattle.bounds.specs.Slices.{marks_in, MarksFit, IsSameMarks};
 ghost use Rattle.rounds.specs.Slices.{workspace_in, MarksFitIn, RoomFits, IsSameDesk, said_of, limit_in};
 
@@ -33,33 +34,33 @@ pub struct Desk<'a> {
 // ---- one round
 
 // What a search from r to this depth says of it: how far the targets lie, and its partners. The last layer stands in the row of the depth's parity.
+// It takes the three tables as shared slices: it only reads them, and a caller that has nothing else can ask too. They have one lifetime, since a struct
+// holds two of them.
 #[tactic(auto, using(crate::proofs::Reaching::reach_even, crate::proofs::Reaching::reach_odd))]
-pub fn reach_by(
-    targets: &[u64],
-    scratch: &Scratch<'_>,
+pub fn reach_by<'a>(
+    targets: &'a [u64],
+    hops: &'a [u16],
+    even: &'a [u64],
+    odd: &'a [u64],
     partners: &mut [u64],
     words: usize,
     r: usize,
     depth: u16,
 ) -> Span
     requires { (words ≤ length targets.now)
-        × (64 * words ≤ length scratch.now.hops.now)
-        × (words ≤ length scratch.now.even.now)
-        × (words ≤ length scratch.now.odd.now)
+        × (64 * words ≤ length hops.now)
+        × (words ≤ length even.now)
+        × (words ≤ length odd.now)
         × (words ≤ length partners.old)
         × (words < 2 ^ 32)
         × (r < 64 * words) }
     ensures { reached result.ecc result.own partners.new
-        ≡ reach_in words targets.now r depth (tables_in scratch.now) partners.old }
+        ≡ reach_in words targets.now r depth (tables hops.now even.now odd.now) partners.old }
 {
-    let last = if depth % 2 == 0 {
-        &*scratch.even
-    } else {
-        &*scratch.odd
-    };
+    let last = if depth % 2 == 0 { even } else { odd };
     let seen = TargetHops {
         targets,
-        hops: &*scratch.hops,
+        hops,
         words,
     };
     TargetSearch { seen, last, depth }.reach(partners, r)
@@ -223,11 +224,13 @@ fn round(
 {
     let pairs = &mut *room.pairs;
     let hops = &mut *room.hops;
+    let even = &mut *room.even;
+    let odd = &mut *room.odd;
     let partners = &mut *desk.partners;
     let mut scratch = Scratch {
         hops: &mut *hops,
-        even: &mut *room.even,
-        odd: &mut *room.odd,
+        even: &mut *even,
+        odd: &mut *odd,
     };
     let mut marks = Marks {
         bounds: &mut *room.bounds,
@@ -235,7 +238,7 @@ fn round(
         ranks: &mut *desk.ranks,
     };
     let depth = layers::search_table(links, &mut scratch, desk.seen, desk.next, words, r);
-    let span = reach_by(targets, &scratch, partners, words, r, depth);
+    let span = reach_by(targets, &*hops, &*even, &*odd, partners, words, r, depth);
     let found = Finished {
         span,
         partners: &*partners,

@@ -7,7 +7,8 @@ use Rattle.rounds.proofs.round.Goals as goal
 pub returns-clause-left : goal.returns-clause-left
 returns-clause-left c =
     handed_back _ _ _ _ _ _ _ _
-    (round_is_absorbed _ _ _ _ _ _ _ _ _ _ _ _ _ _ _ c.search_table-depth.ensures.left c.reach_by-span.ensures (search rules)
+    (round_is_absorbed _ _ _ _ _ _ _ _ _ _ _ _ _ _ _ c.search_table-depth.ensures.left _ c.reach_by-span.ensures
+    (same_tables _ _ _ _ _ _ (search rules) (search rules) (search rules)) (search rules)
     c.absorb-got.ensures.taken refl)
     (same_tables _ _ _ _ _ _ (search rules) (search rules) (search rules))
     (same_marks _ _ _ _ _ _ _ (search rules) (search rules) (search rules))
