@@ -113,6 +113,12 @@ fn shrink(
         span,
         partners: &*partners,
     };
+    let none = RoundFigures {
+        candidate: way,
+        count: 0,
+        searches: 0,
+    };
+    let limit = rounds::raised(way, span.own);
     let first = rounds::absorb(
         pairs,
         &*hops,
@@ -121,19 +127,14 @@ fn shrink(
         map::SEARCHED,
         a,
         found,
-        way,
-        0,
+        none,
+        Some(limit),
     );
     let mut desk = Desk {
         seen: &mut seen,
         next: &mut next,
         partners: &mut *partners,
         ranks: &mut ranks,
-    };
-    let before = RoundFigures {
-        candidate: first.candidate,
-        count: first.count,
-        searches: 1,
     };
     rounds::run_rounds(
         plan.targets,
@@ -142,7 +143,7 @@ fn shrink(
         &mut desk,
         map::WORDS,
         map::SEARCHED,
-        before,
+        first,
     )
 }
 

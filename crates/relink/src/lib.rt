@@ -71,6 +71,7 @@ fn take_low(
         after ≡ low_taken base plan.entry.members.now N low (said_of e.entry) way before }
     ensures counted { Counted base.words pairs.new result.count }
     ensures ranked { AreRanks base.words plan.entry.links.now marks.new.ranks.now }
+    ensures searches { result.searches ≡ 1 }
 {
     rounds::begin(
         plan.members,
@@ -80,7 +81,12 @@ fn take_low(
         map::WORDS,
         map::OTHER,
     );
-    rounds::hold(
+    let none = RoundFigures {
+        candidate: way,
+        count: 0,
+        searches: 0,
+    };
+    rounds::absorb(
         pairs,
         near,
         marks,
@@ -88,13 +94,13 @@ fn take_low(
         map::SEARCHED,
         low,
         e,
-        way,
-        0,
+        none,
+        None,
     )
 }
 
 // Then the search from high, whose hops stand in far; after it depots are skipped.
-#[tactic(auto, using(crate::proofs::Taking::both_taken_lem, ranks::proofs::Ranks::thinned_ranks))]
+#[tactic(auto, using(ranks::proofs::Ranks::thinned_ranks))]
 fn take_both(
     plan: Plan<'_>,
     pairs: &mut [u64],
@@ -129,7 +135,8 @@ fn take_both(
     ensures searches { result.searches ≡ 2 }
 {
     let first = take_low(plan, pairs, marks, near, low, e, way);
-    let second = rounds::absorb(
+    let limit = rounds::raised(first.candidate, f.span.own);
+    rounds::absorb(
         pairs,
         far,
         marks,
@@ -137,14 +144,9 @@ fn take_both(
         map::SEARCHED,
         high,
         f,
-        first.candidate,
-        first.count,
-    );
-    RoundFigures {
-        candidate: second.candidate,
-        count: second.count,
-        searches: 2,
-    }
+        first,
+        Some(limit),
+    )
 }
 
 // Rounds with the candidate way, whose first two references are the searches from low and from high. The tables of the second stand in the room, and its
