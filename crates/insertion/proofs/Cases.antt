@@ -57,11 +57,11 @@ module _ (K : Shape) (shape : IsShape K) (members targets links : List ℕ) (are
   left_is_search = (table_is K.words members targets links net are a o T₀ shape.most found).1
 
   -- it stands in the tables
-  pub search_stands : (row : List ℕ) {R : Reached} → R ≡ reach_in K.words targets a d T₁ row → Y ≡ T₁ → StandsIn K (target_network K.words members targets links) Y a R
+  pub search_stands : (row : List ℕ) {R : Reached} → R ≡ reach_in K.words targets a d Y row → Y ≡ T₁ → StandsIn K (target_network K.words members targets links) Y a R
   search_stands row q e = record {
     net = net;
     present = o;
-    spans = table_spans K.words members targets links net are a o T₀ shape.most found row q;
+    spans = table_spans K.words members targets links net are a o T₀ shape.most found row (q ∙ ap (λ (X : Tables). reach_in K.words targets a d X row) e);
     stands = rw e (left_is_search ∙ sym (ap (search_leaves K.words H a) left_is_search ∙ leaves_over K.words H a a T₀));
   }
 

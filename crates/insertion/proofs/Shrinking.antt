@@ -78,11 +78,12 @@ module _ (K : Shape) (shape : IsShape K) (members targets links : List ℕ) (are
           (hop_stands K G B.searched a I.stands))
 
       -- WHAT THE THREE CALLS LEAVE: the network's rounds after the one from a
-      pub shrink_is : (m₀ : Marks) (T : Tables) (t' : Tally) (m' : Marks) (c' n : ℕ)
-          → workspace t' T m' c' n ≡ run_of K.words targets links K.searched_mark (places K) (workspace t B.searched m₀ c 1) → m₀ ≡ m
+      pub shrink_is : (k : ℕ) → k ≡ 1 → (m₀ : Marks) (T : Tables) (t' : Tally) (m' : Marks) (c' n : ℕ)
+          → workspace t' T m' c' n ≡ run_of K.words targets links K.searched_mark (places K) (workspace t B.searched m₀ c k) → m₀ ≡ m
           → ran (lent t'.pairs T m'.bounds m'.skips) c' t'.count n ≡ ran_by K G (rounds (chart G) (length (chart G).depots) S₁) B
-      shrink_is m₀ T t' m' c' n q e =
-          run_is K shape members targets links are I.net S₁ running O (workspace t B.searched m c 1) (workspace t' T m' c' n) first_holds (rw (← e) q)
+      shrink_is k one m₀ T t' m' c' n q e =
+          run_is K shape members targets links are I.net S₁ running O (workspace t B.searched m c 1) (workspace t' T m' c' n) first_holds
+          (q ∙ ap₂ (λ (x : ℕ) (z : Marks). run_of K.words targets links K.searched_mark (places K) (workspace t B.searched z c x)) one e)
 
 -- ---- over tables that held another search
 

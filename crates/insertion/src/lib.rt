@@ -113,6 +113,12 @@ fn shrink(
         span,
         partners: &*partners,
     };
+    let none = RoundFigures {
+        candidate: way,
+        count: 0,
+        searches: 0,
+    };
+    let limit = rounds::raised(way, span.own);
     let first = rounds::absorb(
         pairs,
         &*hops,
@@ -121,19 +127,14 @@ fn shrink(
         map::SEARCHED,
         a,
         found,
-        way,
-        0,
+        none,
+        Some(limit),
     );
     let mut desk = Desk {
         seen: &mut seen,
         next: &mut next,
         partners: &mut *partners,
         ranks: &mut ranks,
-    };
-    let before = RoundFigures {
-        candidate: first.candidate,
-        count: first.count,
-        searches: 1,
     };
     rounds::run_rounds(
         plan.targets,
@@ -142,7 +143,7 @@ fn shrink(
         &mut desk,
         map::WORDS,
         map::SEARCHED,
-        before,
+        first,
     )
 }
 
@@ -231,13 +232,25 @@ pub fn refigure(plan: Plan<'_>, room: &mut Room<'_>, a: usize, chain: u16, count
         ≡ figured_by base (plan_network base.words plan.entry) a chain (lent_in room.old) }
 {
     let mut partners = [0u64; map::WORDS];
+    let hops = &mut *room.hops;
+    let even = &mut *room.even;
+    let odd = &mut *room.odd;
     let mut scratch = Scratch {
-        hops: &mut *room.hops,
-        even: &mut *room.even,
-        odd: &mut *room.odd,
+        hops: &mut *hops,
+        even: &mut *even,
+        odd: &mut *odd,
     };
     let depth = search::search_sound(plan.links, &mut scratch, a);
-    let span = rounds::reach_by(plan.targets, &scratch, &mut partners, map::WORDS, a, depth);
+    let span = rounds::reach_by(
+        plan.targets,
+        &*hops,
+        &*even,
+        &*odd,
+        &mut partners,
+        map::WORDS,
+        a,
+        depth,
+    );
     if chain < span.own {
         let found = Finished {
             span,

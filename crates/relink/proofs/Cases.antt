@@ -1,5 +1,5 @@
 -- The two ways in which a link ends, each by the test that the code makes. Assumes nothing.
-use mathlib.Core.Path.{◌≡◌, refl, sym, ap, ap₂, ◌∙◌}
+use mathlib.Core.Path.{◌≡◌, sym, ap, ap₂, ◌∙◌}
 use mathlib.Core.Logic.{◌⊎◌, ◌≢◌, inl, inr}
 use mathlib.Core.Bool.{Bool, true, false, not, ◌||◌}
 use mathlib.Core.List.{List}
@@ -49,14 +49,15 @@ module _ (K : Shape) (shape : IsShape K) (members targets links : List ℕ) (are
   -- both stand in their tables
   pub both_stand : T ((target_network K.words members targets links).is_open lo) → T ((target_network K.words members targets links).is_open hi) → (lo ≡ hi → ⊥)
       → searched d N₁ ≡ search_table K.words links lo N₀ → searched f Y₁ ≡ search_table K.words links hi Y₀
-      → (a b : List ℕ) {R Q : Reached} → R ≡ reach_in K.words targets lo d N₁ a → Q ≡ reach_in K.words targets hi f Y₁ b → near ≡ N₁.hops → Y ≡ Y₁
+      → (a b : List ℕ) (N : Tables) {R Q : Reached} → R ≡ reach_in K.words targets lo d N a → Q ≡ reach_in K.words targets hi f Y b
+      → N ≡ N₁ → near ≡ N.hops → Y ≡ Y₁
       → StandBoth K (target_network K.words members targets links) near Y lo R hi Q
-  both_stand open-lo open-hi apart q r a b x y n e =
-      let lower = search_stands K shape members targets links are lo d N₀ N₁ N₁ net open-lo q a x refl in
+  both_stand open-lo open-hi apart q r a b N x y o n e =
+      let lower = search_stands K shape members targets links are lo d N₀ N₁ N net open-lo q a x o in
       record {
         present = open-lo;
         spans = lower.spans;
-        hops = λ v l. ap (λ (t : List ℕ). get_or t v 0) n ∙ hop_stands K H N₁ lo lower.stands v l;
+        hops = λ v l. ap (λ (t : List ℕ). get_or t v 0) n ∙ hop_stands K H N lo lower.stands v l;
         higher = search_stands K shape members targets links are hi f Y₀ Y₁ Y net open-hi r b y e;
         apart = apart;
       }

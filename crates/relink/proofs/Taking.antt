@@ -25,7 +25,7 @@ use Rattle.targets.specs.Reach.{Reached}
 use Rattle.pairs.specs.Pairs.{Tally, tally}
 use Rattle.bounds.specs.Bounds.{Marks, marks}
 use Rattle.rounds.specs.Leaves.{ran, ran_by, search_after}
-use Rattle.rounds.specs.Workspace.{Workspace, workspace, Absorbed, absorbed, absorbing, holding, run_of, RoundsBegun, rounds_begun, rounds_begin_of}
+use Rattle.rounds.specs.Workspace.{Workspace, workspace, Absorbed, absorbed, taking, absorbing, holding, run_of, RoundsBegun, rounds_begun, rounds_begin_of}
 use Rattle.rounds.specs.Targets.{target_network, AreTargets}
 use Rattle.rounds.proofs.Holding.{Origin, Holds, leaves_over}
 use Rattle.rounds.proofs.Simulation.{Running, running_round, running_unskipped, hold_over, absorb_over}
@@ -38,11 +38,11 @@ use Rattle.relink.specs.Steps.{low_taken, both_taken, StandBoth}
 -- ---- the calls, one after the other
 
 pub low_taken_lem : (K : Shape) (members near : List ℕ) (lo : ℕ) (R : Reached) (way : ℕ) (B : RoundsBegun) (p : List ℕ) (m : Marks) (A : Absorbed)
-    → rounds_begun p m ≡ rounds_begin_of K.words K.other_mark members B → A ≡ holding K.words K.searched_mark lo R near (absorbed (tally p 0) m way)
+    → rounds_begun p m ≡ rounds_begin_of K.words K.other_mark members B → A ≡ taking 0 K.words K.searched_mark lo R near (absorbed (tally p 0) m way)
     → A ≡ low_taken K members near lo R way B
-unfolding low_taken
+unfolding low_taken holding
 low_taken_lem K members near lo R way B p m A b h =
-    h ∙ ap (λ (X : RoundsBegun). holding K.words K.searched_mark lo R near (absorbed (tally X.pairs 0) X.marked way)) b
+    h ∙ ap (λ (X : RoundsBegun). taking 0 K.words K.searched_mark lo R near (absorbed (tally X.pairs 0) X.marked way)) b
 
 pub both_taken_lem : (K : Shape) (members near far : List ℕ) (lo : ℕ) (R : Reached) (hi : ℕ) (Q : Reached) (way : ℕ) (B : RoundsBegun) (A A' : Absorbed)
     → A ≡ low_taken K members near lo R way B → A' ≡ absorbing K.words K.searched_mark hi Q far A → A' ≡ both_taken K members near far lo R hi Q way B

@@ -28,6 +28,27 @@ use outcome::Change;
 use rounds::{Desk, Finished, Plan, RoundFigures};
 use targets::Span;
 
+// ---- the two ends
+
+// The lower end with its finished search. Its hops stand in a table of the call's own, so that they go with it; each size is said once, here.
+#[derive(Clone, Copy)]
+struct Low<'a> {
+    code: usize,
+    hops: &'a [u16],
+    found: Finished<'a>,
+    ghost within: { code < places base },
+    ghost hops_fit: { places base ≤ length hops.now },
+    ghost row_fits: { base.words ≤ length found.partners.now },
+}
+
+// The higher end with what its finished search says of the distances. The hops stand in the lent room, and the partners in a row that the rounds use again.
+#[derive(Clone, Copy)]
+struct High {
+    code: usize,
+    span: Span,
+    ghost within: { code < places base },
+}
+
 // ---- the chain is kept
 
 // Whether it is: a pair is left, or it was 0.
@@ -46,31 +67,27 @@ fn is_kept(count: u32, chain: u16) -> bool
 
 // ---- the chain shrank
 
-// The start of rounds with the candidate way, and the search from low, whose hops stand in near, taken in. Nobody is skipped yet.
+// The start of rounds with the candidate way, and the search from low taken in. Nobody is skipped yet.
 #[tactic(auto, using(rounds::proofs::Turns::begun_counted, crate::proofs::Taking::low_taken_lem, ranks::proofs::Ranks::thinned_ranks))]
 fn take_low(
     plan: Plan<'_>,
     pairs: &mut [u64],
     marks: &mut Marks<'_>,
-    near: &[u16],
-    low: usize,
-    e: Finished<'_>,
+    low: Low<'_>,
     way: u16,
 ) -> RoundFigures
     requires { MarksFit base.words marks.old
         × (base.words ≤ length plan.members.now)
         × (table_words base ≤ length plan.links.now)
-        × (table_words base ≤ length pairs.old)
-        × (places base ≤ length near.now)
-        × (low < places base)
-        × (base.words ≤ length e.partners.now) }
+        × (table_words base ≤ length pairs.old) }
     ensures same { IsSameMarks marks.old marks.new }
-    ensures taken { let N = near.now in
+    ensures taken { let L = low.entry in
         let before = rounds_begun pairs.old (marks_in base.words marks.old) in
         let after = absorbed (tally pairs.new result.count) (marks_in base.words marks.new) result.candidate in
-        after ≡ low_taken base plan.entry.members.now N low (said_of e.entry) way before }
+        after ≡ low_taken base plan.entry.members.now L.hops.now L.code (said_of L.found) way before }
     ensures counted { Counted base.words pairs.new result.count }
     ensures ranked { AreRanks base.words plan.entry.links.now marks.new.ranks.now }
+    ensures searches { result.searches ≡ 1 }
 {
     rounds::begin(
         plan.members,
@@ -80,71 +97,69 @@ fn take_low(
         map::WORDS,
         map::OTHER,
     );
-    rounds::hold(
+    let none = RoundFigures {
+        candidate: way,
+        count: 0,
+        searches: 0,
+    };
+    rounds::absorb(
         pairs,
-        near,
+        low.hops,
         marks,
         map::WORDS,
         map::SEARCHED,
-        low,
-        e,
-        way,
-        0,
+        low.code,
+        low.found,
+        none,
+        None,
     )
 }
 
-// Then the search from high, whose hops stand in far; after it depots are skipped.
-#[tactic(auto, using(crate::proofs::Taking::both_taken_lem, ranks::proofs::Ranks::thinned_ranks))]
+// Then the search from high, whose hops stand in far and its partners in fars; after it depots are skipped.
+#[tactic(auto, using(ranks::proofs::Ranks::thinned_ranks))]
 fn take_both(
     plan: Plan<'_>,
     pairs: &mut [u64],
     marks: &mut Marks<'_>,
-    near: &[u16],
-    low: usize,
-    e: Finished<'_>,
+    low: Low<'_>,
     far: &[u16],
-    high: usize,
-    f: Finished<'_>,
+    high: High,
+    fars: &[u64],
     way: u16,
 ) -> RoundFigures
     requires { MarksFit base.words marks.old
         × (base.words ≤ length plan.members.now)
         × (table_words base ≤ length plan.links.now)
         × (table_words base ≤ length pairs.old)
-        × (places base ≤ length near.now)
         × (places base ≤ length far.now)
-        × (low < places base)
-        × (high < places base)
-        × (base.words ≤ length e.partners.now)
-        × (base.words ≤ length f.partners.now) }
+        × (base.words ≤ length fars.now) }
     ensures same { IsSameMarks marks.old marks.new }
-    ensures taken { let N = near.now in
-        let R = said_of e.entry in
-        let Q = said_of f.entry in
+    ensures taken { let L = low.entry in
+        let Q = reached high.span.ecc high.span.own fars.now in
         let before = rounds_begun pairs.old (marks_in base.words marks.old) in
         let after = absorbed (tally pairs.new result.count) (marks_in base.words marks.new) result.candidate in
-        after ≡ both_taken base plan.entry.members.now N far.now low R high Q way before }
+        after ≡ both_taken base plan.entry.members.now L.hops.now far.now L.code (said_of L.found) high.code Q way before }
     ensures counted { Counted base.words pairs.new result.count }
     ensures ranked { AreRanks base.words plan.entry.links.now marks.new.ranks.now }
     ensures searches { result.searches ≡ 2 }
 {
-    let first = take_low(plan, pairs, marks, near, low, e, way);
-    let second = rounds::absorb(
+    let first = take_low(plan, pairs, marks, low, way);
+    let found = Finished {
+        span: high.span,
+        partners: fars,
+    };
+    let limit = rounds::raised(first.candidate, high.span.own);
+    rounds::absorb(
         pairs,
         far,
         marks,
         map::WORDS,
         map::SEARCHED,
-        high,
-        f,
-        first.candidate,
-        first.count,
-    );
-    RoundFigures {
-        candidate: second.candidate,
-        count: second.count,
-        searches: 2,
-    }
+        high.code,
+        found,
+        first,
+        Some(limit),
+    )
 }
 
 // Rounds with the candidate way, whose first two references are the searches from low and from high. The tables of the second stand in the room, and its
@@ -152,28 +167,21 @@ fn take_both(
 fn shrink(
     plan: Plan<'_>,
     room: &mut Room<'_>,
-    near: &[u16],
-    low: usize,
-    e: Finished<'_>,
+    low: Low<'_>,
+    high: High,
     fars: &mut [u64],
-    high: usize,
-    f: Span,
     way: u16,
 ) -> RoundFigures
     requires { let G = plan_network base.words plan in
-        let Q = reached f.ecc f.own fars.old in
+        let Q = reached high.span.ecc high.span.own fars.old in
         AreLong base (room_sizes (length plan.links.now) room.old)
-        × (places base ≤ length near.now)
-        × (base.words ≤ length e.partners.now)
         × (base.words ≤ length fars.old)
-        × StandBoth base G near.now (lent_in room.old).searched low (said_of e) high Q
-        × (low < places base)
-        × (high < places base) }
+        × StandBoth base G low.hops.now (lent_in room.old).searched low.code (said_of low.found) high.code Q }
     ensures same { IsSameRoom room.old room.new }
     ensures left { let G = plan_network base.words plan.entry in
         let M = chart G in
         ran (lent_in room.new) result.candidate result.count result.searches
-        ≡ ran_by base G (rounds M (length M.depots) (first_two M low high way)) (lent_in room.old) }
+        ≡ ran_by base G (rounds M (length M.depots) (first_two M low.entry.code high.code way)) (lent_in room.old) }
 {
     let mut ranks = [0u16; map::PLACES];
     let mut seen = [0u64; map::WORDS];
@@ -185,13 +193,7 @@ fn shrink(
         skips: &mut *room.skips,
         ranks: &mut ranks,
     };
-    let found = Finished {
-        span: f,
-        partners: &*fars,
-    };
-    let before = take_both(
-        plan, pairs, &mut marks, near, low, e, &*hops, high, found, way,
-    );
+    let before = take_both(plan, pairs, &mut marks, low, &*hops, high, &*fars, way);
     let mut desk = Desk {
         seen: &mut seen,
         next: &mut next,
@@ -215,41 +217,34 @@ fn shrink(
 fn settle(
     plan: Plan<'_>,
     room: &mut Room<'_>,
-    near: &[u16],
-    low: usize,
-    e: Finished<'_>,
+    low: Low<'_>,
+    high: High,
     fars: &mut [u64],
-    high: usize,
-    f: Span,
     chain: u16,
 ) -> Figures
     requires { let G = plan_network base.words plan in
-        let Q = reached f.ecc f.own fars.old in
+        let Q = reached high.span.ecc high.span.own fars.old in
         AreLong base (room_sizes (length plan.links.now) room.old)
         × AreOpen base G room.old.pairs.now
-        × (places base ≤ length near.now)
-        × (base.words ≤ length e.partners.now)
         × (base.words ≤ length fars.old)
-        × StandBoth base G near.now (lent_in room.old).searched low (said_of e) high Q
-        × (low < places base)
-        × (high < places base) }
+        × StandBoth base G low.hops.now (lent_in room.old).searched low.code (said_of low.found) high.code Q }
     ensures same { IsSameRoom room.old room.new }
     ensures left { let G = plan_network base.words plan.entry in
         figured result.change (ran (lent_in room.new) result.chain result.count result.searches)
-        ≡ relinked_by base G low high chain (lent_in room.old) }
+        ≡ relinked_by base G low.entry.code high.code chain (lent_in room.old) }
 {
     let pairs = &mut *room.pairs;
     let hops = &mut *room.hops;
-    let left = stale_pairs::drop_stale_either(pairs, near, &*hops, map::WORDS, chain);
+    let left = stale_pairs::drop_stale_either(pairs, low.hops, &*hops, map::WORDS, chain);
     if is_kept(left.count, chain) {
         bounds::mark_twice(
             room.bounds,
             room.skips,
             map::WORDS,
-            low,
-            e.span.ecc,
-            high,
-            f.ecc,
+            low.code,
+            low.found.span.ecc,
+            high.code,
+            high.span.ecc,
             map::SEARCHED,
             map::OTHER,
         );
@@ -260,7 +255,7 @@ fn settle(
             searches: 2,
         };
     }
-    let got = shrink(plan, room, near, low, e, fars, high, f, left.way);
+    let got = shrink(plan, room, low, high, fars, left.way);
     Figures {
         change: Change::Shrank,
         chain: got.candidate,
@@ -292,17 +287,47 @@ pub fn relink(plan: Plan<'_>, room: &mut Room<'_>, low: usize, high: usize, chai
         odd: &mut odds,
     };
     let d = search::search_sound(plan.links, &mut own, low);
-    let e = rounds::reach_by(plan.targets, &own, &mut nears, map::WORDS, low, d);
+    let e = rounds::reach_by(
+        plan.targets,
+        &near,
+        &evens,
+        &odds,
+        &mut nears,
+        map::WORDS,
+        low,
+        d,
+    );
+    let hops = &mut *room.hops;
+    let even = &mut *room.even;
+    let odd = &mut *room.odd;
     let mut lent = Scratch {
-        hops: &mut *room.hops,
-        even: &mut *room.even,
-        odd: &mut *room.odd,
+        hops: &mut *hops,
+        even: &mut *even,
+        odd: &mut *odd,
     };
     let b = search::search_sound(plan.links, &mut lent, high);
-    let f = rounds::reach_by(plan.targets, &lent, &mut fars, map::WORDS, high, b);
+    let f = rounds::reach_by(
+        plan.targets,
+        &*hops,
+        &*even,
+        &*odd,
+        &mut fars,
+        map::WORDS,
+        high,
+        b,
+    );
     let found = Finished {
         span: e,
         partners: &nears,
     };
-    settle(plan, room, &near, low, found, &mut fars, high, f, chain)
+    let lower = Low {
+        code: low,
+        hops: &near,
+        found,
+    };
+    let higher = High {
+        code: high,
+        span: f,
+    };
+    settle(plan, room, lower, higher, &mut fars, chain)
 }

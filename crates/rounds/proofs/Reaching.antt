@@ -30,7 +30,7 @@ use Rattle.targets.specs.Hops.{IsLastLayer}
 use Rattle.targets.specs.Reach.{Reached, farthest_of, is_farthest, reach_of}
 use Rattle.targets.proofs.Partners.{farthest_is}
 use Rattle.pairs.specs.Pairs.{Tally, tally_of, pairs_with, settle_of}
-use Rattle.rounds.specs.Workspace.{last_row, reach_in, Absorbed, absorbing}
+use Rattle.rounds.specs.Workspace.{last_row, reach_in, Absorbed, taking, absorbing}
 use Rattle.rounds.specs.Targets.{target_network, AreTargets, Spans}
 use Rattle.rounds.proofs.Targets.{target_delivers, target_depots}
 
@@ -56,7 +56,7 @@ settle_free W f a b r e c t =
 
 pub reach_free : (W mark r d : ℕ) (targets hops last a b h : List ℕ) (A : Absorbed)
     → absorbing W mark r (reach_of W targets hops last r d a) h A ≡ absorbing W mark r (reach_of W targets hops last r d b) h A
-unfolding absorbing reach_of
+unfolding absorbing taking reach_of
 reach_free W mark r d targets hops last a b h A =
     rw (settle_free W (λ v. row_bit W targets r && is_farthest W targets hops last d (farthest_of W targets hops last d) v) a b r
     (cond (row_bit W targets r) (farthest_of W targets hops last d) 0) A.candidate A.paired)

@@ -38,7 +38,7 @@ use Rattle.pairs.specs.Pairs.{Tally, tally_of, settle_of}
 use Rattle.bounds.specs.Bounds.{Marks, leave_of, relax_of}
 use Rattle.ranks.specs.Ranks.{pick_in}
 use Rattle.rounds.specs.Leaves.{search_after}
-use Rattle.rounds.specs.Workspace.{Workspace, workspace, reach_in, absorbed, absorbing, holding, absorb_of, round_of, or_end, run_of}
+use Rattle.rounds.specs.Workspace.{Workspace, workspace, reach_in, absorbed, taking, absorbing, holding, absorb_of, round_of, or_end, run_of}
 use Rattle.rounds.specs.Targets.{target_network, AreTargets, Spans}
 use Rattle.rounds.proofs.Reaching.{spans, hop_at}
 use Rattle.rounds.proofs.Holding.{Origin, Holds, waiting_place, after_over, after_snoc}
@@ -193,7 +193,7 @@ module _ (W mark other : ℕ) (most : W < 513) (members targets links : List ℕ
       pub absorb_over :
           let A = absorbing W mark r R₁ h (absorbed M.paired M.marked M.candidate) in
           Holds W mark other G O (round (chart G) r S) (workspace A.paired (search_leaves W G r O.searched) A.marked A.candidate (M.searches + 1))
-      unfolding absorbing round c' own
+      unfolding absorbing taking round c' own
       absorb_over =
           taken_in R₁ is h hop (cond (ltb M.candidate R₁.own) R₁.own M.candidate) (subst (λ (n : ℕ). n ≤ unreached) (sym limited) low_c) (round (chart G) r S) refl refl
           (λ v. status_is r S v ∙ ap (λ (n : ℕ). cond (eqb v r) (searched (ecc (chart G) r)) (offer n r (ecc (chart G) r + dist G r v) (S.status v))) (sym (limited ∙ raised)))
@@ -206,7 +206,7 @@ module _ (W mark other : ℕ) (most : W < 513) (members targets links : List ℕ
       pub hold_over :
           let A = holding W mark r R₁ h (absorbed M.paired M.marked M.candidate) in
           Holds W mark other G O (unskipped_round (chart G) r S) (workspace A.paired (search_leaves W G r O.searched) A.marked A.candidate (M.searches + 1))
-      unfolding holding unskipped_round
+      unfolding holding taking unskipped_round
       hold_over = taken_in R₁ is h hop 0 (omega arith) (unskipped_round (chart G) r S) refl refl (unskipped_status r S) refl
 
     -- a search that stands in tables, a row being lent for the partners

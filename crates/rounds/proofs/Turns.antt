@@ -1,13 +1,12 @@
 -- The code's functions, put together: one round, and the loop of rounds. Assumes nothing.
 use mathlib.Core.Path.{◌≡◌, refl, sym, ap, ap₂, ◌∙◌, subst}
 use mathlib.Core.Logic.{◌≢◌, ◌⊎◌, inl, inr}
-use mathlib.Core.Bool.{Bool, true, false, cond}
+use mathlib.Core.Bool.{Bool, true, false}
 use mathlib.Core.List.{List, []}
 use mathlib.Core.Option.{Option, none, some}
 use Prim.Native.Nat.{ℕ, zero, suc, ◌+◌, ◌*◌, ◌≤◌, ◌<◌}
 use native.Mathlib.Nat.{lt_irrefl}
 use native.Mathlib.Omega.{arith}
-use lib.Dec.{ltb}
 use lib.ListN.{length}
 use Rattle.std.proofs.lemmas.Bool.{cases_Bool, and_parts, cases_eq}
 use Rattle.lists.specs.Lists.{range, filterb, mapl, countb, overwrite}
@@ -29,7 +28,7 @@ use Rattle.pairs.proofs.Tallies.{holds_counted}
 use Rattle.bounds.specs.Bounds.{Marks, marks, leave_of, waiting_after, relax_of}
 use Rattle.ranks.specs.Ranks.{pick_in, waiting_of}
 use Rattle.ranks.proofs.Ranks.{ranked_row, ranked_all}
-use Rattle.rounds.specs.Workspace.{Workspace, workspace, last_row, reach_in, Absorbed, absorbed, absorbing, holding, absorb_of, round_of, or_end, run_of, RoundsBegun, rounds_begun, rounds_begin_of}
+use Rattle.rounds.specs.Workspace.{Workspace, workspace, last_row, reach_in, Absorbed, absorbed, raised, taking, absorbing, absorb_of, round_of, or_end, run_of, RoundsBegun, rounds_begun, rounds_begin_of}
 use Rattle.rounds.proofs.Reaching.{reach_free}
 use Rattle.rounds.proofs.Finish.{cleared_table, count_no_pairs}
 
@@ -37,31 +36,30 @@ use Rattle.rounds.proofs.Finish.{cleared_table, count_no_pairs}
 
 -- ---- a search taken in
 
-pub absorb_is : (W mark r : ℕ) (R : Reached) (h : List ℕ) (A : Absorbed) (t : Tally) (c : ℕ) (m : Marks)
+pub taking_is : (limit W mark r : ℕ) (R : Reached) (h : List ℕ) (A : Absorbed) (t : Tally) (c : ℕ) (m : Marks)
     → t ≡ settle_of W R.partners r R.own A.candidate A.paired
-    → c ≡ cond (ltb A.candidate R.own) R.own A.candidate → m ≡ relax_of W h r R.ecc c (leave_of W r R.ecc mark A.marked)
-    → absorbed t m c ≡ absorbing W mark r R h A
+    → c ≡ raised A.candidate R.own → m ≡ relax_of W h r R.ecc limit (leave_of W r R.ecc mark A.marked)
+    → absorbed t m c ≡ taking limit W mark r R h A
+unfolding taking
+taking_is limit W mark r R h A t c m a b d = rw (d, a, b)
+
+pub ruleset taken = (taking_is, settle_counted)
+
+-- with the raised candidate as limit
+pub absorbing_is : (limit W mark r : ℕ) (R : Reached) (h : List ℕ) (A B : Absorbed)
+    → B ≡ taking limit W mark r R h A → limit ≡ raised A.candidate R.own → B ≡ absorbing W mark r R h A
 unfolding absorbing
-absorb_is W mark r R h A t c m a b d = rw (d, a, b)
-
-pub hold_is : (W mark r : ℕ) (R : Reached) (h : List ℕ) (A : Absorbed) (t : Tally) (c : ℕ) (m : Marks)
-    → t ≡ settle_of W R.partners r R.own A.candidate A.paired
-    → c ≡ cond (ltb A.candidate R.own) R.own A.candidate → m ≡ relax_of W h r R.ecc 0 (leave_of W r R.ecc mark A.marked)
-    → absorbed t m c ≡ holding W mark r R h A
-unfolding holding
-hold_is W mark r R h A t c m a b d = rw (d, a, b)
-
-pub ruleset taken = (absorb_is, hold_is, settle_counted)
+absorbing_is limit W mark r R h A B t l = t ∙ ap (λ (x : ℕ). taking x W mark r R h A) l
 
 pub round_is_absorbed : (W : ℕ) (targets links : List ℕ) (mark r : ℕ) (M : Workspace) (d : ℕ) (T : Tables) (R : Reached) (row h : List ℕ) (t : Tally) (m : Marks) (c n : ℕ)
-    → searched d T ≡ search_table W links r M.searched → R ≡ reach_in W targets r d T row
+    → searched d T ≡ search_table W links r M.searched → (T' : Tables) → R ≡ reach_in W targets r d T' row → T' ≡ T
     → h ≡ T.hops → absorbed t m c ≡ absorbing W mark r R h (absorbed M.paired M.marked M.candidate) → n ≡ M.searches + 1
     → workspace t T m c n ≡ round_of W targets links mark r M
 unfolding round_of absorb_of
-round_is_absorbed W targets links mark r M d T R row h t m c n s q l a k =
+round_is_absorbed W targets links mark r M d T R row h t m c n s T' q e l a k =
     let A = absorbed M.paired M.marked M.candidate in
     let b : absorbed t m c ≡ absorbing W mark r (reach_in W targets r d T []) T.hops A =
-    a ∙ ap (λ (h : List ℕ). absorbing W mark r R h A) l ∙ ap (λ (R : Reached). absorbing W mark r R T.hops A) q ∙ reach_free W mark r d targets T.hops (last_row d T) row [] T.hops A in
+    a ∙ ap (λ (h : List ℕ). absorbing W mark r R h A) l ∙ ap (λ (R : Reached). absorbing W mark r R T.hops A) (q ∙ ap (λ (X : Tables). reach_in W targets r d X row) e) ∙ reach_free W mark r d targets T.hops (last_row d T) row [] T.hops A in
     ap₂ (λ (A : Absorbed) (x : ℕ). workspace A.paired T A.marked A.candidate x) b k
     ∙ ap (λ (X : Searched). absorb_of W mark r (reach_in W targets r X.depth X.left []) X.left M) s
 
@@ -95,7 +93,7 @@ begun_counted W other members B p m pos most l e =
 
 pub round_counted : (W : ℕ) (targets links : List ℕ) (mark r : ℕ) (M : Workspace) (T : Tables) (t : List ℕ) (n c k : ℕ) (m : Marks) → Counted W M.paired.pairs M.paired.count
     → workspace (tally t n) T m c k ≡ round_of W targets links mark r M → Counted W t n
-unfolding round_of absorb_of absorbing
+unfolding round_of absorb_of absorbing taking
 round_counted W targets links mark r M T t n c k m h e = settle_counted W _ r _ M.candidate M.paired.pairs t M.paired.count n h (ap (λ (X : Workspace). X.paired) e)
 
 -- ---- a round takes a depot away
@@ -120,7 +118,7 @@ module _ (W : ℕ) (targets links : List ℕ) where
 
   pub round_fewer : (mark r : ℕ) (M : Workspace) → row_bit W M.marked.waiting r ≡ true → r < 64 * W → W ≤ length M.marked.waiting
       → countb (row_bit W (round_of W targets links mark r M).marked.waiting) (range (64 * W)) < countb (row_bit W M.marked.waiting) (range (64 * W))
-  unfolding round_of absorb_of absorbing relax_of waiting_after
+  unfolding round_of absorb_of absorbing taking relax_of waiting_after
   round_fewer mark r M o l w = count_lt after (row_bit W M.marked.waiting) (range (64 * W)) (λ v m h. (stays v (range_out (64 * W) m) h).1) (range_in (64 * W) l) gone o
     where
       after : ℕ → Bool

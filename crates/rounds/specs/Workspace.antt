@@ -40,23 +40,25 @@ pub record Absorbed : Type 0 where
 abbrev pub absorbed : Tally → Marks → ℕ → Absorbed
 absorbed t m c = record { paired = t; marked = m; candidate = c }
 
--- candidate and pairs go by what is r's own, marks and bounds by its eccentricity
-unfoldable pub absorbing : ℕ → ℕ → ℕ → Reached → List ℕ → Absorbed → Absorbed
-absorbing W mark r R h A =
-    let c = cond (ltb A.candidate R.own) R.own A.candidate in
-    record {
-      paired = settle_of W R.partners r R.own A.candidate A.paired;
-      marked = relax_of W h r R.ecc c (leave_of W r R.ecc mark A.marked);
-      candidate = c;
-    }
+-- the candidate c after a search whose own eccentricity is e
+abbrev pub raised : ℕ → ℕ → ℕ
+raised c e = cond (ltb c e) e c
 
--- the same, but nobody is skipped: bounds are held against 0 in place of the candidate
-unfoldable pub holding : ℕ → ℕ → ℕ → Reached → List ℕ → Absorbed → Absorbed
-holding W mark r R h A = record {
+-- candidate and pairs go by what is r's own, marks and bounds by its eccentricity; depots whose bound is below the limit are skipped
+unfoldable pub taking : ℕ → ℕ → ℕ → ℕ → Reached → List ℕ → Absorbed → Absorbed
+taking limit W mark r R h A = record {
   paired = settle_of W R.partners r R.own A.candidate A.paired;
-  marked = relax_of W h r R.ecc 0 (leave_of W r R.ecc mark A.marked);
-  candidate = cond (ltb A.candidate R.own) R.own A.candidate;
+  marked = relax_of W h r R.ecc limit (leave_of W r R.ecc mark A.marked);
+  candidate = raised A.candidate R.own;
 }
+
+-- they are skipped by the candidate
+unfoldable pub absorbing : ℕ → ℕ → ℕ → Reached → List ℕ → Absorbed → Absorbed
+absorbing W mark r R h A = taking (raised A.candidate R.own) W mark r R h A
+
+-- nobody is skipped yet: no bound lies below 0
+unfoldable pub holding : ℕ → ℕ → ℕ → Reached → List ℕ → Absorbed → Absorbed
+holding W mark r R h A = taking 0 W mark r R h A
 
 unfoldable pub absorb_of : ℕ → ℕ → ℕ → Reached → Tables → Workspace → Workspace
 absorb_of W mark r R T M =

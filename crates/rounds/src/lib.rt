@@ -7,8 +7,9 @@ ghost use Rattle.pairs.specs.Pairs.{tally, Counted};
 ghost use Rattle.bounds.specs.Bounds.{leave_of, relax_of};
 ghost use Rattle.ranks.specs.Ranks.{AreRanks, AreThinned, PickIs};
 ghost use Rattle.targets.specs.Reach.{reached};
-ghost use Rattle.rounds.specs.Workspace.{reach_in, absorbed, absorbing, holding, round_of, run_of, rounds_begun, rounds_begin_of};
-ghost use Rattle.map.specs.Slices.{tables_in, IsSameRoom};
+ghost use Rattle.rounds.specs.Workspace.{reach_in, absorbed, taking, round_of, run_of, rounds_begun, rounds_begin_of};
+ghost use Rattle.map.specs.Room.{tables};
+ghost use Rattle.map.specs.Slices.{IsSameRoom};
 ghost use Rattle.bounds.specs.Slices.{marks_in, MarksFit, IsSameMarks};
 ghost use Rattle.rounds.specs.Slices.{workspace_in, MarksFitIn, RoomFits, IsSameDesk, said_of, limit_in};
 
@@ -33,33 +34,33 @@ pub struct Desk<'a> {
 // ---- one round
 
 // What a search from r to this depth says of it: how far the targets lie, and its partners. The last layer stands in the row of the depth's parity.
+// It takes the three tables as shared slices: it only reads them, and a caller that has nothing else can ask too. They have one lifetime, since a struct
+// holds two of them.
 #[tactic(auto, using(crate::proofs::Reaching::reach_even, crate::proofs::Reaching::reach_odd))]
-pub fn reach_by(
-    targets: &[u64],
-    scratch: &Scratch<'_>,
+pub fn reach_by<'a>(
+    targets: &'a [u64],
+    hops: &'a [u16],
+    even: &'a [u64],
+    odd: &'a [u64],
     partners: &mut [u64],
     words: usize,
     r: usize,
     depth: u16,
 ) -> Span
     requires { (words ≤ length targets.now)
-        × (64 * words ≤ length scratch.now.hops.now)
-        × (words ≤ length scratch.now.even.now)
-        × (words ≤ length scratch.now.odd.now)
+        × (64 * words ≤ length hops.now)
+        × (words ≤ length even.now)
+        × (words ≤ length odd.now)
         × (words ≤ length partners.old)
         × (words < 2 ^ 32)
         × (r < 64 * words) }
     ensures { reached result.ecc result.own partners.new
-        ≡ reach_in words targets.now r depth (tables_in scratch.now) partners.old }
+        ≡ reach_in words targets.now r depth (tables hops.now even.now odd.now) partners.old }
 {
-    let last = if depth % 2 == 0 {
-        &*scratch.even
-    } else {
-        &*scratch.odd
-    };
+    let last = if depth % 2 == 0 { even } else { odd };
     let seen = TargetHops {
         targets,
-        hops: &*scratch.hops,
+        hops,
         words,
     };
     TargetSearch { seen, last, depth }.reach(partners, r)
@@ -67,7 +68,7 @@ pub fn reach_by(
 
 // The candidate after a search whose own eccentricity is e: by the test of the definition, so that no law of `max` is needed.
 #[tactic(auto, using(std::proofs::lemmas::Bool::Decides::nat_tests))]
-fn raise(candidate: u16, e: u16) -> u16
+pub fn raised(candidate: u16, e: u16) -> u16
     ensures { result ≡ cond (ltb candidate e) e candidate }
 {
     if candidate < e {
@@ -125,7 +126,8 @@ fn spread(
     bounds::relax(hops, marks, words, r as u16, e, least_kept(limit));
 }
 
-// Takes in a finished search from r: candidate and pairs by what is its own, marks by its eccentricity; then depots are skipped by the candidate.
+// Takes in a finished search from r: candidate and pairs by what is its own, marks by its eccentricity; then the depots whose bound is below the limit are
+// skipped. A caller that skips by the candidate gives the raised one; without a limit nobody is skipped yet.
 #[tactic(auto, using(crate::proofs::Turns::taken))]
 pub fn absorb(
     pairs: &mut [u64],
@@ -135,66 +137,39 @@ pub fn absorb(
     mark: u16,
     r: usize,
     found: Finished<'_>,
-    candidate: u16,
-    count: u32,
+    before: RoundFigures,
+    limit: Option<u16>,
 ) -> RoundFigures
-    requires { Counted words pairs.old count
+    requires { Counted words pairs.old before.count
         × MarksFit words marks.old
         × (64 * words ≤ length hops.now)
         × (r < 64 * words)
-        × (words ≤ length found.partners.now) }
+        × (words ≤ length found.partners.now)
+        × (before.searches < 65535) }
     ensures same { IsSameMarks marks.old marks.new }
     ensures taken { let h = hops.now in
-        let before = absorbed (tally pairs.old count) (marks_in words marks.old) candidate in
+        let entry = absorbed (tally pairs.old before.count) (marks_in words marks.old) before.candidate in
         let after = absorbed (tally pairs.new result.count) (marks_in words marks.new) result.candidate in
-        after ≡ absorbing words mark r (said_of found.entry) h before }
+        after ≡ taking (limit_in limit) words mark r (said_of found.entry) h entry }
     ensures counted { Counted words pairs.new result.count }
     ensures thinned { AreThinned words marks.old.ranks.now marks.new.ranks.now }
+    ensures searches { result.searches ≡ before.searches + 1 }
 {
     let own = found.span.own;
-    let sum = pairs::settle(pairs, found.partners, words, r, own, candidate, count);
-    let c = raise(candidate, own);
-    spread(hops, marks, words, mark, r, found.span.ecc, Some(c));
+    let count = pairs::settle(
+        pairs,
+        found.partners,
+        words,
+        r,
+        own,
+        before.candidate,
+        before.count,
+    );
+    spread(hops, marks, words, mark, r, found.span.ecc, limit);
     RoundFigures {
-        candidate: c,
-        count: sum,
-        searches: 0,
-    }
-}
-
-// The same, but nobody is skipped yet.
-#[tactic(auto, using(crate::proofs::Turns::taken))]
-pub fn hold(
-    pairs: &mut [u64],
-    hops: &[u16],
-    marks: &mut Marks<'_>,
-    words: usize,
-    mark: u16,
-    r: usize,
-    found: Finished<'_>,
-    candidate: u16,
-    count: u32,
-) -> RoundFigures
-    requires { Counted words pairs.old count
-        × MarksFit words marks.old
-        × (64 * words ≤ length hops.now)
-        × (r < 64 * words)
-        × (words ≤ length found.partners.now) }
-    ensures same { IsSameMarks marks.old marks.new }
-    ensures taken { let h = hops.now in
-        let before = absorbed (tally pairs.old count) (marks_in words marks.old) candidate in
-        let after = absorbed (tally pairs.new result.count) (marks_in words marks.new) result.candidate in
-        after ≡ holding words mark r (said_of found.entry) h before }
-    ensures counted { Counted words pairs.new result.count }
-    ensures thinned { AreThinned words marks.old.ranks.now marks.new.ranks.now }
-{
-    let own = found.span.own;
-    let sum = pairs::settle(pairs, found.partners, words, r, own, candidate, count);
-    spread(hops, marks, words, mark, r, found.span.ecc, None);
-    RoundFigures {
-        candidate: raise(candidate, own),
-        count: sum,
-        searches: 0,
+        candidate: raised(before.candidate, own),
+        count,
+        searches: before.searches + 1,
     }
 }
 
@@ -223,11 +198,13 @@ fn round(
 {
     let pairs = &mut *room.pairs;
     let hops = &mut *room.hops;
+    let even = &mut *room.even;
+    let odd = &mut *room.odd;
     let partners = &mut *desk.partners;
     let mut scratch = Scratch {
         hops: &mut *hops,
-        even: &mut *room.even,
-        odd: &mut *room.odd,
+        even: &mut *even,
+        odd: &mut *odd,
     };
     let mut marks = Marks {
         bounds: &mut *room.bounds,
@@ -235,12 +212,13 @@ fn round(
         ranks: &mut *desk.ranks,
     };
     let depth = layers::search_table(links, &mut scratch, desk.seen, desk.next, words, r);
-    let span = reach_by(targets, &scratch, partners, words, r, depth);
+    let span = reach_by(targets, &*hops, &*even, &*odd, partners, words, r, depth);
     let found = Finished {
         span,
         partners: &*partners,
     };
-    let got = absorb(
+    let limit = raised(before.candidate, span.own);
+    absorb(
         pairs,
         &*hops,
         &mut marks,
@@ -248,14 +226,9 @@ fn round(
         mark,
         r,
         found,
-        before.candidate,
-        before.count,
-    );
-    RoundFigures {
-        candidate: got.candidate,
-        count: got.count,
-        searches: before.searches + 1,
-    }
+        before,
+        Some(limit),
+    )
 }
 
 // ---- rounds until none remains

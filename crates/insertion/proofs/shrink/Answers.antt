@@ -2,7 +2,7 @@
 use native.Mathlib.Omega.{arith}
 use Rattle.map.specs.Memory.{base}
 use Rattle.map.proofs.Theorems.{base_shape}
-use Rattle.rounds.proofs.Turns.{begun_counted, same_marks}
+use Rattle.rounds.proofs.Turns.{begun_counted, same_marks, absorbing_is}
 use Rattle.insertion.proofs.Shrinking.{shrink_is}
 use borrow.Author.Rules.{rules}
 use Rattle.insertion.proofs.shrink.Goals as goal
@@ -15,10 +15,12 @@ absorb-first-requires c =
       search rules,
       search rules,
       search rules,
+      omega arith,
     )
 
 pub returns-clause-left : goal.returns-clause-left
 returns-clause-left c =
     shrink_is base base_shape _ _ _ c.args.plan.are _ _ _ _ _ c.requires.2 (omega (arith, c.ranges.way.fits)) _ _ _ _
-    c.begin.ensures.begun _ _ _ c.absorb-first.ensures.taken _ _ _ _ _ _ c.run_rounds.ensures.left
+    c.begin.ensures.begun _ _ _ (absorbing_is _ _ _ _ _ _ _ _ c.absorb-first.ensures.taken c.raised-limit.ensures) _
+    c.absorb-first.ensures.searches _ _ _ _ _ _ c.run_rounds.ensures.left
     (same_marks _ _ _ _ _ _ _ (search rules) (search rules) (search rules))

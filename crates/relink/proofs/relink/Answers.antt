@@ -12,14 +12,10 @@ settle-requires c =
       search rules,
       record { ends = pre.1.ends },
       search rules,
-      search rules,
-      search rules,
       both_stand base base_shape _ _ _ pre.1.are _ _ _ _ _ _ _ _ _ _ pre.1.net pre.1.lower pre.1.higher pre.1.apart
-          c.search_sound-d.ensures.left c.search_sound-b.ensures.left _ _
-          c.reach_by-e.ensures c.reach_by-f.ensures (search rules)
+          c.search_sound-d.ensures.left c.search_sound-b.ensures.left _ _ _
+          c.reach_by-e.ensures c.reach_by-f.ensures (same_tables _ _ _ _ _ _ (search rules) (search rules) (search rules)) (search rules)
           (same_tables _ _ _ _ _ _ (search rules) (search rules) (search rules)),
-      pre.2,
-      pre.3,
     )
 
 pub returns-clause-left : goal.returns-clause-left

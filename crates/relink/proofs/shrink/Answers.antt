@@ -9,6 +9,6 @@ use Rattle.relink.proofs.shrink.Goals as goal
 
 pub returns-clause-left : goal.returns-clause-left
 returns-clause-left c =
-    shrink_is base base_shape _ _ _ c.args.plan.are _ _ _ _ _ _ _ _ c.requires.4 (omega (arith, c.ranges.way.fits)) _ _ _
+    shrink_is base base_shape _ _ _ c.args.plan.are _ _ _ _ _ _ _ _ c.requires.2 (omega (arith, c.ranges.way.fits)) _ _ _
     c.take_both-before.ensures.taken _ c.take_both-before.ensures.searches _ _ _ _ _ _ c.run_rounds.ensures.left
     (same_marks _ _ _ _ _ _ _ (search rules) (search rules) (search rules))

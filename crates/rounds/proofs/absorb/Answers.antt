@@ -4,4 +4,4 @@ use Rattle.rounds.proofs.absorb.Goals as goal
 
 pub returns-clause-counted : goal.returns-clause-counted
 returns-clause-counted c =
-    settle_counted _ _ _ _ _ _ _ _ _ c.requires.0 c.settle-sum.ensures
+    settle_counted _ _ _ _ _ _ _ _ _ c.requires.0 c.settle-count.ensures
