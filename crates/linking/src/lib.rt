@@ -115,7 +115,7 @@ pub fn link_step(
     ensures left { update_left result links.new (lent_in room.new)
         ≡ update_call base rec links.old (lent_in room.old) (joins first second) }
 {
-    match update::map_refusal(rec, &*links, &*room) {
+    match update::room_refusal(rec, &*links, &*room) {
         Ok(()) => link_sound(rec, links, room, first, second),
         Err(refusal) => update::refused(rec, refusal.number()),
     }

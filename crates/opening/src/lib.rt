@@ -133,7 +133,7 @@ pub fn open_step(
     ensures left { update_left result links.new (lent_in room.new)
         ≡ update_call base rec links.old (lent_in room.old) (asked notice.entry) }
 {
-    match update::map_refusal(rec, &*links, &*room) {
+    match update::room_refusal(rec, &*links, &*room) {
         Ok(()) => open_sound(rec, links, room, notice),
         Err(refusal) => update::refused(rec, refusal.number()),
     }
