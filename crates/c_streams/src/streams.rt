@@ -3,7 +3,7 @@ ghost use Rattle.std.specs.Prelude.{◌≡◌};
 ghost use Rattle.map.specs.Slices.{lent_before, lent_after};
 ghost use Rattle.c_streams.specs.Feeds.{fed_out, feed_out, finish_out};
 
-use map::Room;
+use map::{Lengths, Room};
 use stream::Progress;
 
 // Feeds a piece of a stream's input. 0, with the bytes of the piece used and the bytes of reports written; or 1 (short), 2 (spoilt), 3 (apart).
@@ -34,6 +34,24 @@ pub extern "C" fn zorpedi_feed(
         links.new after line.new out.new in
         exit ≡ feed_out entry piece.now }
 {
+    let lengths = Lengths {
+        hops: hops.len(),
+        bounds: bounds.len(),
+        skips: skips.len(),
+        even: even.len(),
+        odd: odd.len(),
+    };
+    if let Err(refusal) = c_values::step_refusal(
+        &*words,
+        &*links,
+        &*pairs,
+        lengths,
+        line.len(),
+        out.len(),
+        *held,
+    ) {
+        return refusal.number();
+    }
     let mut room = Room {
         pairs,
         hops,
@@ -42,16 +60,6 @@ pub extern "C" fn zorpedi_feed(
         even,
         odd,
     };
-    if let Err(refusal) = c_values::step_refusal(
-        &*words,
-        &*links,
-        &room,
-        line.len(),
-        out.len(),
-        *held,
-    ) {
-        return refusal.number();
-    }
     let rec = c_values::record_of(&*words);
     let progress = Progress {
         rec,
@@ -93,6 +101,24 @@ pub extern "C" fn zorpedi_finish(
         links.new after line.now out.new in
         exit ≡ finish_out entry }
 {
+    let lengths = Lengths {
+        hops: hops.len(),
+        bounds: bounds.len(),
+        skips: skips.len(),
+        even: even.len(),
+        odd: odd.len(),
+    };
+    if let Err(refusal) = c_values::step_refusal(
+        &*words,
+        &*links,
+        &*pairs,
+        lengths,
+        line.len(),
+        out.len(),
+        *held,
+    ) {
+        return refusal.number();
+    }
     let mut room = Room {
         pairs,
         hops,
@@ -101,16 +127,6 @@ pub extern "C" fn zorpedi_finish(
         even,
         odd,
     };
-    if let Err(refusal) = c_values::step_refusal(
-        &*words,
-        &*links,
-        &room,
-        line.len(),
-        out.len(),
-        *held,
-    ) {
-        return refusal.number();
-    }
     let rec = c_values::record_of(&*words);
     let progress = Progress {
         rec,

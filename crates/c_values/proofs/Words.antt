@@ -1,34 +1,30 @@
--- THE RECORD IN ELEVEN WORDS, read and written word by word. Assumes nothing.
+-- THE RECORD IN ELEVEN WORDS, as it is written. Assumes nothing.
 use mathlib.Core.Path.{◌≡◌, refl, sym, ap, ap₂, ◌∙◌}
 use mathlib.Core.List.{List, [], ◌∷◌, ◌++◌}
-use Prim.Native.Nat.{ℕ, suc, ◌+◌, ◌≤◌, ◌<◌}
+use Prim.Native.Nat.{ℕ, ◌+◌, ◌≤◌, ◌<◌}
 use native.Mathlib.Omega.{arith}
-use lib.ListN.{length, get_or, set, take, drop, take-append-drop, length-append}
-use lib.Seq.{append_snoc, length-take-le, take_all, take_at, drop-cons, drop-append-add, drop-drop}
+use lib.ListN.{length, set, take, drop, length-append}
+use lib.Seq.{append_snoc, length-take-le, take_at, drop-append-add, drop-drop}
+use borrow.Rule.Slice.PartMut.{put_mid}
+use Rattle.std.proofs.lemmas.List.{append_assoc}
 use Rattle.lists.specs.Lists.{overwrite}
 use Rattle.lists.proofs.Copies.{overwrite_snoc}
 use Rattle.map.specs.declared.Record.{Record}
 use Rattle.c_values.specs.Words.{record_words, words_of}
 
--- ---- read
+-- ---- a row in the place of the k words from `at` on
 
--- the word at i, and those from the next on
-one_more : (l : List ℕ) (i j : ℕ) → j ≡ i + 1 → i < length l → drop i l ≡ get_or l i 0 ∷ drop j l
-one_more l i j e h = let s : suc i ≡ j = omega (arith, e) in drop-cons l i 0 h ∙ ap (λ (k : ℕ). get_or l i 0 ∷ drop k l) s
-
-pub row_of : (l : List ℕ) (at : ℕ) → at + 4 ≤ length l → get_or l at 0 ∷ get_or l (at + 1) 0 ∷ get_or l (at + 2) 0 ∷ get_or l (at + 3) 0 ∷ [] ≡ take 4 (drop at l)
-row_of l at h = sym (ap (take 4) (one_more l at (at + 1) (omega arith) (omega (arith, h)) ∙ ap (λ (r : List ℕ). get_or l at 0 ∷ r) second))
+pub row_put : (l row ys : List ℕ) (at k : ℕ) → ys ≡ row → at + k ≤ length l → length row ≡ k → put_mid at k l ys ≡ overwrite (take at l ++ row) l
+unfolding overwrite
+row_put l row ys at k e h n =
+    ap (λ (r : List ℕ). put_mid at k l r) e
+    ∙ sym (append_assoc (take at l) row (drop k (drop at l)))
+    ∙ ap (λ (r : List ℕ). (take at l ++ row) ++ r) (drop-drop k at l ∙ ap (λ (i : ℕ). drop i l) behind)
   where
-    fourth : drop (at + 3) l ≡ get_or l (at + 3) 0 ∷ drop (at + 4) l
-    fourth = one_more l (at + 3) (at + 4) (omega arith) (omega (arith, h))
+    behind : at + k ≡ length (take at l ++ row)
+    behind = omega (arith, length-append (take at l) row, length-take-le at l (omega (arith, h)), n)
 
-    third : drop (at + 2) l ≡ get_or l (at + 2) 0 ∷ get_or l (at + 3) 0 ∷ drop (at + 4) l
-    third = one_more l (at + 2) (at + 3) (omega arith) (omega (arith, h)) ∙ ap (λ (r : List ℕ). get_or l (at + 2) 0 ∷ r) fourth
-
-    second : drop (at + 1) l ≡ get_or l (at + 1) 0 ∷ get_or l (at + 2) 0 ∷ get_or l (at + 3) 0 ∷ drop (at + 4) l
-    second = one_more l (at + 1) (at + 2) (omega arith) (omega (arith, h)) ∙ ap (λ (r : List ℕ). get_or l (at + 1) 0 ∷ r) third
-
--- ---- written: the stores are one overwriting
+-- ---- the stores are one overwriting
 
 put_one : (w l : List ℕ) (i x : ℕ) {m r : List ℕ} → m ≡ overwrite w l → length w ≡ i → i < length l → r ≡ set m i x → r ≡ overwrite (w ++ (x ∷ [])) l
 put_one w l i x e n h s = s ∙ ap₂ (λ (m : List ℕ) (j : ℕ). set m j x) e (sym n) ∙ overwrite_snoc w l x (omega (arith, n, h))
@@ -36,45 +32,6 @@ put_one w l i x e n h s = s ∙ ap₂ (λ (m : List ℕ) (j : ℕ). set m j x) e
 -- one more is one longer
 length_more : (w : List ℕ) (x : ℕ) {i j : ℕ} → length w ≡ i → j ≡ i + 1 → length (w ++ (x ∷ [])) ≡ j
 length_more w x e s = omega (arith, length-append w (x ∷ []), e, s)
-
-pub write_row : (l row : List ℕ) (at : ℕ) → at + 4 ≤ length l → length row ≡ 4
-    → overwrite (take at l ++ row) l ≡ set (set (set (set l at (get_or row 0 0)) (at + 1) (get_or row 1 0)) (at + 2) (get_or row 2 0)) (at + 3) (get_or row 3 0)
-unfolding overwrite
-write_row l row at h len =
-    sym
-    (put_one (w₂ ++ (get_or row 2 0 ∷ [])) l (at + 3) (get_or row 3 0) (put_one w₂ l (at + 2) (get_or row 2 0) two n₂ (omega (arith, h)) refl)
-    (length_more w₂ (get_or row 2 0) n₂ (omega arith)) (omega (arith, h)) refl
-    ∙ ap (λ (w : List ℕ). overwrite w l) joined)
-  where
-    w : List ℕ
-    w = take at l
-
-    n : length w ≡ at
-    n = length-take-le at l (omega (arith, h))
-
-    none : l ≡ overwrite w l
-    none = sym (ap (λ (k : ℕ). w ++ drop k l) n ∙ take-append-drop at l)
-
-    w₂ : List ℕ
-    w₂ = (w ++ (get_or row 0 0 ∷ [])) ++ (get_or row 1 0 ∷ [])
-
-    n₂ : length w₂ ≡ at + 2
-    n₂ = length_more (w ++ (get_or row 0 0 ∷ [])) (get_or row 1 0) (length_more w (get_or row 0 0) n refl) (omega arith)
-
-    two : set (set l at (get_or row 0 0)) (at + 1) (get_or row 1 0) ≡ overwrite w₂ l
-    two =
-        put_one (w ++ (get_or row 0 0 ∷ [])) l (at + 1) (get_or row 1 0) (put_one w l at (get_or row 0 0) none n (omega (arith, h)) refl)
-        (length_more w (get_or row 0 0) n refl) (omega (arith, h)) refl
-
-    whole : get_or row 0 0 ∷ get_or row 1 0 ∷ get_or row 2 0 ∷ get_or row 3 0 ∷ [] ≡ row
-    whole = row_of row 0 (omega (arith, len)) ∙ take_all 4 row (omega (arith, len))
-
-    joined : (w₂ ++ (get_or row 2 0 ∷ [])) ++ (get_or row 3 0 ∷ []) ≡ w ++ row
-    joined =
-        append_snoc w₂ (get_or row 2 0) (get_or row 3 0 ∷ [])
-        ∙ append_snoc (w ++ (get_or row 0 0 ∷ [])) (get_or row 1 0) (get_or row 2 0 ∷ get_or row 3 0 ∷ [])
-        ∙ append_snoc w (get_or row 0 0) (get_or row 1 0 ∷ get_or row 2 0 ∷ get_or row 3 0 ∷ [])
-        ∙ ap (λ (r : List ℕ). w ++ r) whole
 
 -- what goes behind w leaves it
 over_again : (w y l : List ℕ) → overwrite (w ++ y) (overwrite w l) ≡ overwrite (w ++ y) l

@@ -2,16 +2,16 @@
 
 #![tactic(auto)]
 
-ghost use Rattle.std.specs.Prelude.{◌≡◌, ◌++◌, ◌+◌, ◌≤◌, ◌<◌, min, length, set, take, drop};
+ghost use Rattle.std.specs.Prelude.{◌≡◌, ◌++◌, ◌+◌, ◌≤◌, length, take, drop};
 ghost use Rattle.lists.specs.Lists.{overwrite};
 ghost use Rattle.map.specs.Memory.{base};
-ghost use Rattle.map.specs.Slices.{room_sizes};
+ghost use Rattle.map.specs.Slices.{sizes_with};
 ghost use Rattle.outcome.specs.Refusals.{refused_by};
-ghost use Rattle.c_values.specs.Words.{record_words, most16, most32, words_of, clamped_of};
+ghost use Rattle.c_values.specs.Words.{record_words, words_of, clamped_of};
 ghost use Rattle.c_values.specs.Outcomes.{outcome_of};
 ghost use Rattle.c_values.specs.Refusal.{step_refusal};
 
-use map::{Record, Room};
+use map::{Lengths, Record};
 use outcome::{Change, Outcome, Refusal};
 
 // ---- the record
@@ -28,30 +28,18 @@ const COUNT_WORD: usize = map::WORDS + 2;
 
 const YARDS_WORD: usize = map::WORDS + 3;
 
-// A word at 16 bits: a larger one becomes the largest, which no map has as its number open or its chain.
-fn at_16_bits(x: u64) -> u16
-    ensures { result ≡ min x most16 }
-{
-    u16::try_from(x).unwrap_or(u16::MAX)
-}
-
-// A word at 32 bits: a larger one becomes the largest, which no map has as its pair count.
-fn at_32_bits(x: u64) -> u32
-    ensures { result ≡ min x most32 }
-{
-    u32::try_from(x).unwrap_or(u32::MAX)
-}
-
 // The row of four words from a place on.
-#[tactic(auto, using(crate::proofs::Words::row_of))]
 fn row_at(words: &[u64], at: usize) -> [u64; map::WORDS]
     requires { at + base.words ≤ length words.now }
     ensures { result ≡ take base.words (drop at words.now) }
 {
-    [words[at], words[at + 1], words[at + 2], words[at + 3]]
+    let mut row = [0u64; map::WORDS];
+    row.copy_from_slice(&words[at..at + map::WORDS]);
+    row
 }
 
-// The record in eleven lent words. Figures that are too large for it stay too large for any map, so that they are found spoilt.
+// The record in eleven lent words. A figure that is too large for its field becomes the largest that the field holds, which no map has, so that it is found
+// spoilt.
 #[tactic(auto, unfolding(crate::specs::Words::clamped_of))]
 pub fn record_of(words: &[u64]) -> Record
     requires { record_words ≤ length words.now }
@@ -59,33 +47,25 @@ pub fn record_of(words: &[u64]) -> Record
 {
     let members = row_at(words, 0);
     let yards = row_at(words, YARDS_WORD);
+    let number = words[NUMBER_WORD];
+    let chain = words[CHAIN_WORD];
+    let count = words[COUNT_WORD];
     Record {
-        members: members,
-        number: at_16_bits(words[NUMBER_WORD]),
-        chain: at_16_bits(words[CHAIN_WORD]),
-        count: at_32_bits(words[COUNT_WORD]),
-        yards: yards,
+        members,
+        number: u16::try_from(number).unwrap_or(u16::MAX),
+        chain: u16::try_from(chain).unwrap_or(u16::MAX),
+        count: u32::try_from(count).unwrap_or(u32::MAX),
+        yards,
     }
 }
 
-// Puts a word in its place.
-fn put_word(words: &mut [u64], i: usize, x: u64)
-    requires { i < length words.old }
-    ensures { words.new ≡ set words.old i x }
-{
-    words[i] = x;
-}
-
 // Puts a row into the four words from a place on; the others stay.
-#[tactic(auto, using(crate::proofs::Words::write_row))]
+#[tactic(auto, using(crate::proofs::Words::row_put))]
 fn put_row(words: &mut [u64], at: usize, row: &[u64])
     requires { (at + base.words ≤ length words.old) × (length row.now ≡ base.words) }
     ensures { let before = words.old in words.new ≡ overwrite (take at before ++ row.now) before }
 {
-    put_word(words, at, row[0]);
-    put_word(words, at + 1, row[1]);
-    put_word(words, at + 2, row[2]);
-    put_word(words, at + 3, row[3]);
+    words[at..at + map::WORDS].copy_from_slice(row);
 }
 
 // Puts a record into eleven lent words; words past them stay.
@@ -96,9 +76,9 @@ pub fn put_record(words: &mut [u64], rec: Record)
 {
     let members = rec.members;
     put_row(words, 0, &members);
-    put_word(words, NUMBER_WORD, rec.number as u64);
-    put_word(words, CHAIN_WORD, rec.chain as u64);
-    put_word(words, COUNT_WORD, rec.count as u64);
+    words[NUMBER_WORD] = rec.number as u64;
+    words[CHAIN_WORD] = rec.chain as u64;
+    words[COUNT_WORD] = rec.count as u64;
     let yards = rec.yards;
     put_row(words, YARDS_WORD, &yards);
 }
@@ -129,13 +109,14 @@ pub fn outcome_of(answer: u8) -> Outcome
 pub fn step_refusal(
     words: &[u64],
     links: &[u64],
-    room: &Room<'_>,
+    pairs: &[u64],
+    lengths: Lengths,
     line: usize,
     out: usize,
     held: usize,
 ) -> Result<(), Refusal>
-    ensures { let long = room_sizes (length links.now) room.now in
-        refused_by result ≡ step_refusal words.now links.now room.now.pairs.now long line out held }
+    ensures { let long = sizes_with (length links.now) (length pairs.now) lengths in
+        refused_by result ≡ step_refusal words.now links.now pairs.now long line out held }
 {
     if words.len() < RECORD_WORDS
         || line < notice::LINE_LIMIT
@@ -144,5 +125,5 @@ pub fn step_refusal(
     {
         return Err(Refusal::Short);
     }
-    update::map_refusal(record_of(words), links, room)
+    update::map_refusal(record_of(words), links, pairs, lengths)
 }

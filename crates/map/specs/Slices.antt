@@ -7,6 +7,7 @@ use Rattle.std.specs.Borrow.{MutBor}
 use denote.Triple.Both.{Both}
 use Rattle.map.specs.Memory.{base, places, table_words}
 use Rattle.map.specs.Room.{Tables, tables, Lent, lent, Sizes, sizes}
+use Rattle.map.specs.declared.Lengths.{Lengths}
 use Rattle.map.specs.declared.Room.{Room}
 use Rattle.map.specs.declared.Scratch.{Scratch}
 
@@ -23,21 +24,27 @@ tables_in s = tables s.hops.now s.even.now s.odd.now
 abbrev pub lent_in : Room → Lent
 lent_in r = lent r.pairs.now (tables r.hops.now r.even.now r.odd.now) r.bounds.now r.skips.now
 
+-- the seven lengths: those of link and pair table, and the code's five
+abbrev pub sizes_with : ℕ → ℕ → Lengths → Sizes
+sizes_with links pairs z = sizes links pairs z.hops z.bounds z.skips z.even z.odd
+
+-- the code's five, of a room
+abbrev pub lengths_in : Room → Lengths
+lengths_in r = record {
+  hops = length r.hops.now;
+  bounds = length r.bounds.now;
+  skips = length r.skips.now;
+  even = length r.even.now;
+  odd = length r.odd.now;
+}
+
 -- their lengths, behind a link table of so many words; what a search is not lent counts as whole
 abbrev pub scratch_sizes : ℕ → Scratch → Sizes
 scratch_sizes links s =
     sizes links (table_words base) (length s.hops.now) (places base) (places base) (length s.even.now) (length s.odd.now)
 
 abbrev pub room_sizes : ℕ → Room → Sizes
-room_sizes links r =
-    sizes
-    links
-    (length r.pairs.now)
-    (length r.hops.now)
-    (length r.bounds.now)
-    (length r.skips.now)
-    (length r.even.now)
-    (length r.odd.now)
+room_sizes links r = sizes_with links (length r.pairs.now) (lengths_in r)
 
 -- it is the same buffer, of the same length
 pub record IsSameSlice (s t : Slice) : Type 0 where

@@ -7,8 +7,8 @@ ghost use Rattle.lists.specs.Lists.{overwrite};
 ghost use Rattle.rows.specs.Rows.{row_bit, encode_row};
 ghost use Rattle.graph.specs.Network.{delivers};
 ghost use Rattle.map.specs.Memory.{base, network_of, yard_network};
-ghost use Rattle.map.specs.Room.{sizes, long_enough};
-ghost use Rattle.map.specs.Slices.{scratch_sizes, room_sizes};
+ghost use Rattle.map.specs.Room.{long_enough};
+ghost use Rattle.map.specs.Slices.{sizes_with, lengths_in, scratch_sizes, room_sizes};
 ghost use Rattle.map.specs.Bits.{IsLent, sound_link, sound_yards, sound_pair};
 ghost use Rattle.map.specs.Depots.{NextOpen};
 ghost use Rattle.map.specs.Empty.{empty_record, empty_left, empty_call};
@@ -119,39 +119,42 @@ pub fn pair_is_sound(delivering: &[u64], words: usize, low: usize, high: usize) 
 
 // ---- the room
 
-// Whether the seven buffers of a reckoning or an opening have their named sizes. It takes lengths, since a search asks it too, for which what it is not lent
-// counts as whole.
-#[tactic(auto, using(crate::proofs::Longs::size_tests))]
-pub fn are_long(
-    links: usize,
-    pairs: usize,
-    hops: usize,
-    bounds: usize,
-    skips: usize,
-    even: usize,
-    odd: usize,
-) -> bool
-    ensures { result ≡ long_enough base (sizes links pairs hops bounds skips even odd) }
-{
-    if links < TABLE {
-        return false;
+// The lengths of the buffers that a reckoning, an opening or a link is lent beside links and pairs.
+#[derive(Clone, Copy)]
+pub struct Lengths {
+    pub hops: usize,
+    pub bounds: usize,
+    pub skips: usize,
+    pub even: usize,
+    pub odd: usize,
+}
+
+impl Lengths {
+    // Whether these, and a link and a pair table of these lengths, have their named sizes.
+    #[tactic(auto, using(crate::proofs::Longs::size_tests))]
+    pub fn are_long(self, links: usize, pairs: usize) -> bool
+        ensures { result ≡ long_enough base (sizes_with links pairs self) }
+    {
+        if links < TABLE {
+            return false;
+        }
+        if pairs < TABLE {
+            return false;
+        }
+        if self.hops < PLACES {
+            return false;
+        }
+        if self.bounds < PLACES {
+            return false;
+        }
+        if self.skips < PLACES {
+            return false;
+        }
+        if self.even < WORDS {
+            return false;
+        }
+        WORDS <= self.odd
     }
-    if pairs < TABLE {
-        return false;
-    }
-    if hops < PLACES {
-        return false;
-    }
-    if bounds < PLACES {
-        return false;
-    }
-    if skips < PLACES {
-        return false;
-    }
-    if even < WORDS {
-        return false;
-    }
-    WORDS <= odd
 }
 
 // What a search is lent: the hop table and the two layer rows.
@@ -163,19 +166,18 @@ pub struct Scratch<'a> {
 }
 
 impl Scratch<'_> {
-    // Whether these, and a link table of this length, have their named sizes.
+    // Whether these, and a link table of this length, have their named sizes. What a search is not lent counts as whole.
     pub fn is_long(&self, links: usize) -> bool
         ensures { result ≡ long_enough base (scratch_sizes links self.now) }
     {
-        are_long(
-            links,
-            TABLE,
-            self.hops.len(),
-            PLACES,
-            PLACES,
-            self.even.len(),
-            self.odd.len(),
-        )
+        let lengths = Lengths {
+            hops: self.hops.len(),
+            bounds: PLACES,
+            skips: PLACES,
+            even: self.even.len(),
+            odd: self.odd.len(),
+        };
+        lengths.are_long(links, TABLE)
     }
 }
 
@@ -191,19 +193,24 @@ pub struct Room<'a> {
 }
 
 impl Room<'_> {
+    // The lengths of these beside the pairs.
+    pub fn lengths(&self) -> Lengths
+        ensures { result ≡ lengths_in self.now }
+    {
+        Lengths {
+            hops: self.hops.len(),
+            bounds: self.bounds.len(),
+            skips: self.skips.len(),
+            even: self.even.len(),
+            odd: self.odd.len(),
+        }
+    }
+
     // Whether these, and a link table of this length, have their named sizes.
     pub fn is_long(&self, links: usize) -> bool
         ensures { result ≡ long_enough base (room_sizes links self.now) }
     {
-        are_long(
-            links,
-            self.pairs.len(),
-            self.hops.len(),
-            self.bounds.len(),
-            self.skips.len(),
-            self.even.len(),
-            self.odd.len(),
-        )
+        self.lengths().are_long(links, self.pairs.len())
     }
 }
 

@@ -64,7 +64,14 @@ pub fn within(
     if codes.len() < map::PLACES {
         return Err(Refusal::Short);
     }
-    search::search_refusal(rec, links, &*scratch, code)?;
+    search::search_refusal(
+        rec,
+        links,
+        scratch.hops.len(),
+        scratch.even.len(),
+        scratch.odd.len(),
+        code,
+    )?;
     search::search_sound(links, scratch, code as usize);
     let members = rec.members;
     Ok(list_within(&members, &*scratch, codes, k))
@@ -139,7 +146,14 @@ pub fn nearest(
     ensures left { let call = nearest_call base rec links.now (tables_in scratch.old) code listed.now in
         nearest_left (closest_of result) (tables_in scratch.new) ≡ call }
 {
-    search::search_refusal(rec, links, &*scratch, code)?;
+    search::search_refusal(
+        rec,
+        links,
+        scratch.hops.len(),
+        scratch.even.len(),
+        scratch.odd.len(),
+        code,
+    )?;
     let members = rec.members;
     let first = first_listed(&members, listed).ok_or(Refusal::Nobody)?;
     search::search_sound(links, scratch, code as usize);

@@ -13,7 +13,7 @@ ghost use Rattle.map.specs.Memory.{base, places, network_of, table_network};
 ghost use Rattle.targets.specs.Hops.{IsLastLayer};
 ghost use Rattle.search.specs.SearchCall.{search_refusal, found_of, search_left, search_call, last_layer, last_of, rows_left, rows_of};
 
-use map::{Record, Scratch};
+use map::{Lengths, Record, Scratch};
 use outcome::Refusal;
 use targets::{TargetHops, TargetSearch};
 
@@ -83,13 +83,21 @@ pub fn search_to(targets: &[u64], links: &[u64], scratch: &mut Scratch<'_>, star
 pub fn search_refusal(
     rec: Record,
     links: &[u64],
-    scratch: &Scratch<'_>,
+    hops: usize,
+    even: usize,
+    odd: usize,
     code: u8,
 ) -> Result<(), Refusal>
-    ensures { let T = tables_in scratch.now in
-        refused_by result ≡ search_refusal base rec links.now (length T.hops) (length T.even) (length T.odd) code }
+    ensures { refused_by result ≡ search_refusal base rec links.now hops even odd code }
 {
-    lent_map::map_refusal(rec, links, None, scratch.is_long(links.len()))?;
+    let lengths = Lengths {
+        hops,
+        bounds: map::PLACES,
+        skips: map::PLACES,
+        even,
+        odd,
+    };
+    lent_map::map_refusal(rec, links, None, lengths.are_long(links.len(), map::TABLE))?;
     let members = rec.members;
     if !map::is_open(&members, map::WORDS, code as usize) {
         return Err(Refusal::Absent);
@@ -108,7 +116,14 @@ pub fn search_from(
     ensures same { IsSameScratch scratch.old scratch.new }
     ensures left { search_left (found_of result) (tables_in scratch.new) ≡ search_call base rec links.now (tables_in scratch.old) code }
 {
-    search_refusal(rec, links, &*scratch, code)?;
+    search_refusal(
+        rec,
+        links,
+        scratch.hops.len(),
+        scratch.even.len(),
+        scratch.odd.len(),
+        code,
+    )?;
     let mut delivering = rec.members;
     let yards = rec.yards;
     map::keep_delivering(&mut delivering, &yards, map::WORDS);

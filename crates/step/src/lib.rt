@@ -41,7 +41,7 @@ pub fn step(rec: Record, links: &mut [u64], room: &mut Room<'_>, asked: Asked<'_
     ensures left { update_left result links.new (lent_in room.new)
         ≡ update_call base rec links.old (lent_in room.old) (update_of asked.entry) }
 {
-    match update::map_refusal(rec, &*links, &*room) {
+    match update::room_refusal(rec, &*links, &*room) {
         Ok(()) => step_sound(rec, links, room, asked),
         Err(refusal) => update::refused(rec, refusal.number()),
     }

@@ -29,6 +29,7 @@ struct Tally {
 }
 
 // The hops of the targets above u added, and how many these are, after a search from u.
+// The contract says how long the hop table is: each search writes it, so that no field of a struct of shared slices can.
 fn sum_later(targets: &[u64; map::WORDS], scratch: &Scratch<'_>, u: usize) -> Later
     requires { (places base ≤ length scratch.now.hops.now) × (u < places base) }
     ensures { let later = filterb (λ v. ltb u v) (vertices (network_of base.words targets.now [])) in

@@ -127,6 +127,7 @@ impl TargetHops<'_> {
     }
 
     // The targets whose hop is e, by one pass over all of them.
+    // The contract says how long the row is, here and in what else writes one: the caller's row changes, so that no field of a struct of shared slices can.
     #[tactic(auto, using(crate::proofs::Partners::put_all))]
     fn put_at(&self, row: &mut [u64], e: u16)
         requires { self.now.words ≤ length row.old }

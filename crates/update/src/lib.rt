@@ -5,10 +5,10 @@
 ghost use Rattle.std.specs.Prelude.{◌≡◌, length};
 ghost use Rattle.map.specs.Memory.{base};
 ghost use Rattle.outcome.specs.Refusals.{refused_by};
-ghost use Rattle.map.specs.Slices.{room_sizes};
+ghost use Rattle.map.specs.Slices.{sizes_with, room_sizes};
 ghost use Rattle.update.specs.Steps.{map_refusal, refused_with};
 
-use map::{Record, Room};
+use map::{Lengths, Record, Room};
 use outcome::{Outcome, Refusal};
 
 // The report of a call: its outcome, and the number of searches.
@@ -29,10 +29,28 @@ pub struct Returned {
 
 // The first refusal of the lent memory, whatever is asked. It only reads.
 #[tactic(auto, using(map::proofs::Longs::are_long_lem, crate::proofs::Refuses::refused_map))]
-pub fn map_refusal(rec: Record, links: &[u64], room: &Room<'_>) -> Result<(), Refusal>
+pub fn map_refusal(
+    rec: Record,
+    links: &[u64],
+    pairs: &[u64],
+    lengths: Lengths,
+) -> Result<(), Refusal>
+    ensures { let long = sizes_with (length links.now) (length pairs.now) lengths in
+        refused_by result ≡ map_refusal base rec links.now pairs.now long }
+{
+    lent_map::map_refusal(
+        rec,
+        links,
+        Some(pairs),
+        lengths.are_long(links.len(), pairs.len()),
+    )
+}
+
+// The same of the pairs that a room lends, by its lengths.
+pub fn room_refusal(rec: Record, links: &[u64], room: &Room<'_>) -> Result<(), Refusal>
     ensures { refused_by result ≡ map_refusal base rec links.now room.now.pairs.now (room_sizes (length links.now) room.now) }
 {
-    lent_map::map_refusal(rec, links, Some(&*room.pairs), room.is_long(links.len()))
+    map_refusal(rec, links, &*room.pairs, room.lengths())
 }
 
 // What a call answers that is refused with a number.
