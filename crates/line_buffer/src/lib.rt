@@ -33,7 +33,8 @@ fn hold(line: &mut [u8], held: usize, b: u8) -> usize
     held
 }
 
-// Takes the bytes of a piece up to the end of a line, or all that are left of it.
+// Takes the bytes of a piece up to the end of a line, or all that are left of it. A struct of the buffer and the bytes held was tried: its loop has to be a
+// method, as the end of a loop over a local one leaves unsaid what the buffer holds, and then `follow` takes 0.57 % more instructions on a million lines.
 #[tactic(auto, using(crate::proofs::Holding::part_out, crate::proofs::Holding::part_here, crate::proofs::Holding::part_on))]
 pub fn hold_part(line: &mut [u8], piece: &[u8], from: usize, held: usize) -> Gathered
     requires { line_limit ≤ length line.old }
