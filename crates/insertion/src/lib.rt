@@ -21,6 +21,7 @@ ghost use Rattle.insertion.specs.Steps.{joined, join_of, HoldsSearch, AreOpen};
 use bounds::Marks;
 use map::{Room, Scratch};
 use outcome::Change;
+use pairs::Farthest;
 use rounds::{Desk, Finished, Plan, RoundFigures};
 use targets::Span;
 
@@ -43,20 +44,19 @@ fn join(
     skips: &mut [u16],
     a: usize,
     found: Finished<'_>,
-    chain: u16,
-    count: u32,
+    stored: Farthest,
 ) -> u32
-    requires { Counted base.words pairs.old count
+    requires { Counted base.words pairs.old stored.count
         × (places base ≤ length bounds.old)
         × (places base ≤ length skips.old)
         × (a < places base)
         × (base.words ≤ length found.partners.now) }
-    ensures { let before = joined (tally pairs.old count) (marking bounds.old skips.old) in
+    ensures { let before = joined (tally pairs.old stored.count) (marking bounds.old skips.old) in
         let after = joined (tally pairs.new result) (marking bounds.new skips.new) in
-        after ≡ join_of base a (said_of found.entry) chain before }
+        after ≡ join_of base a (said_of found.entry) stored.chain before }
 {
     let span = found.span;
-    let sum = pairs::settle(pairs, found.partners, map::WORDS, a, span.own, chain, count);
+    let sum = pairs::settle(pairs, found.partners, map::WORDS, a, span.own, stored);
     bounds::mark_once(
         bounds,
         skips,
@@ -156,8 +156,7 @@ fn settle_low(
     partners: &mut [u64],
     a: usize,
     span: Span,
-    chain: u16,
-    count: u32,
+    stored: Farthest,
 ) -> Figures
     requires { let G = plan_network base.words plan in
         AreLong base (room_sizes (length plan.links.now) room.old)
@@ -165,29 +164,26 @@ fn settle_low(
         × AreOpen base G room.old.pairs.now
         × HoldsSearch base G (lent_in room.old) a (reached span.ecc span.own partners.old)
         × (a < places base)
-        × (span.own ≤ chain)
-        × (count_pairs (range (places base)) (table_bit base.words room.old.pairs.now) ≤ count) }
+        × (span.own ≤ stored.chain)
+        × (count_pairs (range (places base)) (table_bit base.words room.old.pairs.now) ≤ stored.count) }
     ensures same { IsSameRoom room.old room.new }
     ensures left { figured result.change (ran (lent_in room.new) result.chain result.count result.searches)
-        ≡ figured_by base (plan_network base.words plan.entry) a chain (lent_in room.old) }
+        ≡ figured_by base (plan_network base.words plan.entry) a stored.chain (lent_in room.old) }
 {
     let pairs = &mut *room.pairs;
     let hops = &mut *room.hops;
-    let left = stale_pairs::drop_stale(pairs, &*hops, map::WORDS, chain, count);
+    let left = stale_pairs::drop_stale(pairs, &*hops, map::WORDS, stored);
+    let chain = stored.chain;
     if span.own == chain {
         let found = Finished {
             span,
             partners: &*partners,
         };
-        let sum = join(
-            room.pairs,
-            room.bounds,
-            room.skips,
-            a,
-            found,
+        let staying = Farthest {
             chain,
-            left.count,
-        );
+            count: left.count,
+        };
+        let sum = join(room.pairs, room.bounds, room.skips, a, found, staying);
         return Figures {
             change: Change::Kept,
             chain,
@@ -223,13 +219,13 @@ fn settle_low(
 
 // The figures after a's links are in place, by the stored chain and the count of the stored pairs: the search from a and what it says of a, then the
 // pairs, the marks and, if the chain shrank, the rounds. The targets are the depots that deliver.
-pub fn refigure(plan: Plan<'_>, room: &mut Room<'_>, a: usize, chain: u16, count: u32) -> Figures
+pub fn refigure(plan: Plan<'_>, room: &mut Room<'_>, a: usize, stored: Farthest) -> Figures
     requires { AreLong base (room_sizes (length plan.links.now) room.old)
-        × IsFigurable base plan.members.now plan.targets.now plan.links.now (lent_in room.old) a chain count
+        × IsFigurable base plan.members.now plan.targets.now plan.links.now (lent_in room.old) a stored.chain stored.count
         × (a < places base) }
     ensures same { IsSameRoom room.old room.new }
     ensures left { figured result.change (ran (lent_in room.new) result.chain result.count result.searches)
-        ≡ figured_by base (plan_network base.words plan.entry) a chain (lent_in room.old) }
+        ≡ figured_by base (plan_network base.words plan.entry) a stored.chain (lent_in room.old) }
 {
     let mut partners = [0u64; map::WORDS];
     let hops = &mut *room.hops;
@@ -251,12 +247,12 @@ pub fn refigure(plan: Plan<'_>, room: &mut Room<'_>, a: usize, chain: u16, count
         a,
         depth,
     );
-    if chain < span.own {
+    if stored.chain < span.own {
         let found = Finished {
             span,
             partners: &partners,
         };
-        let own = join(room.pairs, room.bounds, room.skips, a, found, chain, count);
+        let own = join(room.pairs, room.bounds, room.skips, a, found, stored);
         return Figures {
             change: Change::Grew,
             chain: span.own,
@@ -264,5 +260,5 @@ pub fn refigure(plan: Plan<'_>, room: &mut Room<'_>, a: usize, chain: u16, count
             searches: 1,
         };
     }
-    settle_low(plan, room, &mut partners, a, span, chain, count)
+    settle_low(plan, room, &mut partners, a, span, stored)
 }

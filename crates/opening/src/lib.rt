@@ -15,6 +15,7 @@ ghost use Rattle.opening.specs.Asked.{asked};
 
 use map::{Record, Room};
 use outcome::Outcome;
+use pairs::Farthest;
 use rounds::Plan;
 use update::{Report, Returned};
 
@@ -78,7 +79,11 @@ fn open_map(
         targets: &targets,
         links: &*links,
     };
-    let got = insertion::refigure(plan, room, code as usize, rec.chain, rec.count);
+    let stored = Farthest {
+        chain: rec.chain,
+        count: rec.count,
+    };
+    let got = insertion::refigure(plan, room, code as usize, stored);
     let mut after = rec;
     after.members = members;
     after.number = rec.number + 1;

@@ -10,6 +10,13 @@ ghost use Rattle.words.specs.Bits.{bit, word_of};
 ghost use Rattle.rows.specs.Rows.{table_bit, in_word};
 ghost use Rattle.pairs.specs.Pairs.{Counted, tally, tally_of, pairs_with, settle_of};
 
+// A chain, and how many pairs are that far apart.
+#[derive(Clone, Copy)]
+pub struct Farthest {
+    pub chain: u16,
+    pub count: u32,
+}
+
 // Puts the pair low < high into the table, and answers how many pairs it then has.
 #[tactic(auto, using(rows::proofs::Places::row_fits, crate::proofs::Tallies::tally_fits))]
 fn put_pair(pairs: &mut [u64], words: usize, low: usize, high: usize, count: u32) -> u32
@@ -94,7 +101,7 @@ pub fn add_pairs(pairs: &mut [u64], last: &[u64], words: usize, r: usize, count:
     sum
 }
 
-// The pairs after a search from r with eccentricity e: r's own alone if e is above the candidate c, r's own added if e is c and not 0.
+// The pairs after a search from r with eccentricity e: r's own alone if e is above the chain before it, r's own added if e is that chain and not 0.
 #[tactic(auto, using(crate::proofs::Settling::settle_zero, crate::proofs::Settling::settle_below))]
 pub fn settle(
     pairs: &mut [u64],
@@ -102,21 +109,20 @@ pub fn settle(
     words: usize,
     r: usize,
     e: u16,
-    c: u16,
-    count: u32,
+    before: Farthest,
 ) -> u32
-    requires { Counted words pairs.old count × (words ≤ length last.now) × (r < 64 * words) }
-    ensures { tally pairs.new result ≡ settle_of words last.now r e c (tally pairs.old count) }
+    requires { Counted words pairs.old before.count × (words ≤ length last.now) × (r < 64 * words) }
+    ensures { tally pairs.new result ≡ settle_of words last.now r e before.chain (tally pairs.old before.count) }
 {
-    if c < e {
+    if before.chain < e {
         rows::clear_table(pairs, words);
         return add_pairs(pairs, last, words, r, 0);
     }
-    if e == c {
+    if e == before.chain {
         if e != 0 {
-            return add_pairs(pairs, last, words, r, count);
+            return add_pairs(pairs, last, words, r, before.count);
         }
-        return count;
+        return before.count;
     }
-    count
+    before.count
 }

@@ -17,6 +17,7 @@ mod plan;
 
 use bounds::Marks;
 use map::{Room, Scratch};
+use pairs::Farthest;
 pub use plan::Plan;
 use targets::{Span, TargetHops, TargetSearch};
 
@@ -156,15 +157,11 @@ pub fn absorb(
     ensures searches { result.searches ≡ before.searches + 1 }
 {
     let own = found.span.own;
-    let count = pairs::settle(
-        pairs,
-        found.partners,
-        words,
-        r,
-        own,
-        before.candidate,
-        before.count,
-    );
+    let known = Farthest {
+        chain: before.candidate,
+        count: before.count,
+    };
+    let count = pairs::settle(pairs, found.partners, words, r, own, known);
     spread(hops, marks, words, mark, r, found.span.ecc, limit);
     RoundFigures {
         candidate: raised(before.candidate, own),

@@ -13,6 +13,8 @@ ghost use Rattle.lists.specs.Lists.{range};
 ghost use Rattle.graph.specs.Chart.{count_pairs};
 ghost use Rattle.rows.specs.Rows.{table_bit};
 
+use pairs::Farthest;
+
 // as many pairs as a count can tell: no table has more
 const MOST: u32 = u32::MAX;
 
@@ -212,16 +214,17 @@ pub fn drop_rows<F: Fn(usize, usize) -> u16>(
     RowsDropping { gone, count, way }
 }
 
-// Drops the stale pairs of the table in place, of which it has no more than `total`, and answers what is left of them and the greatest way that was
-// there.
+// Drops the stale pairs of the table in place, of which it has no more than the stored count, and answers what is left of them and the greatest way that
+// was there.
 #[tactic(auto, using(crate::proofs::StaleTable::below_all, crate::proofs::StaleTable::all_rows))]
-pub fn drop_stale(pairs: &mut [u64], hops: &[u16], words: usize, chain: u16, total: u32) -> Dropping
+pub fn drop_stale(pairs: &mut [u64], hops: &[u16], words: usize, stored: Farthest) -> Dropping
     requires { HasHops words pairs.old hops.now
-        × (count_pairs (range (64 * words)) (table_bit words pairs.old) ≤ total) }
-    ensures { dropped (tally pairs.new result.count) result.way ≡ drop_of words (way_by hops.now) chain pairs.old }
+        × (count_pairs (range (64 * words)) (table_bit words pairs.old) ≤ stored.count) }
+    ensures { dropped (tally pairs.new result.count) result.way ≡ drop_of words (way_by hops.now) stored.chain pairs.old }
 {
+    let chain = stored.chain;
     let tell = |u: usize, v: usize| way_by(hops, u, v, chain);
-    let done = drop_rows(pairs, &tell, words, 64 * words, chain, total);
+    let done = drop_rows(pairs, &tell, words, 64 * words, chain, stored.count);
     Dropping {
         count: done.count,
         way: done.way,

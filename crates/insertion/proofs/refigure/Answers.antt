@@ -7,15 +7,15 @@ use Rattle.map.proofs.Theorems.{base_shape}
 use borrow.Author.Rules.{rules}
 use Rattle.insertion.proofs.refigure.Goals as goal
 
-pub returns-then-chain-span-clause-left : goal.returns-then-chain-span-clause-left
-returns-then-chain-span-clause-left c =
+pub returns-then-stored-span-clause-left : goal.returns-then-stored-span-clause-left
+returns-then-stored-span-clause-left c =
     let pre = c.requires.1 in
     let found = c.search_sound-depth.ensures.left in
     figured_first base base_shape _ _ _ pre.are _ _ _ _ _ pre.net pre.present found _ _ _ _ _
     (grew_is base _ _ _ _ _ _ _
     (search_stands base base_shape _ _ _ pre.are _ _ _ _ _ pre.net pre.present found _ c.reach_by-span.ensures
     (same_tables _ _ _ _ _ _ (search rules) (search rules) (search rules)))
-    c.if-chain-span.true _ _ _ _ c.join-own.ensures)
+    c.if-stored-span.true _ _ _ _ c.join-own.ensures)
     (same_tables _ _ _ _ _ _ (search rules) (search rules) (search rules))
 
 pub settle_low-requires : goal.settle_low-requires
@@ -27,7 +27,7 @@ settle_low-requires c =
       search_stands base base_shape _ _ _ pre.are _ _ _ _ _ pre.net pre.present c.search_sound-depth.ensures.left _ c.reach_by-span.ensures
           (same_tables _ _ _ _ _ _ (search rules) (search rules) (search rules)),
       c.requires.2,
-      omega (arith, c.if-chain-span.false),
+      omega (arith, c.if-stored-span.false),
       omega (arith, pre.counted),
     )
 

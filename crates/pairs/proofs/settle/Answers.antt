@@ -6,8 +6,8 @@ use Rattle.pairs.proofs.settle.Goals as goal
 pub add_pairs-requires : goal.add_pairs-requires
 add_pairs-requires c = search (holds_counted, clear_holds)
 
-pub returns-then-c-e : goal.returns-then-c-e
-returns-then-c-e c = search (clear_holds, settle_above)
+pub returns-then-before-e : goal.returns-then-before-e
+returns-then-before-e c = search (clear_holds, settle_above)
 
 pub returns-then-e-ne0 : goal.returns-then-e-ne0
 returns-then-e-ne0 c = search settle_equal
