@@ -78,8 +78,8 @@ pub fn search_to(targets: &[u64], links: &[u64], scratch: &mut Scratch<'_>, star
 
 // ---- the public call
 
-// The first refusal of a search that holds. It only reads. A search is lent no pairs, bounds and skips, and looks at no figures.
-// Every call that searches from a code begins with it.
+// The first refusal of a search that holds, by the lengths of hop table and layer rows. It only reads. A search is lent no pairs, bounds and skips, and
+// looks at no figures. Every call that searches from a code begins with it.
 pub fn search_refusal(
     rec: Record,
     links: &[u64],

@@ -46,7 +46,7 @@ pub fn map_refusal(
     )
 }
 
-// The same of the pairs that a room lends, by its lengths.
+// The same of a room. Who holds it by `&mut` asks here: where a part of it is lent out of that, the room is not known to stand as it was.
 pub fn room_refusal(rec: Record, links: &[u64], room: &Room<'_>) -> Result<(), Refusal>
     ensures { refused_by result ≡ map_refusal base rec links.now room.now.pairs.now (room_sizes (length links.now) room.now) }
 {
