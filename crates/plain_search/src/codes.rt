@@ -1,5 +1,6 @@
 // A list of codes without a heap: at most as many as there are.
-ghost use Rattle.std.specs.Prelude.{◌≤◌};
+ghost use Rattle.std.specs.Prelude.{◌≡◌, ◌≤◌, []};
+ghost use Rattle.plain_search.specs.Listed.{listed, pushed};
 ghost use Rattle.plain_search.specs.declared.TheConstants.{CODES};
 
 use crate::CODES;
@@ -13,7 +14,9 @@ pub struct Codes {
 
 impl Codes {
     // No codes.
-    pub fn new() -> Codes {
+    pub fn new() -> Codes
+        ensures { listed result.codes result.count ≡ [] }
+    {
         Codes {
             codes: [0; CODES],
             count: 0,
@@ -21,7 +24,9 @@ impl Codes {
     }
 
     // Puts a code at the end of the list, unless it is full.
-    pub fn push(&mut self, code: u8) {
+    pub fn push(&mut self, code: u8)
+        ensures { listed self.new.codes self.new.count ≡ pushed (listed self.old.codes self.old.count) code }
+    {
         if self.count < CODES {
             self.codes[self.count] = code;
             self.count += 1;
@@ -29,7 +34,9 @@ impl Codes {
     }
 
     // The codes of the list.
-    pub fn items(&self) -> &[u8] {
+    pub fn items(&self) -> &[u8]
+        ensures { result.now ≡ listed self.now.codes self.now.count }
+    {
         &self.codes[..self.count]
     }
 }

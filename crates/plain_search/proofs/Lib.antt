@@ -1,0 +1,4 @@
+-- Codes that rise.
+pub mod Rising
+-- The links of a new depot.
+pub mod Linked
