@@ -6,13 +6,10 @@ ghost use Rattle.std.specs.Prelude.{◌≡◌};
 ghost use Rattle.outcome.specs.Outcome.{letter_of};
 ghost use Rattle.outcome.specs.Refusals.{number_of};
 
-use std::error::Error;
-use std::fmt;
-
 // ---- the refusals (rule 8.1)
 
 // Why a call is refused: the first of these that holds. Each has the word that the scanner's trade has for it; in specifications, `specs/Numbers`.
-#[derive(Clone, Copy, Debug, PartialEq, Eq)]
+#[derive(Clone, Copy, PartialEq, Eq)]
 pub enum Refusal {
     Short = 1,
     Spoilt,
@@ -40,30 +37,6 @@ impl Refusal {
         self as u8
     }
 }
-
-impl fmt::Display for Refusal {
-    fn fmt<W: fmt::Write>(&self, f: &mut fmt::Formatter<W>) -> fmt::Result {
-        f.write_str(match self {
-            Refusal::Short => "short",
-            Refusal::Spoilt => "spoilt",
-            Refusal::Apart => "apart",
-            Refusal::Absent => "absent",
-            Refusal::Taken => "taken",
-            Refusal::Lonely => "lonely",
-            Refusal::Unsorted => "unsorted",
-            Refusal::Unknown => "unknown",
-            Refusal::Garbled => "garbled",
-            Refusal::Nobody => "nobody",
-            Refusal::Overfull => "overfull",
-            Refusal::Bare => "bare",
-            Refusal::Itself => "itself",
-            Refusal::Linked => "linked",
-            Refusal::TooFew => "too few",
-        })
-    }
-}
-
-impl Error for Refusal {}
 
 // ---- the answer
 
