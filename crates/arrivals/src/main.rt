@@ -6,6 +6,7 @@
 mod maps;
 
 use maps::{Map, Notice};
+use outcome::{Outcome, Refusal};
 
 // The lines below are written as far as standard output takes them: where it does not, nothing is left to say it to.
 
@@ -50,7 +51,7 @@ impl Order {
     }
 
     // The map of a line that hands them over as one batch, B being beside A's depot; and how the batch was answered.
-    fn batch(self) -> (Map, Result<u8, u8>) {
+    fn batch(self) -> (Map, Result<u8, Refusal>) {
         let lines: &[u8] = match self {
             Order::Ab => b"01030102\n01040103\n",
             Order::Ba => b"01040103\n01030102\n",
@@ -58,6 +59,14 @@ impl Order {
         let mut map = Map::begin();
         let answer = map.take_batch(lines);
         (map, answer)
+    }
+}
+
+// What is printed of an outcome: the number of its refusal, 0 for none.
+fn number_of(outcome: Outcome) -> u8 {
+    match outcome {
+        Outcome::Accepted(_) => 0,
+        Outcome::Refused(number) => number,
     }
 }
 
@@ -79,7 +88,7 @@ fn print_orders<F: Fn(Order) -> Map>(rt: &impl Print, map_of: F)
                 let a = first.name();
                 let b = second.name();
                 let c = third.name();
-                let agree = agreement(one.is_same(&two) && two.is_same(&three));
+                let agree = agreement(one == two && two == three);
                 let _ = println!(rt; "{a} {b} {c} {one} {two} {three} {agree}");
             }
         }
@@ -89,7 +98,7 @@ fn print_orders<F: Fn(Order) -> Map>(rt: &impl Print, map_of: F)
 // What B is answered where it comes first, and then the eight orders, B being beside the depot `near`.
 fn print_openings(rt: &impl Print, near: u8) {
     let _ = println!(rt; "A opens 3 beside 2, B opens 4 beside {near}");
-    let refusal = Map::begin().take(b_beside(near)).err().unwrap_or(0);
+    let refusal = number_of(Map::begin().take(b_beside(near)));
     let _ = println!(rt; "B first is refused with: {refusal} (0: accepted)");
     print_orders(rt, |order| order.map(near));
 }
@@ -102,7 +111,7 @@ fn print_batches(rt: &impl Print) {
         let (_, answer) = order.batch();
         let (refusal, left) = match answer {
             Ok(left) => (0, left),
-            Err(refusal) => (refusal, 0),
+            Err(refusal) => (refusal.number(), 0),
         };
         let _ = println!(rt;
             "{name} as a batch is refused with: {refusal} (0: accepted), left over: {left}"
@@ -117,7 +126,7 @@ fn print_links(rt: &impl Print) {
     let _ = println!(rt;
         "A opens 3 beside 2, B opens 4 beside 0, L links 3 and 4: each order beside all six on two other lines"
     );
-    let refusal = Map::begin().take(L).err().unwrap_or(0);
+    let refusal = number_of(Map::begin().take(L));
     let _ = println!(rt; "L first is refused with: {refusal}");
     let b = b_beside(0);
     let orders = [
@@ -130,7 +139,7 @@ fn print_links(rt: &impl Print) {
     ];
     let maps = orders.map(|(_, notices)| Map::after(notices));
     for ((name, _), map) in orders.iter().zip(&maps) {
-        let agree = agreement(maps.iter().all(|other| map.is_same(other)));
+        let agree = agreement(maps.iter().all(|other| map == other));
         let _ = println!(rt; "{name} {map} {agree}");
     }
 }

@@ -2,49 +2,32 @@
 use map::{Record, Room};
 use outcome::{Outcome, Refusal};
 use std::fmt;
-use update::Returned;
 
 // The map: both tables and the record.
-#[derive(Clone, Copy)]
-pub struct Map {
+#[derive(Clone, Copy, PartialEq, Eq)]
+pub(crate) struct Map {
     links: [u64; map::TABLE],
     pairs: [u64; map::TABLE],
     rec: Record,
 }
 
-// The scratch of a call.
-#[derive(Clone, Copy)]
-struct Scratch {
-    hops: [u16; map::PLACES],
-    bounds: [u16; map::PLACES],
-    skips: [u16; map::PLACES],
-    even: [u64; map::WORDS],
-    odd: [u64; map::WORDS],
-}
-
 // A notice: a depot opens beside another one, or two depots are linked.
 #[derive(Clone, Copy)]
-pub enum Notice {
+pub(crate) enum Notice {
     Opening { code: u8, near: u8 },
     Link { first: u8, second: u8 },
 }
 
-impl Scratch {
-    // Scratch that no call has used.
-    fn new() -> Scratch {
-        Scratch {
-            hops: [0; map::PLACES],
-            bounds: [0; map::PLACES],
-            skips: [0; map::PLACES],
-            even: [0; map::WORDS],
-            odd: [0; map::WORDS],
-        }
-    }
+// What a call is asked.
+#[derive(Clone, Copy)]
+enum Asked<'a> {
+    Opening(opening::Notice<'a>),
+    Link { first: u8, second: u8 },
 }
 
 impl Map {
     // The map after the depots 0, 1 and 2 have opened in a path.
-    pub fn begin() -> Map {
+    pub(crate) fn begin() -> Map {
         let mut map = Map {
             links: [0; map::TABLE],
             pairs: [0; map::TABLE],
@@ -57,11 +40,11 @@ impl Map {
     }
 
     // The map after these notices in their order; those that were refused are handed in again.
-    pub fn after<const N: usize>(notices: [Notice; N]) -> Map {
+    pub(crate) fn after<const N: usize>(notices: [Notice; N]) -> Map {
         let mut map = Map::begin();
         let mut refused = [false; N];
         for (notice, refused) in notices.iter().zip(refused.iter_mut()) {
-            *refused = map.take(*notice).is_err();
+            *refused = matches!(map.take(*notice), Outcome::Refused(_));
         }
         for (notice, refused) in notices.iter().zip(&refused) {
             if *refused {
@@ -71,69 +54,72 @@ impl Map {
         map
     }
 
-    // Keeps what a call left; the number of its refusal, if it is refused.
-    fn keep(&mut self, got: Returned) -> Result<(), u8> {
+    // A call on scratch that no call has used. How it came out.
+    fn call(&mut self, asked: Asked<'_>) -> Outcome {
+        let mut hops = [0; map::PLACES];
+        let mut bounds = [0; map::PLACES];
+        let mut skips = [0; map::PLACES];
+        let mut even = [0; map::WORDS];
+        let mut odd = [0; map::WORDS];
+        let mut room = Room {
+            pairs: &mut self.pairs,
+            hops: &mut hops,
+            bounds: &mut bounds,
+            skips: &mut skips,
+            even: &mut even,
+            odd: &mut odd,
+        };
+        let got = match asked {
+            Asked::Opening(notice) => lent_opening::open_value(
+                self.rec,
+                &mut self.links,
+                &mut room,
+                notice,
+            ),
+            Asked::Link { first, second } => linking::link_step(
+                self.rec,
+                &mut self.links,
+                &mut room,
+                first,
+                second,
+            ),
+        };
         self.rec = got.after;
-        match got.report.outcome {
-            Outcome::Accepted(_) => Ok(()),
-            Outcome::Refused(number) => Err(number),
-        }
+        got.report.outcome
     }
 
     // The opening of a depot.
-    fn open(&mut self, code: u8, neighbours: &[u8]) -> Result<(), u8> {
-        let mut scratch = Scratch::new();
-        let mut room = Room {
-            pairs: &mut self.pairs,
-            hops: &mut scratch.hops,
-            bounds: &mut scratch.bounds,
-            skips: &mut scratch.skips,
-            even: &mut scratch.even,
-            odd: &mut scratch.odd,
-        };
-        let asked = opening::Notice {
+    fn open(&mut self, code: u8, neighbours: &[u8]) -> Outcome {
+        self.call(Asked::Opening(opening::Notice {
             yard: false,
             code,
             neighbours,
-        };
-        let got = lent_opening::open_value(self.rec, &mut self.links, &mut room, asked);
-        self.keep(got)
-    }
-
-    // The link of two depots.
-    fn link(&mut self, first: u8, second: u8) -> Result<(), u8> {
-        let mut scratch = Scratch::new();
-        let mut room = Room {
-            pairs: &mut self.pairs,
-            hops: &mut scratch.hops,
-            bounds: &mut scratch.bounds,
-            skips: &mut scratch.skips,
-            even: &mut scratch.even,
-            odd: &mut scratch.odd,
-        };
-        let got = linking::link_step(self.rec, &mut self.links, &mut room, first, second);
-        self.keep(got)
+        }))
     }
 
     // Takes a notice, unless it is refused.
-    pub fn take(&mut self, notice: Notice) -> Result<(), u8> {
+    pub(crate) fn take(&mut self, notice: Notice) -> Outcome {
         match notice {
             Notice::Opening { code, near } => self.open(code, &[near]),
-            Notice::Link { first, second } => self.link(first, second),
+            Notice::Link { first, second } => self.call(Asked::Link { first, second }),
         }
     }
 
-    // Takes lines that are handed over as one batch. How many are left over, or the number of the refusal.
-    pub fn take_batch(&mut self, lines: &[u8]) -> Result<u8, u8> {
-        let mut scratch = Scratch::new();
+    // Takes lines that are handed over as one batch. How many are left over.
+    pub(crate) fn take_batch(&mut self, lines: &[u8]) -> Result<u8, Refusal> {
         let mut left = [0; batch::LIMIT];
+        let mut hops = [0; map::PLACES];
+        let mut bounds = [0; map::PLACES];
+        let mut skips = [0; map::PLACES];
+        let mut even = [0; map::WORDS];
+        let mut odd = [0; map::WORDS];
         let mut room = Room {
             pairs: &mut self.pairs,
-            hops: &mut scratch.hops,
-            bounds: &mut scratch.bounds,
-            skips: &mut scratch.skips,
-            even: &mut scratch.even,
-            odd: &mut scratch.odd,
+            hops: &mut hops,
+            bounds: &mut bounds,
+            skips: &mut skips,
+            even: &mut even,
+            odd: &mut odd,
         };
         let batched = batch_opening::open_batch(
             self.rec,
@@ -141,14 +127,9 @@ impl Map {
             &mut room,
             &mut left,
             lines,
-        ).map_err(Refusal::number)?;
+        )?;
         self.rec = batched.after;
         Ok(batched.left)
-    }
-
-    // Whether two maps are equal: record, link table and pair table.
-    pub fn is_same(&self, other: &Map) -> bool {
-        self.links == other.links && self.pairs == other.pairs && self.rec == other.rec
     }
 }
 
