@@ -5,57 +5,48 @@ use outcome::Outcome;
 use plain_search::marks::{are_covered, searched};
 use plain_search::tables::bits_are;
 use plain_search::{CODES, Change, Refusal, Sheet};
+use update::Report;
 
 // The scratch of a call.
 #[derive(Clone, Copy, PartialEq, Eq)]
-pub struct Scratch {
-    pub hops: [u16; map::PLACES],
-    pub bounds: [u16; map::PLACES],
-    pub skips: [u16; map::PLACES],
-    pub even: [u64; map::WORDS],
-    pub odd: [u64; map::WORDS],
+pub(crate) struct Scratch {
+    pub(crate) hops: [u16; map::PLACES],
+    pub(crate) bounds: [u16; map::PLACES],
+    pub(crate) skips: [u16; map::PLACES],
+    pub(crate) even: [u64; map::WORDS],
+    pub(crate) odd: [u64; map::WORDS],
 }
 
 // What is lent: the map, which is both tables and the record, and scratch.
-#[derive(Clone, Copy)]
-pub struct Lent {
-    pub links: [u64; map::TABLE],
-    pub pairs: [u64; map::TABLE],
-    pub rec: Record,
-    pub scratch: Scratch,
-}
-
-// What an opening answers: how the chain changed or the number of the refusal, and the number of searches.
 #[derive(Clone, Copy, PartialEq, Eq)]
-pub struct Opening {
-    pub answer: Result<Change, u8>,
-    pub searches: u16,
+pub(crate) struct Lent {
+    pub(crate) links: [u64; map::TABLE],
+    pub(crate) pairs: [u64; map::TABLE],
+    pub(crate) rec: Record,
+    pub(crate) scratch: Scratch,
 }
 
-impl Opening {
-    // The number of the refusal, which comes without searches.
-    pub fn refusal(self) -> Option<u8> {
-        if self.searches == 0 {
-            self.answer.err()
-        } else {
-            None
-        }
+// The number of an opening's refusal, which comes without searches.
+pub(crate) fn number_of(opening: Report) -> Option<u8> {
+    match opening.outcome {
+        Outcome::Refused(number) if opening.searches == 0 => Some(number),
+        _ => None,
     }
 }
 
-// How an opening changed the chain, or the number of its refusal.
-fn answer_of(outcome: Outcome) -> Result<Change, u8> {
-    match outcome {
-        Outcome::Accepted(outcome::Change::Grew) => Ok(Change::Grew),
-        Outcome::Accepted(outcome::Change::Kept) => Ok(Change::Kept),
-        Outcome::Accepted(outcome::Change::Shrank) => Ok(Change::Shrank),
-        Outcome::Refused(number) => Err(number),
+// How an accepted opening changed the chain.
+pub(crate) fn change_of(opening: Report) -> Option<Change> {
+    match opening.outcome {
+        Outcome::Accepted(outcome::Change::Grew) => Some(Change::Grew),
+        Outcome::Accepted(outcome::Change::Kept) => Some(Change::Kept),
+        Outcome::Accepted(outcome::Change::Shrank) => Some(Change::Shrank),
+        Outcome::Refused(_) => None,
     }
 }
 
 impl Lent {
     // The empty map, and scratch of no use.
-    pub fn empty() -> Lent {
+    pub(crate) fn empty() -> Lent {
         let mut links = [9; map::TABLE];
         let mut pairs = [9; map::TABLE];
         let spent = Record {
@@ -84,7 +75,7 @@ impl Lent {
     // ---- the calls
 
     // An opening. Of its second layer row only three words are lent where a buffer is to be short.
-    pub fn open(&mut self, notice: &Notice) -> Opening {
+    pub(crate) fn open(&mut self, notice: &Notice) -> Report {
         let odd = &mut self.scratch.odd[..];
         let words = if notice.short { 3 } else { map::WORDS };
         let mut room = Room {
@@ -102,14 +93,11 @@ impl Lent {
         };
         let got = lent_opening::open_value(self.rec, &mut self.links, &mut room, asked);
         self.rec = got.after;
-        Opening {
-            answer: answer_of(got.report.outcome),
-            searches: got.report.searches,
-        }
+        got.report
     }
 
-    // A whole reckoning: the number of searches, or of a refusal.
-    pub fn reckon(&mut self) -> Result<u16, u8> {
+    // A whole reckoning: the number of searches.
+    pub(crate) fn reckon(&mut self) -> Result<u16, outcome::Refusal> {
         let mut room = Room {
             pairs: &mut self.pairs,
             hops: &mut self.scratch.hops,
@@ -118,59 +106,51 @@ impl Lent {
             even: &mut self.scratch.even,
             odd: &mut self.scratch.odd,
         };
-        let reckoned = reckon::reckon_all(self.rec, &self.links, &mut room).map_err(
-            outcome::Refusal::number,
-        )?;
+        let reckoned = reckon::reckon_all(self.rec, &self.links, &mut room)?;
         self.rec = reckoned.after;
         Ok(reckoned.searches)
     }
 
-    // A search of the code s: its eccentricity and its depth, or the number of a refusal.
-    pub fn search(&mut self, s: u8) -> Result<(u16, u16), u8> {
+    // A search of the code s: its eccentricity and its depth.
+    pub(crate) fn search(&mut self, s: u8) -> Result<(u16, u16), outcome::Refusal> {
         let mut scratch = map::Scratch {
             hops: &mut self.scratch.hops,
             even: &mut self.scratch.even,
             odd: &mut self.scratch.odd,
         };
-        let reach = search::search_from(self.rec, &self.links, &mut scratch, s).map_err(
-            outcome::Refusal::number,
-        )?;
+        let reach = search::search_from(self.rec, &self.links, &mut scratch, s)?;
         Ok((reach.ecc, reach.depth))
     }
 
     // ---- what they left
 
-    // Whether two are the same.
-    fn is_same(&self, other: &Lent) -> bool {
-        self.links == other.links
-            && self.pairs == other.pairs
-            && self.rec == other.rec
-            && self.scratch == other.scratch
-    }
-
-    // Whether a call is refused for this, with nothing changed.
-    pub fn refuses<F: FnOnce(&mut Lent) -> Option<u8>>(&self, refusal: Refusal, call: F) -> bool
+    // Whether a call, which answers the number of its refusal, is refused for this, with nothing changed.
+    pub(crate) fn refuses<F: FnOnce(&mut Lent) -> Option<u8>>(
+        &self,
+        refusal: Refusal,
+        call: F,
+    ) -> bool
         requires { F.IsAlwaysCallable call }
     {
         let mut left = *self;
-        call(&mut left) == Some(refusal as u8) && left.is_same(self)
+        call(&mut left) == Some(refusal as u8) && left == *self
     }
 
     // Whether there are as many marks as searches; and, where rounds were run, every depot that was not searched is covered.
-    pub fn is_marked(&self, searches: u16, rounds: bool, sheet: &Sheet) -> bool {
+    pub(crate) fn is_marked(&self, searches: u16, rounds: bool, sheet: &Sheet) -> bool {
         usize::from(searches) == searched(&self.scratch.skips)
             && (!rounds || are_covered(&self.scratch.skips, sheet, self.rec.chain))
     }
 
     // Whether an opening answers that the chain changed so, with the right marks.
-    pub fn opens(&mut self, notice: &Notice, want: Change, sheet: &Sheet) -> bool {
+    pub(crate) fn opens(&mut self, notice: &Notice, want: Change, sheet: &Sheet) -> bool {
         let opening = self.open(notice);
-        opening.answer == Ok(want)
+        change_of(opening) == Some(want)
             && self.is_marked(opening.searches, want == Change::Shrank, sheet)
     }
 
     // Whether a whole reckoning finds the true figures, whatever they were.
-    pub fn is_reckoned(&self, sheet: &Sheet) -> bool {
+    pub(crate) fn is_reckoned(&self, sheet: &Sheet) -> bool {
         let mut left = *self;
         left.reckon()
             .is_ok_and(|searches| left.is_marked(searches, true, sheet))
@@ -209,16 +189,19 @@ impl Lent {
     }
 
     // Whether a search of the code s finds what the plain search found, or is refused if it is closed.
-    pub fn is_searched(&self, s: u8, sheet: &Sheet) -> bool {
+    pub(crate) fn is_searched(&self, s: u8, sheet: &Sheet) -> bool {
         if sheet.depots[usize::from(s)] {
             self.finds(s, sheet)
         } else {
-            self.refuses(Refusal::Absent, |m| m.search(s).err())
+            self.refuses(
+                Refusal::Absent,
+                |m| m.search(s).err().map(outcome::Refusal::number),
+            )
         }
     }
 
     // Whether a map is that of the plain list, with the figures and farthest pairs of the plain search: every bit of the tables and the open set, and no yard.
-    pub fn is_true(&self, sheet: &Sheet) -> bool {
+    pub(crate) fn is_true(&self, sheet: &Sheet) -> bool {
         bits_are(&self.links, sheet.links.as_flattened())
             && bits_are(&self.pairs, sheet.pairs.as_flattened())
             && bits_are(&self.rec.members, &sheet.depots)

@@ -1,6 +1,6 @@
 // False but sound figures: a chain that is not the longest, and pairs that are not the farthest. An opening takes them and follows the same
 // steps; what it leaves is sound again, and a whole reckoning mends it.
-use crate::calls::Lent;
+use crate::calls::{Lent, change_of, number_of};
 use crate::histories::History;
 use crate::notices::{Kind, code, place};
 use crate::tally::Tally;
@@ -43,7 +43,7 @@ fn open(growth: u8, j: u8, chain: u16, claimed: u8) -> Option<Opened> {
         .sheet
         .open(notice.code, notice.neighbours.items(), notice.short);
     let opening = history.lent.open(&notice);
-    let change = opening.answer.ok()?;
+    let change = change_of(opening)?;
     let again = kind.notice(j % 4 + 1, Some(Refusal::Taken));
     let rounds = change == Change::Shrank;
     let right = history
@@ -51,7 +51,7 @@ fn open(growth: u8, j: u8, chain: u16, claimed: u8) -> Option<Opened> {
         .is_marked(opening.searches, rounds, &history.sheet)
         && history
             .lent
-            .refuses(Refusal::Taken, |m| m.open(&again).refusal())
+            .refuses(Refusal::Taken, |m| number_of(m.open(&again)))
         && history.lent.is_reckoned(&history.sheet);
     right.then_some(Opened {
         change,
@@ -83,7 +83,7 @@ fn worked() -> Tally {
 }
 
 // The worked cases; and on three depots of each of 21 growths each of 8 sets of pairs with each of 6 chains.
-pub fn all() -> Tally {
+pub(crate) fn all() -> Tally {
     let mut tally = worked();
     for chain in [0, 1, 2, 3, 4, 255] {
         for claimed in 0..8 {

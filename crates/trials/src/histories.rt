@@ -1,6 +1,6 @@
 // Histories of openings from the empty map: after each call the map is held to the plain list and to a simple search from every depot; after the last
 // one a whole reckoning and a search of every code are too.
-use crate::calls::Lent;
+use crate::calls::{Lent, number_of};
 use crate::notices::{Kind, code};
 use crate::tally::Tally;
 use plain_search::tables::flip;
@@ -8,11 +8,11 @@ use plain_search::{Refusal, Sheet};
 
 // A history: its network, what is lent to its calls, the sheet that they are held to, and the cases so far.
 #[derive(Drop)]
-pub struct History {
+pub(crate) struct History {
     kind: Kind,
-    pub lent: Lent,
-    pub sheet: Sheet,
-    pub tally: Tally,
+    pub(crate) lent: Lent,
+    pub(crate) sheet: Sheet,
+    pub(crate) tally: Tally,
 }
 
 // What the calls of a random history are bent for, in turn.
@@ -42,7 +42,7 @@ fn bend(lent: &mut Lent, bent: Option<Refusal>, j: u8) {
 
 impl History {
     // The history that has not begun, after these cases.
-    pub fn new(kind: Kind, tally: Tally) -> History {
+    pub(crate) fn new(kind: Kind, tally: Tally) -> History {
         History {
             kind,
             lent: Lent::empty(),
@@ -68,7 +68,7 @@ impl History {
                 self.lent = lent;
                 opened
             }
-            Err(refusal) => lent.refuses(refusal, |m| m.open(&notice).refusal()),
+            Err(refusal) => lent.refuses(refusal, |m| number_of(m.open(&notice))),
         };
         let meant = want.err() == bent;
         self.tally
@@ -80,8 +80,10 @@ impl History {
         if let Kind::Random = self.kind {
             match BENDS[usize::from(j % 8)] {
                 Refusal::Absent => self.tally.see(
-                    self.lent
-                        .refuses(Refusal::Absent, |m| m.search(code(j)).err()),
+                    self.lent.refuses(
+                        Refusal::Absent,
+                        |m| m.search(code(j)).err().map(outcome::Refusal::number),
+                    ),
                 ),
                 bent => self.turn(j, Some(bent)),
             }
@@ -90,7 +92,7 @@ impl History {
     }
 
     // So many depots of a history, from the first.
-    pub fn grow(&mut self, depots: usize) {
+    pub(crate) fn grow(&mut self, depots: usize) {
         for j in (0..=u8::MAX).take(depots) {
             self.add(j);
         }
@@ -109,7 +111,7 @@ impl History {
     }
 
     // A whole history of so many depots.
-    pub fn follow(&mut self, depots: usize) {
+    pub(crate) fn follow(&mut self, depots: usize) {
         self.grow(depots);
         self.search_each();
     }
@@ -118,7 +120,7 @@ impl History {
 // ---- the groups
 
 // A history of 256 depots that ends with this chain and this number of pairs.
-pub fn ends(kind: Kind, chain: u16, count: u32) -> Tally {
+pub(crate) fn ends(kind: Kind, chain: u16, count: u32) -> Tally {
     let mut history = History::new(kind, Tally::new());
     history.follow(256);
     let rec = history.lent.rec;
@@ -127,14 +129,14 @@ pub fn ends(kind: Kind, chain: u16, count: u32) -> Tally {
 }
 
 // A whole history of so many depots.
-pub fn follow(kind: Kind, depots: usize) -> Tally {
+pub(crate) fn follow(kind: Kind, depots: usize) -> Tally {
     let mut history = History::new(kind, Tally::new());
     history.follow(depots);
     history.tally
 }
 
 // Every growth of four depots: 3 neighbour sets for the third, 7 for the fourth.
-pub fn all_four() -> Tally {
+pub(crate) fn all_four() -> Tally {
     let mut tally = Tally::new();
     for k in 0..21 {
         let mut history = History::new(Kind::Four(k), tally);

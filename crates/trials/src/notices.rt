@@ -3,16 +3,16 @@ use plain_search::{Codes, Refusal};
 
 // A notice: its code, its neighbours, and whether a buffer that is lent with it is short.
 #[derive(Clone, Copy)]
-pub struct Notice {
-    pub code: u8,
-    pub neighbours: Codes,
-    pub short: bool,
+pub(crate) struct Notice {
+    pub(crate) code: u8,
+    pub(crate) neighbours: Codes,
+    pub(crate) short: bool,
 }
 
 // The networks, whose depots are numbered as they open. A ring closes with depot 39. At random, each depot is linked to one of the last four, and to
 // any other by a small chance. A growth of four is one of 21.
 #[derive(Clone, Copy)]
-pub enum Kind {
+pub(crate) enum Kind {
     Path,
     Complete,
     Ring,
@@ -21,7 +21,7 @@ pub enum Kind {
 }
 
 // The code of depot i: an odd factor gives each its own, in all four words of a row.
-pub fn code(i: u8) -> u8 {
+pub(crate) fn code(i: u8) -> u8 {
     i.wrapping_mul(101).wrapping_add(77)
 }
 
@@ -31,7 +31,7 @@ fn depot(code: u8) -> u8 {
 }
 
 // The place of the code v in the row of depot i.
-pub fn place(i: u8, v: u8) -> usize {
+pub(crate) fn place(i: u8, v: u8) -> usize {
     256 * usize::from(code(i)) + usize::from(v)
 }
 
@@ -86,7 +86,7 @@ impl Kind {
 
     // The notice of depot j, bent so that it is refused for `bent`: by a short buffer, the code of the depot before, no neighbours, one neighbour more, a 0, or
     // only one, the next depot, which is closed, or itself. A call that is bent elsewhere, or not at all, has it as it is.
-    pub fn notice(self, j: u8, bent: Option<Refusal>) -> Notice {
+    pub(crate) fn notice(self, j: u8, bent: Option<Refusal>) -> Notice {
         let mut near = self.neighbours(j);
         match bent {
             Some(Refusal::Lonely) => near = Codes::new(),

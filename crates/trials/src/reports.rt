@@ -18,7 +18,7 @@ fn is_refused(fields: ReportFields) -> bool {
 }
 
 // The first line of a day, a refused one, the longest, and the buffer too short.
-pub fn all() -> Tally {
+pub(crate) fn all() -> Tally {
     let first = ReportFields {
         number: 1,
         outcome: Outcome::Accepted(Change::Kept),

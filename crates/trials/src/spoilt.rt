@@ -1,5 +1,5 @@
 // Single spoilt bits: each bit of the used rows of a small map's link table, turned over, has every call refused, and nothing changed.
-use crate::calls::Lent;
+use crate::calls::{Lent, number_of};
 use crate::histories::History;
 use crate::notices::{Kind, code, place};
 use crate::tally::Tally;
@@ -10,13 +10,19 @@ use plain_search::tables::flip;
 fn are_refused(mut lent: Lent, i: u8, v: u8) -> bool {
     flip(&mut lent.links, place(i, v));
     let notice = Kind::Path.notice(4, None);
-    lent.refuses(Refusal::Spoilt, |m| m.open(&notice).refusal())
-        && lent.refuses(Refusal::Spoilt, |m| m.reckon().err())
-        && lent.refuses(Refusal::Spoilt, |m| m.search(code(0)).err())
+    lent.refuses(Refusal::Spoilt, |m| number_of(m.open(&notice)))
+        && lent.refuses(
+            Refusal::Spoilt,
+            |m| m.reckon().err().map(outcome::Refusal::number),
+        )
+        && lent.refuses(
+            Refusal::Spoilt,
+            |m| m.search(code(0)).err().map(outcome::Refusal::number),
+        )
 }
 
 // A network of four, and all bits of its four rows.
-pub fn all() -> Tally {
+pub(crate) fn all() -> Tally {
     let mut history = History::new(Kind::Four(4), Tally::new());
     history.grow(4);
     for i in 0..4 {

@@ -2,19 +2,19 @@
 use std::fmt;
 
 #[derive(Clone, Copy)]
-pub struct Tally {
+pub(crate) struct Tally {
     tried: u32,
     ok: bool,
 }
 
 impl Tally {
     // Nothing tried yet.
-    pub fn new() -> Tally {
+    pub(crate) fn new() -> Tally {
         Tally { tried: 0, ok: true }
     }
 
     // One case more, and whether it came out as expected.
-    pub fn see(&mut self, ok: bool) {
+    pub(crate) fn see(&mut self, ok: bool) {
         self.tried = self.tried.saturating_add(1);
         self.ok = self.ok && ok;
     }
