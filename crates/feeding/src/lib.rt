@@ -56,7 +56,8 @@ pub struct Ended {
 }
 
 // Answers an input to its end. A proved loop has to end, and nothing says that the input does: so the loop counts its turns, up to a
-// number that no run comes to.
+// number that no run comes to. How often there is something to report the input decides: so `report` has to be callable always, as a closure that writes, or
+// does nothing, is.
 pub fn answer_all<R: Read, W: Fn(&[u8]) -> bool>(
     begun: Progress,
     links: &mut [u64],

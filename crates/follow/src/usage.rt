@@ -1,6 +1,6 @@
 // What the program says of itself: with any argument it prints this and reads nothing.
 
-pub fn print(rt: &impl Print) {
+pub(crate) fn print(rt: &impl Print) {
     let _ = rt.println("Usage: follow < NOTICES > REPORTS\n");
     let _ = rt.println(
         "Follows notices of depots and yards that open and of links between them, and keeps the",

@@ -6,7 +6,7 @@ use std::fs::File;
 use std::io;
 
 // As many bytes as the system takes for a file's name.
-pub const NAME_LIMIT: usize = 4096;
+pub(crate) const NAME_LIMIT: usize = 4096;
 
 // The system's numbers for a name that is too long, and for bytes that are no text.
 const TOO_LONG: i32 = 36;
@@ -15,19 +15,19 @@ const NO_TEXT: i32 = 84;
 
 // A file that was opened, and how many bytes its name has.
 #[derive(Drop)]
-pub struct Opened {
-    pub file: File,
-    pub named: usize,
+pub(crate) struct Opened {
+    pub(crate) file: File,
+    pub(crate) named: usize,
 }
 
 // Says that the file of this name failed, and why.
-pub fn say(rt: &HostRuntime, name: &[u8], why: io::Error) {
+pub(crate) fn say(rt: &HostRuntime, name: &[u8], why: io::Error) {
     let _ = rt.stderr().write_all(b"survey: ");
     feeding::system::say(rt, name, why);
 }
 
 // How many arguments there are, with the program's name.
-pub fn count_arguments(rt: &impl Env) -> usize {
+pub(crate) fn count_arguments(rt: &impl Env) -> usize {
     for i in 0..usize::MAX {
         if let Err(FillError::NotPresent) = rt.arg(i, &mut []) {
             return i;
@@ -43,7 +43,7 @@ fn open_named(rt: &HostRuntime, name: &[u8]) -> io::Result<File> {
 }
 
 // Opens the file that argument i names, and puts its name into the buffer. A name that does not fit there opens no file, and is said as far as it does.
-pub fn open_argument(rt: &HostRuntime, name: &mut [u8], i: usize) -> Option<Opened>
+pub(crate) fn open_argument(rt: &HostRuntime, name: &mut [u8], i: usize) -> Option<Opened>
     ensures within { IfSome result (λ opened. opened.named ≤ length name.new) }
     ensures whole { IfSome result (λ opened. opened.named ≡ length (take opened.named name.new)) }
 {
