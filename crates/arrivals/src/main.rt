@@ -62,7 +62,7 @@ impl Order {
     }
 }
 
-// What is printed of an outcome: the number of its refusal, 0 for none.
+// What is printed of an outcome: the number of its refusal, 0 for none, as the lines of this program say it.
 fn number_of(outcome: Outcome) -> u8 {
     match outcome {
         Outcome::Accepted(_) => 0,

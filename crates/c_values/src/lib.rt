@@ -85,7 +85,8 @@ pub fn put_record(words: &mut [u64], rec: Record)
 
 // ---- an answer's number
 
-// The outcome that an answer's number stands for: a letter of an accepted opening, or a refusal's number.
+// The outcome that an answer's number stands for: a letter of an accepted opening, or a refusal's number. That is C's reading of the number, so that it is no
+// `From` of the outcome's own.
 #[tactic(auto, unfolding(crate::specs::Outcomes::outcome_of))]
 pub fn outcome_of(answer: u8) -> Outcome
     ensures { result ≡ outcome_of answer }

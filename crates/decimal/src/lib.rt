@@ -1,4 +1,6 @@
-// Numbers of 64 bits written in decimal into lent memory.
+// Numbers of 64 bits written in decimal into lent memory. What writes text takes the place from which it writes and answers the place behind it, here and in
+// `report` and `summaries`: both are numbers by value, which stay in registers, where a writer behind a `&mut` is kept in memory (so of the line buffer, crate
+// `line_buffer`).
 
 #![tactic(auto)]
 

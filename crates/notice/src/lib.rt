@@ -28,7 +28,7 @@ pub enum Kind {
 }
 
 impl Kind {
-    // The kind whose frames begin with a byte.
+    // The kind whose frames begin with a byte. `TryFrom` would want an error, where there is nothing to say but that there is none.
     pub fn of(byte: u8) -> Option<Kind>
         ensures { KindIs byte result }
     {
@@ -40,7 +40,7 @@ impl Kind {
         }
     }
 
-    // The byte with which its frames begin.
+    // The byte with which its frames begin. By a name that says which: `u8::from` would not.
     pub fn byte(self) -> u8
         ensures { result ≡ byte_of self }
     {

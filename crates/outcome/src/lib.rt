@@ -29,7 +29,7 @@ pub enum Refusal {
 }
 
 impl Refusal {
-    // The number that the scanner shows for a refusal.
+    // The number that the scanner shows for a refusal. By a name that says which number it is: `u8::from` would not.
     #[tactic(auto, using(crate::proofs::Numbering::discriminant))]
     pub fn number(self) -> u8
         ensures { result ≡ number_of self }
@@ -56,7 +56,7 @@ pub enum Outcome {
     Refused(u8),
 }
 
-// The letter that the report line shows for an outcome.
+// The letter that the report line shows for an outcome. The letters are a rule's, so that no derive gives them.
 #[tactic(auto, unfolding(crate::specs::Outcome::letter_of))]
 pub fn letter(o: Outcome) -> u8
     ensures { result ≡ letter_of o }

@@ -34,7 +34,7 @@ pub(crate) fn number_of(opening: Report) -> Option<u8> {
     }
 }
 
-// How an accepted opening changed the chain.
+// How an accepted opening changed the chain, as the plain list says it. No `From`: of a refused one there is nothing.
 pub(crate) fn change_of(opening: Report) -> Option<Change> {
     match opening.outcome {
         Outcome::Accepted(outcome::Change::Grew) => Some(Change::Grew),
