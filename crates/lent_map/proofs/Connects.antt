@@ -1,18 +1,16 @@
 -- A search from any open code tells whether a sound network is connected. Assumes nothing.
 use mathlib.Core.Path.{◌≡◌, refl, sym, ap, ◌∙◌}
 use mathlib.Core.Logic.{◌⊎◌, inl, inr}
-use mathlib.Core.Bool.{Bool, true, false, not, ◌&&◌, ◌||◌}
+use mathlib.Core.Bool.{Bool, true, false, not, ◌||◌}
 use mathlib.Core.List.{List}
-use Prim.Native.Nat.{ℕ, zero, suc, ◌+◌, ◌*◌, ◌≤◌, ◌<◌}
+use Prim.Native.Nat.{ℕ, ◌+◌, ◌*◌, ◌≤◌, ◌<◌}
 use native.Mathlib.Nat.{lt_of_le_of_lt}
-use native.Mathlib.Numerals.{add-one}
 use native.Mathlib.Omega.{arith}
 use lib.Dec.{T, ltb}
 use lib.ListN.{length, get_or}
 use borrow.Author.Tests.{ltb-true, lt-ltb, not-true, not-false}
 use Rattle.std.proofs.lemmas.Bool.{cases_Bool, or_cases, or_right}
-use Rattle.std.specs.List.{list_all, range_with_len}
-use Rattle.lists.specs.Lists.{from, range, allb}
+use Rattle.lists.specs.Lists.{range, allb}
 use Rattle.lists.proofs.Tests.{t→true, true→t, clash, same_test}
 use Rattle.lists.proofs.Members.{all_intro, all_elim, range_in, range_out}
 use Rattle.lists.proofs.Fills.{fill_at}
@@ -28,19 +26,8 @@ use Rattle.map.specs.Room.{Tables, tables}
 use Rattle.layers.proofs.Theorems.{table_search}
 use Rattle.map.proofs.Theorems.{network_open_below, network_most}
 
--- ---- a test of all codes
+-- ---- the two cases of `is_reached`
 
-all_from : (p : ℕ → Bool) (i n : ℕ) → list_all p (range_with_len i n) ≡ allb p (from i n)
-unfolding allb from
-all_from p i zero = refl
-all_from p i (suc n) = ap (λ (b : Bool). p i && b) (ap (λ (k : ℕ). list_all p (range_with_len k n)) (add-one i) ∙ all_from p (suc i) n)
-
--- as `all` of a range answers it
-pub all_range : (p : ℕ → Bool) (n : ℕ) → list_all p (range_with_len 0 n) ≡ allb p (range n)
-unfolding range
-all_range p n = all_from p 0 n
-
--- the two cases of `is_reached`
 pub reached_closed : {r a : Bool} (b : Bool) → r ≡ a → not r ≡ true → true ≡ (not a || b)
 reached_closed {r} {a} b e t = rw (← e, not-true r t)
 

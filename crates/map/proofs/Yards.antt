@@ -3,16 +3,19 @@ use mathlib.Core.Path.{◌≡◌, refl, sym, ap, ◌∙◌, subst}
 use mathlib.Core.Logic.{◌⊎◌, inl, inr}
 use mathlib.Core.Bool.{Bool, true, false, not, ◌&&◌, ◌||◌}
 use mathlib.Core.List.{List, []}
-use Prim.Native.Nat.{ℕ, ◌+◌, ◌-◌, ◌*◌, ◌^◌, ◌≤◌, ◌<◌}
+use Prim.Native.Nat.{ℕ, zero, suc, ◌+◌, ◌-◌, ◌*◌, ◌^◌, ◌≤◌, ◌<◌}
 use native.Mathlib.Nat.{lt_irrefl, lt_of_le_of_lt}
+use native.Mathlib.Numerals.{add-one}
 use native.Mathlib.Omega.{arith}
+use lib.Dec.{eqb}
 use lib.Bits.{bit_and, and_le_l}
 use lib.Count.{count_trailing_zeros}
 use lib.ListN.{length, get_or, set, length-set}
-use borrow.Author.Tests.{not-true}
+use borrow.Author.Tests.{not-true, eqb-true, eq-eqb}
 use Rattle.std.proofs.lemmas.Bool.{cases_Bool, cases_lt, and_parts, or_cases, or_left, or_right}
-use Rattle.lists.specs.Lists.{range, allb, overwrite}
-use Rattle.lists.proofs.Tests.{clash, not→false, t→true}
+use Rattle.std.specs.List.{list_all, range_with_len}
+use Rattle.lists.specs.Lists.{from, range, allb, overwrite}
+use Rattle.lists.proofs.Tests.{clash, not→false, t→true, same_test}
 use Rattle.lists.proofs.Members.{all_intro, all_elim, range_in, range_out}
 use Rattle.words.specs.Bits.{bit}
 use Rattle.words.specs.Least.{IsLeast}
@@ -50,6 +53,18 @@ pub delivering_end : (W : ℕ) (yards before after : List ℕ) (j : ℕ) → Del
 unfolding delivers network_of
 delivering_end W yards before after j i l =
     i.is ∙ ap (λ (n : ℕ). overwrite (encode_row n (λ v. row_bit W before v && not (row_bit W yards v))) before) (omega (arith, i.within))
+
+-- ---- a test of all numbers below one
+
+all_from : (p : ℕ → Bool) (i n : ℕ) → list_all p (range_with_len i n) ≡ allb p (from i n)
+unfolding allb from
+all_from p i zero = refl
+all_from p i (suc n) = ap (λ (b : Bool). p i && b) (ap (λ (k : ℕ). list_all p (range_with_len k n)) (add-one i) ∙ all_from p (suc i) n)
+
+-- as `all` of a range answers it
+pub all_range : (p : ℕ → Bool) (n : ℕ) → list_all p (range_with_len 0 n) ≡ allb p (range n)
+unfolding range
+all_range p n = all_from p 0 n
 
 -- ---- the yards are open
 
@@ -124,5 +139,26 @@ module _ (W : ℕ) (members yards : List ℕ) (j : ℕ) where
       at (inl n) = clash (row_word W yards j b l p.below ∙ both.0) (not-true (row_bit W yards v) n)
       at (inr t) = clash t (row_word W members j b l p.below ∙ not-true (bit (get_or members j 0) b) both.1)
 
--- the walk over the words, but for its turns
-pub ruleset yard_walk = (yards_start, yards_end, yards_fault)
+-- whether all words of the yards are inside those of the open set, as `all` of a range answers it
+module _ (W : ℕ) (members yards : List ℕ) (fy : (j : ℕ) → get_or yards j 0 < 2 ^ 64) (fm : (j : ℕ) → get_or members j 0 < 2 ^ 64) where
+  abbrev inside_word : ℕ → Bool
+  inside_word j = eqb (bit_and (get_or yards j 0) ((2 ^ 64 - 1) - get_or members j 0)) 0
+
+  open_words : (j : ℕ) → j ≤ W → ((k : ℕ) → k < j → inside_word k ≡ true) → OpenYards W members yards j
+  open_words zero l t = yards_start W members yards
+  open_words (suc j) l t =
+      subst (OpenYards W members yards) (add-one j)
+      (yards_next W members yards j (open_words j (omega arith) (λ k h. t k (omega arith))) (omega arith) (fy j) (fm j) (eqb-true _ 0 (t j (omega arith))))
+
+  pub yards_by_words : list_all inside_word (range_with_len 0 W) ≡ sound_yards (64 * W) (yard_network W members yards [])
+  yards_by_words = all_range inside_word W ∙ same_test (allb inside_word (range W)) (sound_yards (64 * W) (yard_network W members yards [])) to from
+    where
+      to : allb inside_word (range W) ≡ true → sound_yards (64 * W) (yard_network W members yards []) ≡ true
+      to t = sym (yards_end W members yards W (open_words W (omega arith) (λ k h. all_elim inside_word (range W) t (range_in W h))) (omega arith))
+
+      from : sound_yards (64 * W) (yard_network W members yards []) ≡ true → allb inside_word (range W) ≡ true
+      from s = all_intro inside_word (range W) (λ j m. at j (range_out W m) (cases_Bool (inside_word j)))
+        where
+          at : (j : ℕ) → j < W → (inside_word j ≡ true) ⊎ (inside_word j ≡ false) → inside_word j ≡ true
+          at j l (inl t) = t
+          at j l (inr f) = absurd (clash s (sym (yards_fault W members yards j l (fy j) (fm j) (λ z. clash (eq-eqb _ 0 z) f))))

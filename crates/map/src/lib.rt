@@ -69,17 +69,11 @@ pub fn keep_delivering(members: &mut [u64], yards: &[u64], words: usize)
 }
 
 // Whether every yard is open.
-#[tactic(auto, using(crate::proofs::Yards::yard_walk))]
 pub fn yards_are_open(members: &[u64], yards: &[u64], words: usize) -> bool
     requires { (words ≤ length members.now) × (words ≤ length yards.now) }
     ensures { result ≡ sound_yards (64 * words) (yard_network words members.now yards.now []) }
 {
-    for j in 0..words {
-        if yards[j] & !members[j] != 0 {
-            return false;
-        }
-    }
-    true
+    (0..words).all(|j| yards[j] & !members[j] == 0)
 }
 
 // ---- whether a bit may stand

@@ -109,7 +109,7 @@ fn nearer(hops: &[u16], c: usize, v: usize) -> usize
     if hops[c] < hops[v] {
         return c;
     }
-    if v < c { v } else { c }
+    v.min(c)
 }
 
 // The nearest of `first` and the open codes of a list.

@@ -8,14 +8,14 @@ use native.Mathlib.Numerals.{add-one}
 use native.Mathlib.Omega.{arith}
 use lib.Dec.{eqb}
 use lib.ListN.{length, get_or, take, drop, drop_of_length-le, length-append, length-take}
-use lib.Seq.{drop-cons, get_or-take, take_all}
+use lib.Seq.{drop-cons, get_or-take}
 use borrow.Author.Tests.{eq-eqb, ne_eqb, eqb-true}
 use Rattle.std.proofs.lemmas.Bool.{cases_Bool, and_parts}
 use Rattle.lists.specs.Lists.{allb}
 use Rattle.lists.proofs.Tests.{clash}
 use Rattle.lists.proofs.Scans.{all-at}
 use Rattle.hexadecimal.specs.Hex.{is_digit, digits_of}
-use Rattle.notice.specs.Lines.{line_limit, line_end, end_of, line_of}
+use Rattle.notice.specs.Lines.{line_end, end_of, line_of}
 use Rattle.hexadecimal.proofs.DigitLaws.{digit_no_end}
 use Rattle.hexadecimal.proofs.Spelling.{length_digits}
 
@@ -87,10 +87,3 @@ end_stray s e h d k f = go (cases_Bool (allb is_digit (take (end_of s) s)))
 pub length_line : (f : List ℕ) → length (line_of f) ≡ 2 * length f + 1
 unfolding line_of
 length_line f = length-append (digits_of f) (line_end ∷ []) ∙ ap (λ (n : ℕ). n + 1) (length_digits f)
-
--- ---- a part of an input
-
-pub part_whole : (s : List ℕ) → length s < line_limit → take line_limit s ≡ s
-part_whole s h = take_all line_limit s (omega arith)
-
-pub ruleset parts = (part_whole, length-take)

@@ -123,14 +123,11 @@ pub fn write_notice(line: &mut [u8], frame: &[u8]) -> Result<usize, Refusal>
 }
 
 // The bytes among which a line's end has to be.
-#[tactic(auto, using(crate::proofs::Ends::parts))]
+#[tactic(auto, using(std::proofs::lemmas::List::take_min))]
 fn first_part(input: &[u8]) -> &[u8]
     ensures { result.now ≡ take line_limit input.now }
 {
-    if input.len() < LINE_LIMIT {
-        return &input[..];
-    }
-    &input[..LINE_LIMIT]
+    &input[..LINE_LIMIT.min(input.len())]
 }
 
 // Whether frames of a kind open a depot, one that delivers or a yard.

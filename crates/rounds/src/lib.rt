@@ -1,4 +1,5 @@
 // Reference rounds over lent tables (rules 5.1 to 5.4), a round at a time. Rows of 1 to 512 words. A row's width comes beside it, as crate `rows` says.
+// `words`, `mark` and `other` stay apart: `begin` has no use for `mark` and `absorb` none for `other`, and what they call takes the width alone.
 
 #![tactic(auto)]
 
@@ -67,15 +68,12 @@ pub fn reach_by<'a>(
     TargetSearch { seen, last, depth }.reach(partners, r)
 }
 
-// The candidate after a search whose own eccentricity is e: by the test of the definition, so that no law of `max` is needed.
-#[tactic(auto, using(std::proofs::lemmas::Bool::Decides::nat_tests))]
+// The candidate after a search whose own eccentricity is e.
+#[tactic(auto, using(std::proofs::lemmas::Bool::cond_below, std::proofs::lemmas::Bool::cond_above))]
 pub fn raised(candidate: u16, e: u16) -> u16
     ensures { result ≡ cond (ltb candidate e) e candidate }
 {
-    if candidate < e {
-        return e;
-    }
-    candidate
+    candidate.max(e)
 }
 
 // Candidate, pair count and number of searches.
@@ -173,6 +171,8 @@ pub fn absorb(
 // ---- one round more
 
 // One round: a search from r, taken in. What stands in seen, next and partners afterwards is free.
+// It takes targets and links apart, as `run_rounds` does, and `begin` members and links: a `Plan` says that its targets are those of the base's width, and
+// rounds go by any.
 fn round(
     targets: &[u64],
     links: &[u64],
@@ -259,12 +259,10 @@ pub fn run_rounds(
         workspace_in words room.new desk.new result ≡ run_of words targets.now links.now mark (64 * words) entry }
 {
     let mut now = before;
-    loop {
-        let Some(r) = pick_next(&*desk, words) else {
-            return now;
-        };
+    while let Some(r) = pick_next(&*desk, words) {
         now = round(targets, links, room, desk, words, mark, r, now);
     }
+    now
 }
 
 // The start of rounds: no pair, no bound, no mark, every open depot remaining.

@@ -5,8 +5,8 @@ use mathlib.Core.List.{List, [], ◌∷◌}
 use Prim.Native.Nat.{ℕ, zero, suc, ◌%◌, ◌<◌}
 use native.Mathlib.Omega.{arith}
 use lib.Dec.{T}
-use lib.ListN.{length, take, length-take}
-use lib.Seq.{take_all}
+use lib.ListN.{length, take}
+use Rattle.std.proofs.lemmas.List.{take_min}
 use borrow.Author.Tests.{eq-eqb, ne_eqb, not-false}
 use Rattle.lists.specs.Lists.{first_of, max_of, overwrite}
 use Rattle.lists.proofs.Tests.{true→t}
@@ -147,11 +147,5 @@ module _ (W d : ℕ) (even odd : List ℕ) where
   unfolding last_layer
   last_odd q = rw (ne_eqb (d % 2) 0 q)
 
-  pub last_short : d % 2 ≡ 0 → length even < W → even ≡ last_layer W d even odd
-  last_short q l = sym (take_all W even (omega arith)) ∙ last_even q
-
-  pub last_short_odd : (d % 2 ≡ 0 → ⊥) → length odd < W → odd ≡ last_layer W d even odd
-  last_short_odd q l = sym (take_all W odd (omega arith)) ∙ last_odd q
-
 -- what the check is told of a part of a row
-pub ruleset parts = (length-take, last_even, last_odd, last_short, last_short_odd)
+pub ruleset parts = (take_min, last_even, last_odd)

@@ -136,16 +136,8 @@ pub fn search_from(
 pub fn last_layer<'a>(even: &'a [u64], odd: &'a [u64], depth: u16) -> &'a [u64]
     ensures { result.now ≡ last_layer base.words depth even.now odd.now }
 {
-    if depth % 2 == 0 {
-        if even.len() < map::WORDS {
-            return even;
-        }
-        return &even[..map::WORDS];
-    }
-    if odd.len() < map::WORDS {
-        return odd;
-    }
-    &odd[..map::WORDS]
+    let row = if depth % 2 == 0 { even } else { odd };
+    &row[..map::WORDS.min(row.len())]
 }
 
 // The answer of a search with its last layer, and what the two layer rows hold after it.

@@ -34,21 +34,17 @@ pub struct RowsDropping {
 }
 
 // The way from u to v by the hops of a search, and no more than chain. Two hops may pass 65,535, so they are summed at 32 bits.
-pub fn way_by(hops: &[u16], u: usize, v: usize, chain: u16) -> u16
+fn way_by(hops: &[u16], u: usize, v: usize, chain: u16) -> u16
     requires { (u < length hops.now) × (v < length hops.now) }
     ensures { result ≡ min chain (way_by hops.now u v) }
 {
     let near = hops[u] as u32;
     let far = hops[v] as u32;
-    let sum = near + far;
-    if sum < chain as u32 {
-        return sum as u16;
-    }
-    chain
+    (near + far).min(chain as u32) as u16
 }
 
 // The lesser of the ways from u to v by the hops of two searches, and no more than chain.
-pub fn way_by_either(near: &[u16], far: &[u16], u: usize, v: usize, chain: u16) -> u16
+fn way_by_either(near: &[u16], far: &[u16], u: usize, v: usize, chain: u16) -> u16
     requires { (u < length near.now) × (v < length near.now) × (u < length far.now) × (v < length far.now) }
     ensures { result ≡ min chain (way_by_either near.now far.now u v) }
 {

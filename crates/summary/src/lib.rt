@@ -78,21 +78,15 @@ fn search_target(
 
 // ---- all destinations
 
-// The sum of the distances, and the number of pairs.
-#[derive(Clone, Copy)]
-struct Totals {
-    sum: u64,
-    pairs: u64,
-}
-
-// Searches from every target in rising code, adds the tallies up, and counts the eccentricities afresh.
+// Searches from every target in rising code, adds the tallies up, and counts the eccentricities afresh. Its answer holds those above of every target: the
+// sum of the distances, and the number of pairs.
 #[tactic(auto, using(map::proofs::Theorems::network_open_below))]
 fn total_over(
     targets: &[u64; map::WORDS],
     links: &[u64],
     scratch: &mut Scratch<'_>,
     counts: &mut [u16],
-) -> Totals
+) -> Later
     requires { AreLong base (scratch_sizes (length links.now) scratch.old)
         × (places base ≤ length counts.old)
         × AreNear base.words targets.now links.now }
@@ -110,7 +104,7 @@ fn total_over(
         pairs += t.pairs;
         from = u + 1;
     }
-    Totals { sum, pairs }
+    Later { sum, pairs }
 }
 
 // ---- the public call

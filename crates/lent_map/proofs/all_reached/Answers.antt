@@ -11,7 +11,7 @@ use Rattle.std.proofs.lemmas.Iterator.{YieldsList-from_range}
 use Rattle.std.proofs.lemmas.Iterator.Search.{all_from_yields_List}
 use Rattle.graph.specs.Distance.{unreached}
 use Rattle.rows.specs.Rows.{row_bit}
-use Rattle.lent_map.proofs.Connects.{all_range}
+use Rattle.map.proofs.Yards.{all_range}
 use Rattle.lent_map.proofs.all_reached.Goals as goal
 
 pub returns : goal.returns

@@ -15,8 +15,8 @@ picked : (c : In-Some) → pick_in c.args.words c.args.links.now (waiting_of c.a
 picked c =
     ranked_pick _ _ _ c.loop-r.invariant.3 _ (subst (PickIs _ _) c.in-Some.is c.pick_next.ensures)
 
-pub returns-in_default-clause-left : goal.returns-in_default-clause-left
-returns-in_default-clause-left c =
+pub returns-clause-left : goal.returns-clause-left
+returns-clause-left c =
     going_end _ _ _ _ _ _ c.loop-r.invariant.0.going
     (ranked_none _ _ _ c.loop-r.invariant.3 (subst (PickIs _ _) c.in_default.is c.pick_next.ensures))
 
