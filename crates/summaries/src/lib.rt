@@ -36,13 +36,7 @@ pub struct FilePut {
 pub fn files_read(arguments: usize) -> u32
     ensures { result ≡ min (arguments - 1) files_limit }
 {
-    if arguments == 0 {
-        return 0;
-    }
-    if arguments > FILES_LIMIT as usize {
-        return FILES_LIMIT;
-    }
-    arguments as u32 - 1
+    arguments.saturating_sub(1).min(FILES_LIMIT as usize) as u32
 }
 
 // ---- a line: each function asks as much room as it writes, from its place on

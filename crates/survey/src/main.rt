@@ -86,7 +86,7 @@ fn survey_file(
     let put = summaries::put_file(out, 0, totals, answer.map_err(Refusal::number));
     let end = put.at;
     let told = feeding::system::write_out(rt, &out[..end], b"survey: standard output");
-    if told { Some(put.totals) } else { None }
+    told.then_some(put.totals)
 }
 
 // Reports on so many files, and totals them; none as soon as a line cannot be written.
