@@ -1,22 +1,26 @@
--- The next member of the open set's row is the next depot. Assumes nothing.
-use mathlib.Core.Path.{◌≡◌, sym, ap, ap₂, ◌∙◌}
+-- The next member of the open set's row is the next depot, and an iterator gives them all. Assumes nothing.
+use mathlib.Core.Path.{◌≡◌, refl, sym, ap, ap₂, ◌∙◌, subst}
 use mathlib.Core.Logic.{◌⊎◌, inl, inr}
 use mathlib.Core.Bool.{Bool, true, false}
-use mathlib.Core.List.{List, [], ◌∷◌, Memᴰ}
-use Prim.Native.Nat.{ℕ, zero, suc, ◌+◌, ◌*◌, ◌≤◌, ◌<◌}
+use mathlib.Core.List.{List, [], ◌∷◌, ◌++◌, Memᴰ}
+use Prim.Native.Nat.{ℕ, zero, suc, ◌+◌, ◌*◌, ◌≤◌, ◌<◌, zero-le}
 use native.Mathlib.Nat.{eq-or-lt_of_le, lt_irrefl}
+use native.Mathlib.Numerals.{add-one}
 use native.Mathlib.Omega.{arith}
 use lib.Dec.{leb}
+use lib.Seq.{append_snoc}
 use borrow.Author.Tests.{le-leb, lt-leb, leb-true}
 use Rattle.std.proofs.lemmas.Bool.{cases_Bool, cases_lt}
 use Rattle.lists.specs.Lists.{from, range, filterb}
 use Rattle.lists.proofs.Tests.{clash, true→t}
-use Rattle.lists.proofs.Members.{filter-ext, filter_none, filter_out, from_out}
+use Rattle.lists.proofs.Members.{filter-all, filter-ext, filter_none, filter_out, from_out, range_out}
+use Rattle.graph.specs.Network.{Network}
+use Rattle.graph.specs.Distance.{vertices}
 use Rattle.rows.specs.Rows.{row_bit}
 use Rattle.std.specs.Prelude.{Option, Some, None}
 use Rattle.rows.specs.Next.{NextIs}
 use Rattle.map.specs.Memory.{network_of}
-use Rattle.map.specs.Depots.{depots_from, NextOpen}
+use Rattle.map.specs.Depots.{depots_from, IsNextOpen, NextOpen}
 
 -- ---- the numbers from i on that pass a test p: v is the first of those at or past start
 
@@ -75,3 +79,32 @@ next_depot W members links start (Some v) n = record {
   first = first_of (row_bit W members) start v n.here n.after n.first 0 (64 * W) (omega arith) (omega (arith, n.inside));
 }
 next_depot W members links start None n = none_of (row_bit W members) start n (range (64 * W))
+
+-- ---- the iterator
+
+-- all depots are those from 0 on
+pub depots_all : (G : Network) → depots_from G 0 ≡ vertices G
+unfolding depots_from
+depots_all G = filter-all (λ v. leb 0 v) (vertices G) (λ v m. le-leb 0 v zero-le)
+
+-- one is given: those behind it are left
+pub depot_taken : (G : Network) (start v : ℕ) → IsNextOpen G start v → depots_from G start ≡ v ∷ depots_from G (v + 1)
+depot_taken G start v n = n.first ∙ ap (λ (k : ℕ). v ∷ depots_from G k) (sym (add-one v))
+
+-- ---- a loop over the iterator: those that it gave, with those that are left, are all
+
+in_middle : (ys : List ℕ) (v : ℕ) (rest : List ℕ) → Memᴰ v (ys ++ v ∷ rest)
+in_middle [] v rest = Memᴰ.head refl
+in_middle (y ∷ ys) v rest = Memᴰ.tail (in_middle ys v rest)
+
+module _ (ys left : List ℕ) {rest all : List ℕ} {v : ℕ} (parts : ys ++ left ≡ all) (next : left ≡ v ∷ rest) where
+  pub depot_more : (ys ++ v ∷ []) ++ rest ≡ all
+  depot_more = append_snoc ys v rest ∙ ap (λ (l : List ℕ). ys ++ l) (sym next) ∙ parts
+
+  pub depot_in : Memᴰ v all
+  depot_in = subst (Memᴰ v) (ap (λ (l : List ℕ). ys ++ l) (sym next) ∙ parts) (in_middle ys v rest)
+
+-- a depot's code is a place
+pub depot_below : (W : ℕ) (members links : List ℕ) {v : ℕ} → Memᴰ v (vertices (network_of W members links)) → v < 64 * W
+unfolding network_of
+depot_below W members links m = range_out (64 * W) (filter_out (row_bit W members) (range (64 * W)) m).0

@@ -3,14 +3,16 @@
 #![tactic(auto)]
 
 ghost use Rattle.std.specs.Prelude.{[], ◌≡◌, ◌*◌, ◌^◌, ◌<◌, ◌≤◌, length};
+ghost use Rattle.std.specs.Iterator.{YieldsFirst, item_count};
 ghost use Rattle.lists.specs.Lists.{overwrite};
 ghost use Rattle.rows.specs.Rows.{row_bit, encode_row};
 ghost use Rattle.graph.specs.Network.{delivers};
+ghost use Rattle.graph.specs.Distance.{vertices};
 ghost use Rattle.map.specs.Memory.{base, network_of, yard_network};
 ghost use Rattle.map.specs.Room.{long_enough};
 ghost use Rattle.map.specs.Slices.{sizes_with, lengths_in, scratch_sizes, room_sizes};
 ghost use Rattle.map.specs.Bits.{IsLent, sound_link, sound_yards, sound_pair};
-ghost use Rattle.map.specs.Depots.{NextOpen};
+ghost use Rattle.map.specs.Depots.{NextOpen, depots_left};
 ghost use Rattle.map.specs.Empty.{empty_record, empty_left, empty_call};
 
 use outcome::Refusal;
@@ -45,13 +47,44 @@ pub fn is_open(members: &[u64], words: usize, v: usize) -> bool
     rows::row_test(members, words, 0, v)
 }
 
-// The open depot with the lowest code at or past `from`. Whatever goes through the depots in rising code asks here.
+// The open depot with the lowest code at or past `from`. Whatever goes through the depots in rising code asks here, by `open_depots`.
 #[tactic(auto, using(crate::proofs::Depots::next_depot))]
 pub fn next_open(members: &[u64], words: usize, from: usize) -> Option<usize>
     requires { (words ≤ length members.now) × (words < 2 ^ 32) }
     ensures { NextOpen (network_of words members.now []) from result }
 {
     rows::next_member(members, words, from)
+}
+
+// Gives the open depots in rising code, those at or past `from` that are left.
+#[derive(Drop)]
+pub struct OpenDepots<'a> {
+    members: &'a [u64; WORDS],
+    from: usize,
+}
+
+impl<'a> Iterator for OpenDepots<'a> {
+    type Item = usize;
+
+    ghost next_gives = { YieldsFirst depots_left };
+
+    ghost remaining = { item_count depots_left };
+
+    #[tactic(auto, using(crate::proofs::Depots::depot_taken, crate::proofs::Theorems::network_open_below), unfolding(crate::specs::Depots::depots_left))]
+    fn next(&mut self) -> Option<usize> {
+        let members = self.members;
+        let v = next_open(members, WORDS, self.from)?;
+        self.from = v + 1;
+        Some(v)
+    }
+}
+
+// All open depots in rising code.
+#[tactic(auto, using(crate::proofs::Depots::depots_all), unfolding(crate::specs::Depots::depots_left))]
+pub fn open_depots<'a>(members: &'a [u64; WORDS]) -> OpenDepots<'a>
+    ensures { depots_left result ≡ vertices (network_of base.words members.now []) }
+{
+    OpenDepots { members, from: 0 }
 }
 
 // ---- the yards

@@ -33,17 +33,15 @@ fn put_near(codes: &mut [u8], count: usize, v: usize, hop: u16, k: u32) -> usize
 }
 
 // Writes the open codes whose hop is at most k over the first places of `codes`, rising, and answers how many.
-#[tactic(auto, using(crate::proofs::Writing::writing, map::proofs::Theorems::network_open_below))]
+#[tactic(auto, using(crate::proofs::Writing::writing_all))]
 fn list_within(members: &[u64; map::WORDS], scratch: &Scratch<'_>, codes: &mut [u8], k: u32) -> u16
     requires { (places base ≤ length scratch.now.hops.now) × (places base ≤ length codes.old) }
     ensures { let depots = vertices (network_of base.words members.now []) in
         codes_listed result codes.new ≡ list_over (filterb (λ v. leb (get_or scratch.now.hops.now v 0) k) depots) codes.old }
 {
     let mut count: usize = 0;
-    let mut from: usize = 0;
-    while let Some(v) = map::next_open(members, map::WORDS, from) {
+    for v in map::open_depots(members) {
         count = put_near(codes, count, v, scratch.hops[v], k);
-        from = v + 1;
     }
     count as u16
 }

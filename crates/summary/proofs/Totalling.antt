@@ -1,25 +1,22 @@
 -- A loop that goes through the destinations in rising code, searches from each, adds its tally and counts its eccentricity. Assumes nothing.
-use mathlib.Core.Path.{◌≡◌, refl, sym, ap, ◌∙◌, subst}
+use mathlib.Core.Path.{◌≡◌, sym, ap, ◌∙◌}
 use mathlib.Core.Logic.{◌⊎◌, inl, inr, ◌≢◌}
 use mathlib.Core.List.{List, [], ◌∷◌, Memᴰ}
-use Prim.Native.Nat.{ℕ, ◌+◌, ◌-◌, ◌*◌, ◌≤◌, ◌<◌, zero-le}
+use Prim.Native.Nat.{ℕ, ◌+◌, ◌-◌, ◌*◌, ◌≤◌, ◌<◌}
 use native.Mathlib.Nat.{le_trans, mul-le-mul_left}
-use native.Mathlib.Numerals.{add-one}
 use native.Mathlib.Omega.{arith}
-use lib.Dec.{leb, ltb}
+use lib.Dec.{ltb}
 use lib.ListN.{length, get_or, set}
 use lib.Seq.{get_or-set_same, get_or-set_other}
-use borrow.Author.Tests.{le-leb}
 use Rattle.std.proofs.lemmas.Bool.{cases_eq}
 use Rattle.lists.specs.Lists.{range, filterb, sum_of, max_of, mapl, overwrite}
-use Rattle.lists.proofs.Members.{filter_out, filter-all, length-filter}
+use Rattle.lists.proofs.Members.{filter_out, length-filter}
 use Rattle.lists.proofs.Counts.{max_le_of}
 use Rattle.graph.specs.Network.{Network}
 use Rattle.graph.specs.Distance.{vertices, dist}
 use Rattle.graph.proofs.Summary.{sum_alike, sum_most}
 use Rattle.map.specs.Memory.{network_of, table_network}
 use Rattle.map.specs.Room.{Tables, tables}
-use Rattle.map.specs.Depots.{depots_from, IsNextOpen}
 use Rattle.map.proofs.Theorems.{network_most}
 use Rattle.layers.specs.Layers.{searched, search_leaves, search_table}
 use Rattle.search.proofs.Reaches.{target_below, search_leaves_lem, hop_is}
@@ -71,35 +68,31 @@ count_most e i l h = go (cases_eq i e)
 
 -- ---- all destinations
 
--- all depots are those from 0 on
-depots_all : (G : Network) → depots_from G 0 ≡ vertices G
-unfolding depots_from
-depots_all G = filter-all (λ v. leb 0 v) (vertices G) (λ v m. le-leb 0 v zero-le)
-
 module _ (tallied : ℕ → Tally) (W : ℕ) (N G : Network) (B₀ : Tables) (l₀ : List ℕ) where
-  -- The loop's invariant: what is done, with the destinations from `start` on, gives what all give; and there is room in the counts for these.
-  pub record IsTotalling (s p : ℕ) (B : Tables) (l : List ℕ) (start : ℕ) : Type 0 where
-    pub sum : sum_of (λ u. (tallied u).sum) (vertices G) ≡ s + sum_of (λ u. (tallied u).sum) (depots_from G start)
-    pub pairs : sum_of (λ u. (tallied u).pairs) (vertices G) ≡ p + sum_of (λ u. (tallied u).pairs) (depots_from G start)
-    pub lent : search_all W N (vertices G) B₀ ≡ search_all W N (depots_from G start) B
-    pub counts : count_all (λ u. (tallied u).ecc) (vertices G) l₀ ≡ count_all (λ u. (tallied u).ecc) (depots_from G start) l
-    pub room : (e : ℕ) → e < 64 * W → get_or l e 0 + length (depots_from G start) ≤ 64 * W
+  -- The loop's invariant: what is done, with the destinations that are left, gives what all give; and there is room in the counts for these.
+  pub record IsTotalling (s p : ℕ) (B : Tables) (l left : List ℕ) : Type 0 where
+    pub sum : sum_of (λ u. (tallied u).sum) (vertices G) ≡ s + sum_of (λ u. (tallied u).sum) left
+    pub pairs : sum_of (λ u. (tallied u).pairs) (vertices G) ≡ p + sum_of (λ u. (tallied u).pairs) left
+    pub lent : search_all W N (vertices G) B₀ ≡ search_all W N left B
+    pub counts : count_all (λ u. (tallied u).ecc) (vertices G) l₀ ≡ count_all (λ u. (tallied u).ecc) left l
+    pub room : (e : ℕ) → e < 64 * W → get_or l e 0 + length left ≤ 64 * W
 
-  pub totalling_none : length (vertices G) ≤ 64 * W → ((e : ℕ) → e < 64 * W → get_or l₀ e 0 ≡ 0) → IsTotalling 0 0 B₀ l₀ 0
-  totalling_none few zeros =
-      let a = ap (sum_of (λ u. (tallied u).sum)) (depots_all G) in
-      let b = ap (sum_of (λ u. (tallied u).pairs)) (depots_all G) in
+  pub totalling_none : {left : List ℕ} → left ≡ vertices G → length (vertices G) ≤ 64 * W → ((e : ℕ) → e < 64 * W → get_or l₀ e 0 ≡ 0)
+      → IsTotalling 0 0 B₀ l₀ left
+  totalling_none {left} all few zeros =
+      let a = ap (sum_of (λ u. (tallied u).sum)) all in
+      let b = ap (sum_of (λ u. (tallied u).pairs)) all in
       record {
         sum = omega (arith, a);
         pairs = omega (arith, b);
-        lent = ap (λ (us : List ℕ). search_all W N us B₀) (sym (depots_all G));
-        counts = ap (λ (us : List ℕ). count_all (λ u. (tallied u).ecc) us l₀) (sym (depots_all G));
-        room = λ e h. omega (arith, few, zeros e h, ap length (depots_all G));
+        lent = ap (λ (us : List ℕ). search_all W N us B₀) (sym all);
+        counts = ap (λ (us : List ℕ). count_all (λ u. (tallied u).ecc) us l₀) (sym all);
+        room = λ e h. omega (arith, few, zeros e h, ap length all);
       }
 
-  module _ {sum pairs : ℕ} {B : Tables} {l : List ℕ} {start : ℕ} (w : IsTotalling sum pairs B l start) where
+  module _ {sum pairs : ℕ} {B : Tables} {l left : List ℕ} (w : IsTotalling sum pairs B l left) where
     -- no destination is left
-    pub totalling_all : depots_from G start ≡ [] → totalled sum pairs B l ≡ total_by tallied W N (vertices G) B₀ l₀
+    pub totalling_all : left ≡ [] → totalled sum pairs B l ≡ total_by tallied W N (vertices G) B₀ l₀
     unfolding total_by search_all count_all sum_of
     totalling_all z =
         let a = ap (sum_of (λ u. (tallied u).sum)) z in
@@ -110,16 +103,7 @@ module _ (tallied : ℕ → Tally) (W : ℕ) (N G : Network) (B₀ : Tables) (l�
         let y : count_all (λ u. (tallied u).ecc) (vertices G) l₀ ≡ l = w.counts ∙ ap (λ (us : List ℕ). count_all (λ u. (tallied u).ecc) us l) z in
         rw (s, p, x, y)
 
-    module _ {u : ℕ} (n : IsNextOpen G start u) where
-      first : depots_from G start ≡ u ∷ depots_from G (u + 1)
-      unfolding depots_from
-      first = n.first ∙ ap (λ (k : ℕ). u ∷ depots_from G k) (sym (add-one u))
-
-      -- it is one of the destinations
-      pub totalling_in : Memᴰ u (vertices G)
-      unfolding depots_from
-      totalling_in = (filter_out (λ v. leb start v) (vertices G) (subst (Memᴰ u) (sym n.first) (Memᴰ.head refl))).0
-
+    module _ {u : ℕ} {rest : List ℕ} (first : left ≡ u ∷ rest) where
       pub totalling_sum : sum + (tallied u).sum ≤ sum_of (λ u. (tallied u).sum) (vertices G)
       unfolding sum_of
       totalling_sum = omega (arith, w.sum, ap (sum_of (λ u. (tallied u).sum)) first)
@@ -134,7 +118,7 @@ module _ (tallied : ℕ → Tally) (W : ℕ) (N G : Network) (B₀ : Tables) (l�
 
       -- one destination more
       pub totalling_more : {t : Tally} {B' : Tables} {l' : List ℕ} → (tallied u).ecc < length l → t ≡ tallied u → B' ≡ search_leaves W N u B
-          → l' ≡ count_one (tallied u).ecc l → IsTotalling (sum + t.sum) (pairs + t.pairs) B' l' (u + 1)
+          → l' ≡ count_one (tallied u).ecc l → IsTotalling (sum + t.sum) (pairs + t.pairs) B' l' rest
       unfolding sum_of search_all count_all
       totalling_more {t} {B'} {l'} h e x y =
           let s : t.sum ≡ (tallied u).sum = ap (λ (t : Tally). t.sum) e in
@@ -142,10 +126,10 @@ module _ (tallied : ℕ → Tally) (W : ℕ) (N G : Network) (B₀ : Tables) (l�
           record {
             sum = omega (arith, s, w.sum, ap (sum_of (λ u. (tallied u).sum)) first);
             pairs = omega (arith, p, w.pairs, ap (sum_of (λ u. (tallied u).pairs)) first);
-            lent = w.lent ∙ ap (λ (us : List ℕ). search_all W N us B) first ∙ ap (search_all W N (depots_from G (u + 1))) (sym x);
+            lent = w.lent ∙ ap (λ (us : List ℕ). search_all W N us B) first ∙ ap (search_all W N rest) (sym x);
             counts =
                 w.counts ∙ ap (λ (us : List ℕ). count_all (λ u. (tallied u).ecc) us l) first
-                ∙ ap (count_all (λ u. (tallied u).ecc) (depots_from G (u + 1))) (sym y);
+                ∙ ap (count_all (λ u. (tallied u).ecc) rest) (sym y);
             room = λ i g.
                 let a : get_or l' i 0 ≡ get_or (count_one (tallied u).ecc l) i 0 = ap (λ (l : List ℕ). get_or l i 0) y in
                 omega (arith, a, count_most (tallied u).ecc i l h, w.room i g, ap length first);

@@ -80,7 +80,6 @@ fn search_target(
 
 // Searches from every target in rising code, adds the tallies up, and counts the eccentricities afresh. Its answer holds those above of every target: the
 // sum of the distances, and the number of pairs.
-#[tactic(auto, using(map::proofs::Theorems::network_open_below))]
 fn total_over(
     targets: &[u64; map::WORDS],
     links: &[u64],
@@ -97,12 +96,10 @@ fn total_over(
     rows::fill(counts, map::PLACES, 0);
     let mut sum: u64 = 0;
     let mut pairs: u64 = 0;
-    let mut from: usize = 0;
-    while let Some(u) = map::next_open(targets, map::WORDS, from) {
+    for u in map::open_depots(targets) {
         let t = search_target(targets, links, scratch, counts, u);
         sum += t.sum;
         pairs += t.pairs;
-        from = u + 1;
     }
     Later { sum, pairs }
 }

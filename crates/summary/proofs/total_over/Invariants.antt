@@ -1,11 +1,10 @@
--- `summary::total_over` meets its contract. The loop's invariant: what is done, with the targets from `from` on, gives what all give. The measure is the
--- codes left.
+-- `summary::total_over` meets its contract. The loop's invariant: what is done, with the targets that are left, gives what all give.
 use mathlib.Core.Path.{◌≡◌}
-use mathlib.Core.List.{[]}
-use Prim.Native.Nat.{◌-◌, ◌≤◌}
+use mathlib.Core.List.{[], ◌++◌}
 use lib.ListN.{length}
 use Rattle.graph.specs.Distance.{vertices, dist}
 use Rattle.map.specs.Memory.{network_of, table_network}
+use Rattle.map.specs.Depots.{depots_left}
 use Rattle.map.specs.Slices.{tables_in, IsSameScratch}
 use Rattle.summary.specs.Steps.{tally_of}
 use Rattle.summary.proofs.Totalling.{IsTotalling}
@@ -16,10 +15,7 @@ invariant-loop-u l =
     let N = table_network 4 l.links in
     let G = network_of 4 l.targets [] in
     IsTotalling (λ u. tally_of (dist N u) u (vertices G)) 4 N G (tables_in l.initial.scratch) l.initial.counts l.sum
-    l.pairs (tables_in l.scratch) l.counts l.from
-    × (l.from ≤ 256)
+    l.pairs (tables_in l.scratch) l.counts (depots_left l.u-iterator)
+    × (l.yielded ++ depots_left l.u-iterator ≡ vertices G)
     × IsSameScratch l.initial.scratch l.scratch
     × (length l.counts ≡ length l.initial.counts)
-
-abbrev pub decreases-loop-u : goal.decreases-loop-u
-decreases-loop-u l = 256 - l.from
