@@ -162,8 +162,8 @@ impl<'a> Openings<'a> {
 
 // ---- those left over
 
-// Writes a number behind n others unless it is taken, and answers how many they are then. The places are the caller's, since no function has a heap: so n
-// goes beside them.
+// Writes a number behind n others unless it is taken, and answers how many they are then. A struct of the places, which are the caller's, and n
+// would be made for this one call and taken apart behind it.
 #[tactic(auto, unfolding(crate::specs::Steps::put_number))]
 fn put_number(left: &mut [u8], taken: u64, number: u8, n: u8) -> u8
     requires { (number < batch_limit) × (n < batch_limit) × (batch_limit ≤ length left.old) }

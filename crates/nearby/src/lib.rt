@@ -18,8 +18,8 @@ use outcome::Refusal;
 
 // ---- within so many handovers
 
-// Puts the code v behind the `count` that are listed where its hop is at most k, and answers how many are listed then. The places are the caller's, since no
-// function has a heap: so their count goes beside them.
+// Puts the code v behind the `count` that are listed where its hop is at most k, and answers how many are listed then. A struct of the
+// places, which are the caller's, and their count would be made for this one call and taken apart behind it.
 #[tactic(auto, using(std::proofs::lemmas::Bool::Decides::nat_tests), unfolding(crate::specs::Steps::list_more))]
 fn put_near(codes: &mut [u8], count: usize, v: usize, hop: u16, k: u32) -> usize
     requires { (hop ≤ k → count < length codes.old) × (v < places base) }

@@ -1,5 +1,6 @@
 // Reference rounds over lent tables (rules 5.1 to 5.4), a round at a time. Rows of 1 to 512 words. A row's width comes beside it, as crate `rows` says.
-// `words`, `mark` and `other` stay apart: `begin` has no use for `mark` and `absorb` none for `other`, and what they call takes the width alone.
+// `words`, `mark` and `other` stay apart: `begin` has no use for `mark` and `absorb` none for `other`. So width and one mark go together, which are two, and
+// all else that they call takes the width alone.
 
 #![tactic(auto)]
 

@@ -26,7 +26,7 @@ pub(crate) struct Lent {
     pub(crate) scratch: Scratch,
 }
 
-// The number of an opening's refusal, which comes without searches.
+// The number of an opening's refusal, which comes without searches: a test besides, so that it is no `From`.
 pub(crate) fn number_of(opening: Report) -> Option<u8> {
     match opening.outcome {
         Outcome::Refused(number) if opening.searches == 0 => Some(number),
