@@ -8,6 +8,7 @@ pub mod linking;
 pub mod nearby;
 pub mod network;
 pub mod opening;
+pub mod sentences;
 pub mod stream;
 pub mod summary;
 pub mod survey;
