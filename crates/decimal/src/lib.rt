@@ -1,12 +1,14 @@
-// Numbers of 64 bits written in decimal into lent memory. What writes text takes the place from which it writes and answers the place behind it, here and in
-// `report` and `summaries`: both are numbers by value, which stay in registers, where a writer behind a `&mut` is kept in memory (so of the line buffer, crate
-// `line_buffer`).
+// Numbers of 64 bits in decimal: written into lent memory, and read from the front of a text. What writes text takes the place from which it writes and
+// answers the place behind it, here and in `report`, `sentences` and `summaries`: both are numbers by value, which stay in registers, where a writer behind a
+// `&mut` is kept in memory (so of the line buffer, crate `line_buffer`).
 
 #![tactic(auto)]
 
 ghost use Rattle.std.specs.Prelude.{◌≡◌, ◌+◌, ◌^◌, ◌≤◌, ◌<◌, length};
 ghost use Rattle.decimal.specs.Decimal.{decimal, field};
 ghost use Rattle.decimal.specs.Placed.{Placed};
+ghost use Rattle.decimal.specs.Front.{front_of};
+ghost use Rattle.decimal.specs.Strip.{goes_on, strip_decimal};
 
 // How many digits a number below 10,000,000,000 has, and so any of 32 bits: by comparisons, which are quicker than a division for each digit.
 #[tactic(auto, using(crate::proofs::Numbers::ten_digits))]
@@ -82,4 +84,39 @@ pub fn put_field(line: &mut [u8], at: usize, n: u64) -> usize
 {
     line[at] = b' ';
     put_number(line, at + 1, n)
+}
+
+// Whether the digit d may follow those of n: no zero leads, and the limit holds. It divides, so that no product passes 64 bits.
+#[tactic(auto, unfolding(crate::specs::Strip::goes_on))]
+fn goes_on(limit: u64, n: u64, d: u64) -> bool
+    ensures { result ≡ goes_on limit n d }
+{
+    n != 0 && d <= limit && n <= (limit - d) / 10
+}
+
+// Reads the number at the front of a text: all the digits there are, without a leading zero, and at most the limit. The rest begins behind them.
+#[tactic(auto, using(crate::proofs::Strips::went_on), unfolding(crate::specs::Strip::strip_decimal, crate::specs::Strip::strip_more))]
+pub fn leading(text: &[u8], limit: u64) -> Option<(u64, &[u8])>
+    ensures { front_of result ≡ strip_decimal limit text.now }
+{
+    let (first, rest) = text.split_first()?;
+    if !first.is_ascii_digit() {
+        return None;
+    }
+    let mut n = (*first - 48) as u64;
+    if limit < n {
+        return None;
+    }
+    let mut left = rest;
+    while let Some((c, more)) = left.split_first()
+        && c.is_ascii_digit()
+    {
+        let d = (*c - 48) as u64;
+        if !goes_on(limit, n, d) {
+            return None;
+        }
+        n = 10 * n + d;
+        left = more;
+    }
+    Some((n, left))
 }
