@@ -10,6 +10,7 @@ use Rattle.map.specs.Room.{tables, Lent, lent, sizes, sizes_of}
 use Rattle.map.specs.Memory.{base}
 use Rattle.map.specs.declared.Record.{Record}
 use Rattle.update.specs.Steps.{map_refusal}
+use Rattle.transcript.specs.Manner.{as_reports}
 use Rattle.line_buffer.specs.Lines.{is_stopped}
 use Rattle.stream.specs.Feeding.{Feeding, feeding, progress_of, fed_of, IsReady, took_line, feed_call, finish_call}
 use Rattle.stream.specs.declared.Progress.{Progress}
@@ -37,14 +38,14 @@ step_ready words links p h x y b s line out lines held e read =
     }
 
 -- the end of a stream uses no byte
-end_unused : (q : Progress) (links : List ℕ) (B : Lent) (line out : List ℕ) → (finish_call q links B line out).fed.used ≡ 0
+end_unused : (q : Progress) (links : List ℕ) (B : Lent) (line out : List ℕ) → (finish_call as_reports q links B line out).fed.used ≡ 0
 unfolding finish_call took_line
-end_unused q links B line out = go (eqb q.held 0 || is_stopped q.lines 0 (length out))
+end_unused q links B line out = go (eqb q.held 0 || is_stopped as_reports.room q.lines 0 (length out))
   where
     F : Feeding
     F = feeding (fed_of q 0 0) links B line out
 
-    go : (t : Bool) → (cond t F (took_line F)).fed.used ≡ 0
+    go : (t : Bool) → (cond t F (took_line as_reports F)).fed.used ≡ 0
     go true = refl
     go false = refl
 
@@ -92,19 +93,19 @@ module _ (words links p h x y b s line out : List ℕ) (lines held used written 
       unfolding fed_from
       from = ap (λ (w : List ℕ). fed_out 0 w fed.progress.lines fed.progress.held fed.used fed.written links' B' line' out') (sym wrote)
 
-      pub feed_done : (piece : List ℕ) → feeding fed links' B' line' out' ≡ feed_call (progress_of rec lines held) links B line out piece → after fed.used ≡ feed_out m piece
+      pub feed_done : (piece : List ℕ) → feeding fed links' B' line' out' ≡ feed_call as_reports (progress_of rec lines held) links B line out piece → after fed.used ≡ feed_out m piece
       unfolding feed_out feed_given
       feed_done piece left =
           sym from
-          ∙ ap (λ (F : Feeding). fed_from F words) (left ∙ ap (λ (x : Record). feed_call (progress_of x lines held) links B line out piece) read_is)
+          ∙ ap (λ (F : Feeding). fed_from F words) (left ∙ ap (λ (x : Record). feed_call as_reports (progress_of x lines held) links B line out piece) read_is)
           ∙ ap (λ (j : ℕ). feed_given j m piece) (e ∙ first_is)
 
-      pub finish_done : feeding fed links' B' line' out' ≡ finish_call (progress_of rec lines held) links B line out → after 0 ≡ finish_out m
+      pub finish_done : feeding fed links' B' line' out' ≡ finish_call as_reports (progress_of rec lines held) links B line out → after 0 ≡ finish_out m
       unfolding finish_out finish_given
       finish_done left =
           ap after (sym (ap (λ (F : Feeding). F.fed.used) left ∙ end_unused (progress_of rec lines held) links B line out))
           ∙ sym from
-          ∙ ap (λ (F : Feeding). fed_from F words) (left ∙ ap (λ (x : Record). finish_call (progress_of x lines held) links B line out) read_is)
+          ∙ ap (λ (F : Feeding). fed_from F words) (left ∙ ap (λ (x : Record). finish_call as_reports (progress_of x lines held) links B line out) read_is)
           ∙ ap (λ (j : ℕ). finish_given j m) (e ∙ first_is)
 
 -- the tables of a room stand where they were lent

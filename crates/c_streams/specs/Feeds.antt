@@ -3,6 +3,7 @@
 use Rattle.std.specs.Prelude.{List, ℕ, zero, suc, length}
 use Rattle.lists.specs.Lists.{overwrite}
 use Rattle.map.specs.Room.{Lent, sizes_of}
+use Rattle.transcript.specs.Manner.{as_reports}
 use Rattle.stream.specs.Feeding.{Feeding, progress_of, feed_call, finish_call}
 use Rattle.c_values.specs.Words.{record_of, words_of}
 use Rattle.c_values.specs.Refusal.{step_refusal}
@@ -41,7 +42,7 @@ fed_from F words =
     fed_out 0 (overwrite (words_of p.rec) words) p.lines p.held F.fed.used F.fed.written F.links F.lent F.line F.out
 
 unfoldable pub feed_given : ℕ → FedOut → List ℕ → FedOut
-feed_given zero m piece = fed_from (feed_call (progress_of (record_of m.words) m.lines m.held) m.links m.lent m.line m.out piece) m.words
+feed_given zero m piece = fed_from (feed_call as_reports (progress_of (record_of m.words) m.lines m.held) m.links m.lent m.line m.out piece) m.words
 feed_given (suc k) m piece = fed_out (suc k) m.words m.lines m.held m.used m.written m.links m.lent m.line m.out
 
 unfoldable pub refusal_in : FedOut → ℕ
@@ -52,7 +53,7 @@ unfoldable pub feed_out : FedOut → List ℕ → FedOut
 feed_out m piece = feed_given (refusal_in m) m piece
 
 unfoldable pub finish_given : ℕ → FedOut → FedOut
-finish_given zero m = fed_from (finish_call (progress_of (record_of m.words) m.lines m.held) m.links m.lent m.line m.out) m.words
+finish_given zero m = fed_from (finish_call as_reports (progress_of (record_of m.words) m.lines m.held) m.links m.lent m.line m.out) m.words
 finish_given (suc k) m = fed_out (suc k) m.words m.lines m.held m.used m.written m.links m.lent m.line m.out
 
 -- the input has ended. A step that ends it uses no bytes

@@ -3,6 +3,7 @@ ghost use Rattle.std.specs.Prelude.{◌≡◌};
 ghost use Rattle.map.specs.Slices.{lent_before, lent_after};
 ghost use Rattle.c_streams.specs.Feeds.{fed_out, feed_out, finish_out};
 
+use line_buffer::Reports;
 use map::{Lengths, Room};
 use stream::Progress;
 
@@ -66,7 +67,7 @@ pub extern "C" fn zorpedi_feed(
         lines: *lines,
         held: *held,
     };
-    let fed = stream::feed(progress, links, &mut room, line, out, piece);
+    let fed = stream::feed(progress, links, &mut room, line, out, piece, &Reports);
     let now = fed.progress;
     c_values::put_record(words, now.rec);
     *lines = now.lines;
@@ -133,7 +134,7 @@ pub extern "C" fn zorpedi_finish(
         lines: *lines,
         held: *held,
     };
-    let fed = stream::finish(progress, links, &mut room, line, out);
+    let fed = stream::finish(progress, links, &mut room, line, out, &Reports);
     let now = fed.progress;
     c_values::put_record(words, now.rec);
     *lines = now.lines;

@@ -1,8 +1,7 @@
--- THE LINES OF A STREAM in lent memory: the line buffer, the report behind what is written, and where a step stops. Assumes nothing.
+-- THE LINES OF A STREAM in lent memory: the line buffer, the answer behind what is written, and where a step stops. Assumes nothing.
 use Rattle.std.specs.Prelude.{Bool, true, false, cond, ◌||◌, List, [], ◌∷◌, ◌++◌, ℕ, ◌+◌, eqb, ltb, leb, take, drop, set}
 use Rattle.lists.specs.Lists.{overwrite}
 use Rattle.notice.specs.Lines.{line_limit, line_end}
-use Rattle.report.specs.Line.{buffer_limit}
 use Rattle.report.specs.declared.ReportFields.{ReportFields}
 use Rattle.update.specs.declared.Returned.{Returned}
 use Rattle.transcript.specs.Transcript.{lines_limit}
@@ -35,7 +34,7 @@ unfoldable pub part_from : ℕ → Holding → List ℕ → PartLeft
 part_from at h [] = record { at = at; ended = false; buffer = h }
 part_from at h (b ∷ bs) = cond (eqb b line_end) (record { at = at + 1; ended = true; buffer = hold_byte b h }) (part_from (at + 1) (hold_byte b h) bs)
 
--- ---- the report
+-- ---- the answer
 
 -- the report of line n
 abbrev pub report_of : ℕ → Returned → ReportFields
@@ -54,6 +53,6 @@ pasted text at old = take at old ++ overwrite text (drop at old)
 
 -- ---- the stop
 
--- no further line may be begun: its report may not fit, or the stream has had its lines
-unfoldable pub is_stopped : ℕ → ℕ → ℕ → Bool
-is_stopped lines written room = ltb room (written + buffer_limit) || leb lines_limit lines
+-- no further line may be begun: a text for which so many bytes have to be free may not fit, or the stream has had its lines
+unfoldable pub is_stopped : ℕ → ℕ → ℕ → ℕ → Bool
+is_stopped needed lines written room = ltb room (written + needed) || leb lines_limit lines

@@ -1,12 +1,14 @@
-// The lines of a stream on their way through memory: the line buffer, the report behind what is written, and where a step stops.
+// The lines of a stream on their way through memory: the line buffer, the answer behind what is written, and where a step stops.
 
 #![tactic(auto)]
 
-ghost use Rattle.std.specs.Prelude.{◌≡◌, ◌+◌, ◌≤◌, length, drop};
+ghost use Rattle.std.specs.Prelude.{◌≡◌, ◌+◌, ◌≤◌, length, drop, IfSome, option_copied};
 ghost use Rattle.notice.specs.Lines.{line_limit};
 ghost use Rattle.report.specs.Line.{buffer_limit, report_line};
+ghost use Rattle.transcript.specs.Manner.{Manner, as_reports};
 ghost use Rattle.line_buffer.specs.Lines.{holding, hold_byte, part_left, part_from, report_of, pasted, is_stopped};
 
+use report::ReportFields;
 use update::Returned;
 
 // What the line buffer took of a piece: the place behind it, the bytes held then, and whether the line ended.
@@ -59,41 +61,82 @@ pub fn hold_part(line: &mut [u8], piece: &[u8], from: usize, held: usize) -> Gat
     }
 }
 
-// ---- the report
+// ---- the answer
 
-// Writes the report of line `number` behind what is written, and answers the place behind it.
-#[tactic(auto, using(crate::proofs::Reports::report_put_laws))]
-pub fn put_report(out: &mut [u8], at: usize, number: u32, got: Returned) -> usize
+// How a stream tells the answers of its lines.
+pub trait Tells {
+    // the text of each answer, and the bytes that have to be free for it
+    ghost manner: { Manner };
+
+    // The bytes that have to be free for a text.
+    fn room(&self) -> usize
+        ensures { result ≡ manner.room };
+
+    // Writes the text of a line's answer, by the frame that the line spells, if any, and its report, behind what is written; and answers the place behind it.
+    fn put(&self, out: &mut [u8], at: usize, read: Option<&[u8]>, report: ReportFields) -> usize
+        requires room { at + manner.room ≤ length out.old }
+        requires read { IfSome read (λ f. 3 ≤ length f.now) }
+        ensures { let told = manner.text (option_copied read.entry) report in
+            (out.new ≡ pasted told at out.old)
+            × (result ≡ at + length told)
+            × (result ≤ length out.new) };
+}
+
+// Tells each answer as its report.
+pub struct Reports;
+
+impl Tells for Reports {
+    ghost manner = { as_reports };
+
+    fn room(&self) -> usize {
+        report::BUFFER_LIMIT
+    }
+
+    fn put(&self, out: &mut [u8], at: usize, _: Option<&[u8]>, report: ReportFields) -> usize {
+        put_report(out, at, report)
+    }
+}
+
+// Writes a report behind what is written, and answers the place behind it.
+#[tactic(auto, using(crate::proofs::Putting::report_put_laws))]
+fn put_report(out: &mut [u8], at: usize, report: ReportFields) -> usize
     requires { at + buffer_limit ≤ length out.old }
-    ensures { let line = report_line (report_of number got) in
+    ensures { let line = report_line report in
         (out.new ≡ pasted line at out.old)
         × (result ≡ at + length line)
         × (result ≤ length out.new) }
 {
+    at + report::write_report(&mut out[at..], report).unwrap()
+}
+
+// The report of line `number`.
+pub fn report_of(number: u32, got: Returned) -> ReportFields
+    ensures { result ≡ report_of number got }
+{
     let rec = got.after;
     let call = got.report;
-    let line = report::ReportFields {
+    ReportFields {
         number,
         outcome: call.outcome,
         depots: rec.number,
         chain: rec.chain,
         pairs: rec.count,
         searches: call.searches,
-    };
-    at + report::write_report(&mut out[at..], line).unwrap()
+    }
 }
 
 // ---- the stop
 
-// Whether no further line may be begun: the report may not fit, or the stream has had its lines.
+// Whether no further line may be begun: the text of its answer may not fit, or the stream has had its lines.
 #[tactic(auto, unfolding(crate::specs::Lines::is_stopped))]
-pub fn is_stopped(lines: u32, written: usize, room: usize) -> bool
-    ensures { result ≡ is_stopped lines written room }
+pub fn is_stopped<T: Tells>(tell: &T, lines: u32, written: usize, room: usize) -> bool
+    ensures { result ≡ is_stopped T.manner.room lines written room }
 {
-    if room < report::BUFFER_LIMIT {
+    let needed = tell.room();
+    if room < needed {
         return true;
     }
-    if room - report::BUFFER_LIMIT < written {
+    if room - needed < written {
         return true;
     }
     1000000 <= lines

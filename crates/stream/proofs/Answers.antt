@@ -1,5 +1,5 @@
 -- A LINE'S ANSWER, by what the reader found. Assumes nothing.
-use mathlib.Core.Path.{◌≡◌}
+use mathlib.Core.Path.{◌≡◌, refl}
 use mathlib.Core.Bool.{Bool, true, false, cond}
 use mathlib.Core.List.{List}
 use Prim.Native.Nat.{ℕ, ◌<◌}
@@ -7,23 +7,20 @@ use native.Mathlib.Omega.{arith}
 use lib.Dec.{eqb}
 use lib.ListN.{get_or, take, drop}
 use borrow.Author.Tests.{ltb-true}
+use Rattle.std.specs.Prelude.{Some, None}
 use Rattle.lists.proofs.Scans.{all-at}
 use Rattle.outcome.specs.Numbers.{garbled_line}
 use Rattle.graph.specs.Opening.{notice_of}
 use Rattle.graph.specs.Updates.{opens, joins}
 use Rattle.map.specs.Memory.{base}
-use Rattle.map.specs.declared.Record.{Record}
-use Rattle.map.specs.Room.{Lent}
 use Rattle.hexadecimal.specs.Hex.{is_byte}
 use Rattle.notice.specs.Lines.{yard_kind, opens_depot, garbled, frame, read_line}
 use Rattle.notice.proofs.Tests.{frame_parts}
 use Rattle.notice.proofs.Theorems.{read_frame}
 use Rattle.notice.proofs.Readings.{FrameStands}
-use Rattle.update.specs.UpdateCall.{UpdateLeft, update_left, update_call, IsWithin}
-use Rattle.update.specs.Steps.{refused_with}
-use Rattle.update.specs.declared.Returned.{Returned}
+use Rattle.update.specs.UpdateCall.{IsWithin}
 use Rattle.transcript.specs.Transcript.{update_in}
-use Rattle.stream.specs.Feeding.{answer_to}
+use Rattle.transcript.specs.Manner.{frame_in}
 
 -- ---- a frame, by its kind
 
@@ -41,12 +38,9 @@ read-within text f u e = go (opens_depot (get_or f 0 0))
 
 -- ---- a line
 
-pub answered-frame : (text : List ℕ) (rec : Record) (links : List ℕ) (B : Lent) (f : List ℕ) (v : ℕ) {n : ℕ} {after : List ℕ} {x : UpdateLeft} → read_line text ≡ frame f v → FrameStands f n after
-    → x ≡ update_call base rec links B (update_in (take n after)) → x ≡ answer_to (read_line text) rec links B
-unfolding answer_to
-answered-frame text rec links B f v q s e = rw (q, ← s.whole) e
+-- what the reader's answer says of the frame: it stands in the buffer, or there is none
+pub framed : (text : List ℕ) (f : List ℕ) (v : ℕ) {n : ℕ} {after : List ℕ} → read_line text ≡ frame f v → FrameStands f n after → Some (take n after) ≡ frame_in (read_line text)
+framed text f v q s = rw (q, ← s.whole) refl
 
-pub answered-garbled : (text : List ℕ) (rec : Record) (links : List ℕ) (B : Lent) {n : ℕ} {r : Returned} → (read_line text ≡ garbled) × (n ≡ garbled_line) → r ≡ refused_with n rec
-    → update_left r links B ≡ answer_to (read_line text) rec links B
-unfolding answer_to
-answered-garbled text rec links B q e = rw (q.0, e, q.1)
+pub unframed : (text : List ℕ) {n : ℕ} → (read_line text ≡ garbled) × (n ≡ garbled_line) → None ≡ frame_in (read_line text)
+unframed text q = rw (q.0) refl

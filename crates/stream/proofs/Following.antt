@@ -29,6 +29,7 @@ use Rattle.update.proofs.Refuses.{refused_never}
 use Rattle.update.proofs.Keeps.{sizes_kept}
 use Rattle.update.proofs.Empties.{empty_held, empty_memory_lem}
 use Rattle.transcript.specs.Transcript.{update_in, Followed, searches_by, follow_by, follow_line, report_on}
+use Rattle.transcript.specs.Manner.{frame_in}
 use Rattle.line_buffer.specs.Lines.{report_of}
 use Rattle.stream.specs.Feeding.{answer_to}
 use Rattle.stream.proofs.Answers.{read-within}
@@ -130,10 +131,10 @@ module _ (G : Network) (held : IsHeld base G) (rec : Record) (links : List ℕ) 
 
   -- the answer to the line l of the text, against the network's
   pub record IsLine (l : Line) : Type 0 where
-    pub report : (n : ℕ) → report_of n (record { report = (answer_to l rec links B).report; after = (answer_to l rec links B).after }) ≡ report_on n (follow_line G l)
+    pub report : (n : ℕ) → report_of n (record { report = (answer_to (frame_in l) rec links B).report; after = (answer_to (frame_in l) rec links B).after }) ≡ report_on n (follow_line G l)
     pub is_held : IsHeld base (follow_line G l).network
-    pub is_said : Says base (follow_line G l).network (answer_to l rec links B).after (answer_to l rec links B).links (answer_to l rec links B).lent.pairs
-    pub sizes : sizes_of (answer_to l rec links B).links (answer_to l rec links B).lent ≡ sizes_of links B
+    pub is_said : Says base (follow_line G l).network (answer_to (frame_in l) rec links B).after (answer_to (frame_in l) rec links B).links (answer_to (frame_in l) rec links B).lent.pairs
+    pub sizes : sizes_of (answer_to (frame_in l) rec links B).links (answer_to (frame_in l) rec links B).lent ≡ sizes_of links B
 
   report_is : (n : ℕ) (x : UpdateLeft) (y : Followed) → x.report.outcome ≡ y.outcome → x.report.searches ≡ y.searches → IsHeld base y.network → Says base y.network x.after x.links x.lent.pairs
       → report_of n (record { report = x.report; after = x.after }) ≡ report_on n y
@@ -150,7 +151,7 @@ module _ (G : Network) (held : IsHeld base G) (rec : Record) (links : List ℕ) 
   garbled_line_lem : IsLine garbled
   unfolding answer_to follow_line
   garbled_line_lem = record {
-    report = λ n. report_is n (answer_to garbled rec links B) (follow_line G garbled) refl refl held says;
+    report = λ n. report_is n (answer_to (frame_in garbled) rec links B) (follow_line G garbled) refl refl held says;
     is_held = held;
     is_said = says;
     sizes = refl;
@@ -161,7 +162,7 @@ module _ (G : Network) (held : IsHeld base G) (rec : Record) (links : List ℕ) 
   frame_line f u low =
       let x = opening_is (update_in f) low in
       record {
-        report = λ n. report_is n (answer_to (frame f u) rec links B) (follow_line G (frame f u)) x.outcome x.searches x.is_held x.is_said;
+        report = λ n. report_is n (answer_to (frame_in (frame f u)) rec links B) (follow_line G (frame f u)) x.outcome x.searches x.is_held x.is_said;
         is_held = x.is_held;
         is_said = x.is_said;
         sizes = sizes_kept base base_shape rec links B (update_in f);

@@ -17,8 +17,10 @@ use Rattle.report.specs.Line.{buffer_limit}
 use Rattle.update.proofs.Memories.{IsHeld, Says}
 use Rattle.update.proofs.Empties.{empty_held}
 use Rattle.transcript.specs.Transcript.{lines_limit, transcript, network_in}
+use Rattle.transcript.specs.Manner.{Manner, as_reports, told_in}
+use Rattle.transcript.proofs.Manners.{told_transcript}
 use Rattle.stream.specs.Feeding.{StreamBegun, stream_begun, begin_call, IsReady, Feeding, stopped, feed_bytes}
-use Rattle.stream.specs.Pieces.{Standing, Turn, turn_left, stands_after, used_by, written_by, last_written, HasBegun}
+use Rattle.stream.specs.Pieces.{Standing, Turn, turn_told, stands_told, used_told, written_told, last_told, turn_left, stands_after, used_by, written_by, last_written, HasBegun}
 use Rattle.stream.specs.declared.Progress.{Progress}
 use Rattle.line_buffer.proofs.Stops.{stopped_lines}
 use Rattle.stream.proofs.Lines.{open_none}
@@ -32,10 +34,6 @@ use Rattle.lists.proofs.Appends.{append_none}
 
 at_start : Place
 at_start = record { lines = 0; network = empty_network; begun = [] }
-
-whole_rest : (input : List ℕ) → rest_from at_start input ≡ transcript input
-unfolding at_start rest_from transcript
-whole_rest input = refl
 
 whole_network : (input : List ℕ) → network_from at_start input ≡ network_in input
 unfolding at_start network_from network_in
@@ -58,74 +56,105 @@ begun_on s is = record {
   };
 }
 
-turned : (s : Standing) → HasBegun s → (ts : List Turn) → Turned at_start s ts
-unfolding at_start
-turned s is ts = turns_go ts at_start s (begun_on s is) open_none
-
 -- a stream stands on the map of a network, in buffers that have their named sizes
 pub record IsMapOf (G : Network) (s : Standing) : Type 0 where
   pub is_held : IsHeld base G
   pub is_said : Says base G s.progress.rec s.links s.lent.pairs
   pub long : long_enough base (sizes_of s.links s.lent) ≡ true
 
--- ---- HOWEVER THE INPUT IS CUT INTO PIECES, and whatever buffers are lent for the reports: what the turns and the end write is the whole output
--- of the bytes used
+-- ---- TOLD IN ANY MANNER
+
+module _ (M : Manner) where
+  whole_rest : (input : List ℕ) → rest_from M at_start input ≡ told_in M input
+  unfolding at_start rest_from told_in
+  whole_rest input = refl
+
+  turned : (s : Standing) → HasBegun s → (ts : List Turn) → Turned M at_start s ts
+  unfolding at_start
+  turned s is ts = turns_go M ts at_start s (begun_on s is) open_none
+
+  -- ---- HOWEVER THE INPUT IS CUT INTO PIECES, and whatever buffers are lent for the answers: what the turns and the end write is the whole output of
+  -- the bytes used
+  pub pieces_told : (s : Standing) → HasBegun s → (ts : List Turn) (out : List ℕ) → M.room ≤ length out
+      → written_told M s ts ++ last_told M (stands_told M s ts) out ≡ told_in M (used_told M s ts)
+  pieces_told s is ts out room =
+      let t = turned s is ts in
+      ap (λ (x : List ℕ). written_told M s ts ++ x) (finish_goes M (stands_told M s ts) out room t.place.lines t.place.network t.place.begun t.stands t.is_open)
+      ∙ t.rest []
+      ∙ ap (rest_from M at_start) (append_none (used_told M s ts))
+      ∙ whole_rest (used_told M s ts)
+
+  -- and after the turns the memory is the map of the bytes used, a stretch that is held being no line yet
+  pub network_told : (s : Standing) → HasBegun s → (ts : List Turn) → IsMapOf (network_in (used_told M s ts)) (stands_told M s ts)
+  network_told s is ts =
+      let t = turned s is ts in
+      subst (λ (G : Network). IsMapOf G (stands_told M s ts))
+      (sym (network_still t.place.lines t.place.network t.place.begun t.is_open)
+      ∙ t.follows []
+      ∙ ap (network_from at_start) (append_none (used_told M s ts))
+      ∙ whole_network (used_told M s ts))
+      (record { is_held = t.stands.is_held; is_said = t.stands.is_said; long = t.stands.long })
+
+  -- after the last line of a stream nothing is read: whatever follows, the output is what was written
+  pub rest_untold : (s : Standing) → HasBegun s → (ts : List Turn) (rest : List ℕ) → lines_limit ≤ (stands_told M s ts).progress.lines
+      → written_told M s ts ≡ told_in M (used_told M s ts ++ rest)
+  rest_untold s is ts rest l =
+      let t = turned s is ts in
+      sym (append_none (written_told M s ts))
+      ∙ sym (ap (λ (x : List ℕ). written_told M s ts ++ x) (rest_over M t.place rest (omega (arith, l, t.stands.lines))))
+      ∙ t.rest rest
+      ∙ whole_rest (used_told M s ts ++ rest)
+
+  -- nor followed
+  pub unfollowed_told : (s : Standing) → HasBegun s → (ts : List Turn) (rest : List ℕ) → lines_limit ≤ (stands_told M s ts).progress.lines
+      → network_in (used_told M s ts) ≡ network_in (used_told M s ts ++ rest)
+  unfollowed_told s is ts rest l =
+      let t = turned s is ts in
+      let over : lines_limit ≤ t.place.lines = omega (arith, l, t.stands.lines) in
+      sym (whole_network (used_told M s ts))
+      ∙ sym (ap (network_from at_start) (append_none (used_told M s ts)))
+      ∙ sym (t.follows [])
+      ∙ network_over t.place [] over
+      ∙ sym (network_over t.place rest over)
+      ∙ t.follows rest
+      ∙ whole_network (used_told M s ts ++ rest)
+
+  -- a turn uses a byte at least where one is left, a line may come and the buffer has room for an answer; it leaves none unless it stops
+  pub told_uses : (s : Standing) (out : List ℕ) (b : ℕ) (bs : List ℕ) → s.progress.lines < lines_limit → M.room ≤ length out
+      → 0 < (turn_told M s (record { piece = b ∷ bs; out = out })).fed.used
+  told_uses s out b bs l room =
+      subst (λ (F : Feeding). 0 < F.fed.used) (sym (turn_is M s (record { piece = b ∷ bs; out = out })))
+      (bytes_first M b bs (entering s out) (sym (stopped_lines M.room s.progress.lines 0 (length out) (omega (arith, room))) ∙ lt-leb lines_limit s.progress.lines l))
+
+  pub told_all : (s : Standing) (t : Turn) → (stopped M (turn_told M s t) ≡ true) ⊎ ((turn_told M s t).fed.used ≡ length t.piece)
+  told_all s t =
+      subst (λ (F : Feeding). (stopped M F ≡ true) ⊎ (F.fed.used ≡ length t.piece)) (sym (turn_is M s t))
+      (subst (λ (n : ℕ). (stopped M (feed_bytes M t.piece (entering s t.out)) ≡ true) ⊎ ((feed_bytes M t.piece (entering s t.out)).fed.used ≡ n)) (zero-add (length t.piece))
+      (bytes_all M t.piece (entering s t.out)))
+
+-- ---- TOLD AS REPORTS
+
 pub pieces_alike : (s : Standing) → HasBegun s → (ts : List Turn) (out : List ℕ) → buffer_limit ≤ length out
     → written_by s ts ++ last_written (stands_after s ts) out ≡ transcript (used_by s ts)
-pieces_alike s is ts out room =
-    let t = turned s is ts in
-    ap (λ (x : List ℕ). written_by s ts ++ x) (finish_goes (stands_after s ts) out room t.place.lines t.place.network t.place.begun t.stands t.is_open)
-    ∙ t.rest []
-    ∙ ap (rest_from at_start) (append_none (used_by s ts))
-    ∙ whole_rest (used_by s ts)
+pieces_alike s is ts out room = pieces_told as_reports s is ts out room ∙ told_transcript (used_by s ts)
 
--- and after the turns the memory is the map of the bytes used, a stretch that is held being no line yet
 pub pieces_network : (s : Standing) → HasBegun s → (ts : List Turn) → IsMapOf (network_in (used_by s ts)) (stands_after s ts)
-pieces_network s is ts =
-    let t = turned s is ts in
-    subst (λ (G : Network). IsMapOf G (stands_after s ts))
-    (sym (network_still t.place.lines t.place.network t.place.begun t.is_open)
-    ∙ t.follows []
-    ∙ ap (network_from at_start) (append_none (used_by s ts))
-    ∙ whole_network (used_by s ts))
-    (record { is_held = t.stands.is_held; is_said = t.stands.is_said; long = t.stands.long })
+pieces_network s is ts = network_told as_reports s is ts
 
--- after the last line of a stream nothing is read: whatever follows, the output is what was written
 pub rest_unread : (s : Standing) → HasBegun s → (ts : List Turn) (rest : List ℕ) → lines_limit ≤ (stands_after s ts).progress.lines
     → written_by s ts ≡ transcript (used_by s ts ++ rest)
-rest_unread s is ts rest l =
-    let t = turned s is ts in
-    sym (append_none (written_by s ts))
-    ∙ sym (ap (λ (x : List ℕ). written_by s ts ++ x) (rest_over t.place rest (omega (arith, l, t.stands.lines))))
-    ∙ t.rest rest
-    ∙ whole_rest (used_by s ts ++ rest)
+rest_unread s is ts rest l = rest_untold as_reports s is ts rest l ∙ told_transcript (used_by s ts ++ rest)
 
--- nor followed
 pub rest_unfollowed : (s : Standing) → HasBegun s → (ts : List Turn) (rest : List ℕ) → lines_limit ≤ (stands_after s ts).progress.lines
     → network_in (used_by s ts) ≡ network_in (used_by s ts ++ rest)
-rest_unfollowed s is ts rest l =
-    let t = turned s is ts in
-    let over : lines_limit ≤ t.place.lines = omega (arith, l, t.stands.lines) in
-    sym (whole_network (used_by s ts))
-    ∙ sym (ap (network_from at_start) (append_none (used_by s ts)))
-    ∙ sym (t.follows [])
-    ∙ network_over t.place [] over
-    ∙ sym (network_over t.place rest over)
-    ∙ t.follows rest
-    ∙ whole_network (used_by s ts ++ rest)
+rest_unfollowed s is ts rest l = unfollowed_told as_reports s is ts rest l
 
--- a turn uses a byte at least where one is left, a line may come and the buffer has room for a report; it leaves none unless it stops
 pub turn_uses : (s : Standing) (out : List ℕ) (b : ℕ) (bs : List ℕ) → s.progress.lines < lines_limit → buffer_limit ≤ length out
     → 0 < (turn_left s (record { piece = b ∷ bs; out = out })).fed.used
-turn_uses s out b bs l room =
-    subst (λ (F : Feeding). 0 < F.fed.used) (sym (turn_is s (record { piece = b ∷ bs; out = out })))
-    (bytes_first b bs (entering s out) (sym (stopped_lines s.progress.lines 0 (length out) room) ∙ lt-leb lines_limit s.progress.lines l))
+turn_uses s out b bs l room = told_uses as_reports s out b bs l room
 
-pub turn_all : (s : Standing) (t : Turn) → (stopped (turn_left s t) ≡ true) ⊎ ((turn_left s t).fed.used ≡ length t.piece)
-turn_all s t =
-    subst (λ (F : Feeding). (stopped F ≡ true) ⊎ (F.fed.used ≡ length t.piece)) (sym (turn_is s t))
-    (subst (λ (n : ℕ). (stopped (feed_bytes t.piece (entering s t.out)) ≡ true) ⊎ ((feed_bytes t.piece (entering s t.out)).fed.used ≡ n)) (zero-add (length t.piece))
-    (bytes_all t.piece (entering s t.out)))
+pub turn_all : (s : Standing) (t : Turn) → (stopped as_reports (turn_left s t) ≡ true) ⊎ ((turn_left s t).fed.used ≡ length t.piece)
+turn_all s t = told_all as_reports s t
 
 -- ---- a stream that has stream_begun is ready, on buffers that have their named sizes
 

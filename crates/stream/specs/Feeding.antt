@@ -1,6 +1,6 @@
 -- THE STEP OF THE STREAM on lent memory: the answer and every byte, for a piece of the input. The code's contracts are equations with `feed_call`
 -- and `finish_call`. Assumes nothing.
-use Rattle.std.specs.Prelude.{◌≡◌, Bool, cond, ◌||◌, List, [], ◌∷◌, ℕ, ◌+◌, ◌≤◌, eqb, length, take}
+use Rattle.std.specs.Prelude.{◌≡◌, Bool, cond, ◌||◌, List, [], ◌∷◌, ℕ, ◌+◌, ◌≤◌, eqb, length, take, Option, Some, None}
 use Rattle.lists.specs.Lists.{overwrite}
 use Rattle.map.specs.Memory.{base, table_words}
 use Rattle.map.specs.Empty.{zeros, empty_record}
@@ -9,9 +9,9 @@ use Rattle.map.specs.Room.{Lent, sizes_of}
 use Rattle.outcome.specs.Numbers.{garbled_line}
 use Rattle.update.specs.UpdateCall.{UpdateLeft, left_of, update_call}
 use Rattle.update.specs.Steps.{map_refusal, refused_with}
-use Rattle.notice.specs.Lines.{line_limit, line_end, Line, garbled, frame, read_line}
-use Rattle.report.specs.Line.{report_line}
+use Rattle.notice.specs.Lines.{line_limit, line_end, read_line}
 use Rattle.transcript.specs.Transcript.{update_in}
+use Rattle.transcript.specs.Manner.{Manner, frame_in}
 use Rattle.line_buffer.specs.Lines.{holding, hold_byte, report_of, pasted, is_stopped}
 use Rattle.stream.specs.declared.Progress.{Progress}
 use Rattle.stream.specs.declared.Fed.{Fed}
@@ -42,12 +42,12 @@ pub record IsReady (p : Progress) (links : List ℕ) (B : Lent) (line : List ℕ
 
 -- ---- a line's answer
 
--- the reader's refusal, or the opening call of the frame
-unfoldable pub answer_to : Line → Record → List ℕ → Lent → UpdateLeft
-answer_to garbled rec links B = let x = refused_with garbled_line rec in left_of x.report x.after links B
-answer_to (frame f used) rec links B = update_call base rec links B (update_in f)
+-- the reader's refusal of a line that spells no frame, or the call that its frame asks for
+unfoldable pub answer_to : Option (List ℕ) → Record → List ℕ → Lent → UpdateLeft
+answer_to None rec links B = let x = refused_with garbled_line rec in left_of x.report x.after links B
+answer_to (Some f) rec links B = update_call base rec links B (update_in f)
 
--- ---- the step
+-- ---- the step, for a manner of telling the answers of lines
 
 -- what stands in lent memory while a piece is fed, with the progress
 pub record Feeding : Type 0 where
@@ -63,16 +63,17 @@ feeding fed links B line out = record { fed = fed; links = links; lent = B; line
 abbrev pub fed_of : Progress → ℕ → ℕ → Fed
 fed_of p used written = record { progress = p; used = used; written = written }
 
-abbrev pub stopped : Feeding → Bool
-stopped F = is_stopped F.fed.progress.lines F.fed.written (length F.out)
+abbrev pub stopped : Manner → Feeding → Bool
+stopped M F = is_stopped M.room F.fed.progress.lines F.fed.written (length F.out)
 
--- the held bytes are answered as a line, and its report stands behind what was written
-unfoldable pub took_line : Feeding → Feeding
-took_line F =
+-- the held bytes are answered as a line, and the answer's text stands behind what was written
+unfoldable pub took_line : Manner → Feeding → Feeding
+took_line M F =
     let p = F.fed.progress in
-    let x = answer_to (read_line (take p.held F.line)) p.rec F.links F.lent in
+    let read = frame_in (read_line (take p.held F.line)) in
+    let x = answer_to read p.rec F.links F.lent in
     let n = p.lines + 1 in
-    let text = report_line (report_of n (record { report = x.report; after = x.after })) in
+    let text = M.text read (report_of n (record { report = x.report; after = x.after })) in
     feeding (fed_of (progress_of x.after n 0) F.fed.used (F.fed.written + length text)) x.links x.lent F.line (pasted text F.fed.written F.out)
 
 -- a byte is held
@@ -82,20 +83,20 @@ held_byte b F =
     let h = hold_byte b (holding F.line p.held) in
     feeding (fed_of (progress_of p.rec p.lines h.held) (F.fed.used + 1) F.fed.written) F.links F.lent h.line F.out
 
-unfoldable pub take_byte : ℕ → Feeding → Feeding
-take_byte b F = cond (eqb b line_end) (took_line (held_byte b F)) (held_byte b F)
+unfoldable pub take_byte : Manner → ℕ → Feeding → Feeding
+take_byte M b F = cond (eqb b line_end) (took_line M (held_byte b F)) (held_byte b F)
 
 -- the bytes of a piece, until the step stops
-unfoldable pub feed_bytes : List ℕ → Feeding → Feeding
-feed_bytes [] F = F
-feed_bytes (b ∷ bs) F = cond (stopped F) F (feed_bytes bs (take_byte b F))
+unfoldable pub feed_bytes : Manner → List ℕ → Feeding → Feeding
+feed_bytes M [] F = F
+feed_bytes M (b ∷ bs) F = cond (stopped M F) F (feed_bytes M bs (take_byte M b F))
 
 -- a piece is fed: nothing of it is used and nothing is written before
-unfoldable pub feed_call : Progress → List ℕ → Lent → List ℕ → List ℕ → List ℕ → Feeding
-feed_call p links B line out piece = feed_bytes piece (feeding (fed_of p 0 0) links B line out)
+unfoldable pub feed_call : Manner → Progress → List ℕ → Lent → List ℕ → List ℕ → List ℕ → Feeding
+feed_call M p links B line out piece = feed_bytes M piece (feeding (fed_of p 0 0) links B line out)
 
 -- the input has ended: a stretch that is held is a line too
-unfoldable pub finish_call : Progress → List ℕ → Lent → List ℕ → List ℕ → Feeding
-finish_call p links B line out =
+unfoldable pub finish_call : Manner → Progress → List ℕ → Lent → List ℕ → List ℕ → Feeding
+finish_call M p links B line out =
     let F = feeding (fed_of p 0 0) links B line out in
-    cond (eqb p.held 0 || stopped F) F (took_line F)
+    cond (eqb p.held 0 || stopped M F) F (took_line M F)

@@ -1,9 +1,11 @@
--- WHAT IS PROVED OF THE STREAM: however the input is cut into pieces, and whatever buffers are lent for the reports, the output is the
--- transcript. The theorems are `pieces_alike`, `rest_unread`, `turn_uses` and `turn_all` (proofs/Theorems). Assumes nothing.
+-- WHAT IS PROVED OF THE STREAM: however the input is cut into pieces, and whatever buffers are lent for the answers, the output is that of the whole
+-- input, told in the stream's manner: for a stream of reports, the transcript. The theorems are `pieces_told` and `rest_untold`, and for reports
+-- `pieces_alike`, `rest_unread`, `turn_uses` and `turn_all` (proofs/Theorems). Assumes nothing.
 use Rattle.std.specs.Prelude.{◌≡◌, true, List, [], ◌∷◌, ◌++◌, ℕ, ◌≤◌, length, take}
 use Rattle.map.specs.Memory.{base}
 use Rattle.map.specs.Room.{Lent, sizes_of, long_enough}
 use Rattle.notice.specs.Lines.{line_limit}
+use Rattle.transcript.specs.Manner.{Manner, as_reports}
 use Rattle.stream.specs.Feeding.{begin_call, Feeding, feed_call, finish_call}
 use Rattle.stream.specs.declared.Progress.{Progress}
 
@@ -14,33 +16,54 @@ pub record Standing : Type 0 where
   pub lent : Lent
   pub line : List ℕ
 
--- a turn: the piece that is fed, and the buffer that is lent for the reports
+-- a turn: the piece that is fed, and the buffer that is lent for the answers
 pub record Turn : Type 0 where
   pub piece : List ℕ
   pub out : List ℕ
 
-unfoldable pub turn_left : Standing → Turn → Feeding
-turn_left s t = feed_call s.progress s.links s.lent s.line t.out t.piece
-
 unfoldable pub standing_after : Feeding → Standing
 standing_after F = record { progress = F.fed.progress; links = F.links; lent = F.lent; line = F.line }
 
+-- ---- told in any manner
+
+unfoldable pub turn_told : Manner → Standing → Turn → Feeding
+turn_told M s t = feed_call M s.progress s.links s.lent s.line t.out t.piece
+
 -- after some turns: where the stream stands, the bytes used, and the bytes written
-unfoldable pub stands_after : Standing → List Turn → Standing
-stands_after s [] = s
-stands_after s (t ∷ ts) = stands_after (standing_after (turn_left s t)) ts
+unfoldable pub stands_told : Manner → Standing → List Turn → Standing
+stands_told M s [] = s
+stands_told M s (t ∷ ts) = stands_told M (standing_after (turn_told M s t)) ts
 
-unfoldable pub used_by : Standing → List Turn → List ℕ
-used_by s [] = []
-used_by s (t ∷ ts) = let F = turn_left s t in take F.fed.used t.piece ++ used_by (standing_after F) ts
+unfoldable pub used_told : Manner → Standing → List Turn → List ℕ
+used_told M s [] = []
+used_told M s (t ∷ ts) = let F = turn_told M s t in take F.fed.used t.piece ++ used_told M (standing_after F) ts
 
-unfoldable pub written_by : Standing → List Turn → List ℕ
-written_by s [] = []
-written_by s (t ∷ ts) = let F = turn_left s t in take F.fed.written F.out ++ written_by (standing_after F) ts
+unfoldable pub written_told : Manner → Standing → List Turn → List ℕ
+written_told M s [] = []
+written_told M s (t ∷ ts) = let F = turn_told M s t in take F.fed.written F.out ++ written_told M (standing_after F) ts
 
 -- what the end of the input adds
-unfoldable pub last_written : Standing → List ℕ → List ℕ
-last_written s out = let F = finish_call s.progress s.links s.lent s.line out in take F.fed.written F.out
+unfoldable pub last_told : Manner → Standing → List ℕ → List ℕ
+last_told M s out = let F = finish_call M s.progress s.links s.lent s.line out in take F.fed.written F.out
+
+-- ---- told as reports
+
+abbrev pub turn_left : Standing → Turn → Feeding
+turn_left s t = turn_told as_reports s t
+
+abbrev pub stands_after : Standing → List Turn → Standing
+stands_after s ts = stands_told as_reports s ts
+
+abbrev pub used_by : Standing → List Turn → List ℕ
+used_by s ts = used_told as_reports s ts
+
+abbrev pub written_by : Standing → List Turn → List ℕ
+written_by s ts = written_told as_reports s ts
+
+abbrev pub last_written : Standing → List ℕ → List ℕ
+last_written s out = last_told as_reports s out
+
+-- ---- the beginning
 
 -- a stream has begun on lent memory that is long enough, whatever it held
 pub record HasBegun (s : Standing) : Type 0 where

@@ -1,20 +1,23 @@
-// The stream: notice lines in, report lines out, the input in pieces of any size.
+// The stream: notice lines in, their answers out, told as reports or in any other manner, the input in pieces of any size.
 
 #![tactic(auto)]
 
-ghost use Rattle.std.specs.Prelude.{◌≡◌, ◌+◌, ◌≤◌, ◌<◌, length};
+ghost use Rattle.std.specs.Prelude.{◌≡◌, ◌+◌, ◌≤◌, ◌<◌, length, IfSome, option_copied};
 ghost use Rattle.map.specs.Memory.{base, table_words};
 ghost use Rattle.map.specs.Slices.{lent_in, room_sizes, IsSameRoom};
 ghost use Rattle.notice.specs.Lines.{read_line};
-ghost use Rattle.report.specs.Line.{buffer_limit};
+ghost use Rattle.notice.specs.Calls.{frame_limit};
 ghost use Rattle.update.specs.UpdateCall.{update_left, update_call};
 ghost use Rattle.update.specs.Steps.{map_refusal};
 ghost use Rattle.transcript.specs.Transcript.{lines_limit, update_in};
+ghost use Rattle.transcript.specs.Manner.{frame_in};
 ghost use Rattle.stream.specs.Feeding.{stream_begun, begin_call, answer_to, IsReady, feeding, took_line, feed_call, finish_call};
 
 use admission::Link;
+use line_buffer::Tells;
 use map::{Record, Room};
 use opening::Notice;
+use outcome::Refusal;
 use step::Asked;
 use update::Returned;
 
@@ -26,7 +29,7 @@ pub struct Progress {
     pub held: usize,
 }
 
-// What a call leaves beside the lent memory: the progress, the bytes of the piece used, and the bytes of reports written.
+// What a call leaves beside the lent memory: the progress, the bytes of the piece used, and the bytes of answers written.
 #[derive(Clone, Copy)]
 pub struct Fed {
     pub progress: Progress,
@@ -50,6 +53,18 @@ pub fn begin(links: &mut [u64], pairs: &mut [u64]) -> Progress
 }
 
 // ---- a line's answer
+
+// The frame that a line spells, if any, in the buffer that is lent for it.
+fn read_frame<'a>(frame: &'a mut [u8], text: &[u8]) -> Option<&'a [u8]>
+    requires { frame_limit ≤ length frame.old }
+    ensures read { option_copied result ≡ frame_in (read_line text.now) }
+    ensures long { IfSome result (λ f. 3 ≤ length f.now) }
+{
+    match notice::read_notice(&mut *frame, text) {
+        Ok(read) => Some(&frame[..read.length]),
+        Err(_) => None,
+    }
+}
 
 // Answers a frame by its kind: the opening of a depot or a yard, or the link of two depots.
 #[tactic(auto, using(notice::proofs::Readings::behind), unfolding(transcript::specs::Transcript::update_in))]
@@ -76,38 +91,49 @@ fn answer_frame(rec: Record, links: &mut [u64], room: &mut Room<'_>, frame: &[u8
     step::step_sound(rec, links, room, asked)
 }
 
-// Answers a line: the reader's refusal, or what its frame asks for.
-fn answer_line(rec: Record, links: &mut [u64], room: &mut Room<'_>, text: &[u8]) -> Returned
-    requires { let long = room_sizes (length links.old) room.old in
+// Answers a line by the frame that it spells: what the frame asks for, or the refusal where there is none.
+#[tactic(auto, unfolding(crate::specs::Feeding::answer_to))]
+fn answer_line(rec: Record, links: &mut [u64], room: &mut Room<'_>, read: Option<&[u8]>) -> Returned
+    requires free { let long = room_sizes (length links.old) room.old in
         map_refusal base rec links.old room.old.pairs.now long ≡ 0 }
+    requires long { IfSome read (λ f. 3 ≤ length f.now) }
     ensures same { IsSameRoom room.old room.new }
     ensures left { update_left result links.new (lent_in room.new)
-        ≡ answer_to (read_line text.now) rec links.old (lent_in room.old) }
+        ≡ answer_to (option_copied read.entry) rec links.old (lent_in room.old) }
 {
-    let mut frame = [0u8; notice::FRAME_LIMIT];
-    match notice::read_notice(&mut frame, text) {
-        Ok(read) => answer_frame(rec, links, room, &frame[..read.length]),
-        Err(refusal) => update::refused(rec, refusal.number()),
+    match read {
+        Some(frame) => answer_frame(rec, links, room, frame),
+        None => update::refused(rec, Refusal::Garbled.number()),
     }
 }
 
-// Answers the line that is held, and reports it.
+// Answers the line that is held, and tells the answer.
 #[tactic(auto, unfolding(crate::specs::Feeding::took_line))]
-fn take_line(fed: Fed, links: &mut [u64], room: &mut Room<'_>, line: &[u8], out: &mut [u8]) -> Fed
+fn take_line<T: Tells>(
+    fed: Fed,
+    links: &mut [u64],
+    room: &mut Room<'_>,
+    line: &[u8],
+    out: &mut [u8],
+    tell: &T,
+) -> Fed
     requires { let long = room_sizes (length links.old) room.old in
         (map_refusal base fed.progress.rec links.old room.old.pairs.now long ≡ 0)
         × (fed.progress.held ≤ length line.now)
         × (fed.progress.lines < lines_limit)
-        × (fed.written + buffer_limit ≤ length out.old) }
+        × (fed.written + T.manner.room ≤ length out.old) }
     ensures same { IsSameRoom room.old room.new }
     ensures left { feeding result links.new (lent_in room.new) line.now out.new
-        ≡ took_line (feeding fed links.old (lent_in room.old) line.now out.old) }
+        ≡ took_line T.manner (feeding fed links.old (lent_in room.old) line.now out.old) }
     ensures written { result.written ≤ length out.new }
 {
     let before = fed.progress;
-    let got = answer_line(before.rec, links, room, &line[..before.held]);
+    let mut frame = [0u8; notice::FRAME_LIMIT];
+    let read = read_frame(&mut frame, &line[..before.held]);
+    let got = answer_line(before.rec, links, room, read);
     let number = before.lines + 1;
-    let written = line_buffer::put_report(out, fed.written, number, got);
+    let report = line_buffer::report_of(number, got);
+    let written = tell.put(out, fed.written, read, report);
     let progress = Progress {
         rec: got.after,
         lines: number,
@@ -122,22 +148,23 @@ fn take_line(fed: Fed, links: &mut [u64], room: &mut Room<'_>, line: &[u8], out:
 
 // ---- the step
 
-// Feeds a piece of the input: answers each line that ends in it, holds what is left, and writes the reports from the start of `out`. It
-// stops before a line whose report might not fit and after the last line of a stream; what is not used is to be fed again. `IsReady` is of values that are
+// Feeds a piece of the input: answers each line that ends in it, holds what is left, and tells the answers from the start of `out`. It
+// stops before a line whose answer might not fit and after the last line of a stream; what is not used is to be fed again. `IsReady` is of values that are
 // lent apart: a struct that lends them together was tried, and tables lent inside a lent struct are not covered by the borrow checker.
 #[tactic(auto, using(crate::proofs::Feeds::bytes), unfolding(crate::specs::Feeding::feed_call, map::specs::Room::sizes_of))]
-pub fn feed(
+pub fn feed<T: Tells>(
     progress: Progress,
     links: &mut [u64],
     room: &mut Room<'_>,
     line: &mut [u8],
     out: &mut [u8],
     piece: &[u8],
+    tell: &T,
 ) -> Fed
     requires { IsReady progress links.old (lent_in room.old) line.old }
     ensures same { IsSameRoom room.old room.new }
     ensures left { feeding result links.new (lent_in room.new) line.new out.new
-        ≡ feed_call progress links.old (lent_in room.old) line.old out.old piece.now }
+        ≡ feed_call T.manner progress links.old (lent_in room.old) line.old out.old piece.now }
     ensures ready { IsReady result.progress links.new (lent_in room.new) line.new }
     ensures used { result.used ≤ length piece.now }
     ensures written { result.written ≤ length out.new }
@@ -149,7 +176,7 @@ pub fn feed(
     };
     while now.used < piece.len() {
         let before = now.progress;
-        if line_buffer::is_stopped(before.lines, now.written, out.len()) {
+        if line_buffer::is_stopped(tell, before.lines, now.written, out.len()) {
             return now;
         }
         let part = line_buffer::hold_part(line, piece, now.used, before.held);
@@ -165,24 +192,25 @@ pub fn feed(
         if !part.ended {
             return kept;
         }
-        now = take_line(kept, links, room, &*line, out);
+        now = take_line(kept, links, room, &*line, out, tell);
     }
     now
 }
 
 // Ends the stream: a last stretch that is held is a line too.
 #[tactic(auto, unfolding(crate::specs::Feeding::finish_call, line_buffer::specs::Lines::is_stopped, map::specs::Room::sizes_of))]
-pub fn finish(
+pub fn finish<T: Tells>(
     progress: Progress,
     links: &mut [u64],
     room: &mut Room<'_>,
     line: &[u8],
     out: &mut [u8],
+    tell: &T,
 ) -> Fed
     requires { IsReady progress links.old (lent_in room.old) line.now }
     ensures same { IsSameRoom room.old room.new }
     ensures left { feeding result links.new (lent_in room.new) line.now out.new
-        ≡ finish_call progress links.old (lent_in room.old) line.now out.old }
+        ≡ finish_call T.manner progress links.old (lent_in room.old) line.now out.old }
     ensures written { result.written ≤ length out.new }
 {
     let fed = Fed {
@@ -193,8 +221,8 @@ pub fn finish(
     if progress.held == 0 {
         return fed;
     }
-    if line_buffer::is_stopped(progress.lines, 0, out.len()) {
+    if line_buffer::is_stopped(tell, progress.lines, 0, out.len()) {
         return fed;
     }
-    take_line(fed, links, room, line, out)
+    take_line(fed, links, room, line, out, tell)
 }

@@ -11,6 +11,7 @@ ghost use Rattle.summaries.specs.Calls.{AreOfFiles};
 mod files;
 
 use feeding::Ending;
+use line_buffer::Reports;
 use map::{Room, Scratch};
 use outcome::Refusal;
 use stream::Progress;
@@ -38,7 +39,7 @@ fn follow_file(
     let files::Opened { mut file, named } = opened;
     let unwanted = |_: &[u8]| true;
     let ended = feeding::answer_all(
-        progress, links, room, line, out, input, &mut file, &unwanted,
+        progress, links, room, line, out, input, &mut file, &Reports, &unwanted,
     );
     if let Ending::Failed(why) = ended.ending {
         files::say(rt, &name[..named], why);

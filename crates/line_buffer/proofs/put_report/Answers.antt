@@ -1,6 +1,6 @@
 -- `line_buffer::put_report` meets its contract: the part of the buffer behind what is written takes the line, for which there is room.
 use native.Mathlib.Omega.{arith}
-use Rattle.line_buffer.proofs.Reports.{report_taken, report_fits, report_put}
+use Rattle.line_buffer.proofs.Putting.{report_taken, report_fits, report_put}
 use Rattle.line_buffer.proofs.put_report.Goals as goal
 
 pub unwrap-requires : goal.unwrap-requires

@@ -8,8 +8,8 @@ use Rattle.stream.proofs.Feeds.{parts, turn_next}
 use Rattle.stream.proofs.feed.Goals as goal
 
 pub loop-now-preserved : goal.loop-now-preserved
-loop-now-preserved c = (
-  turn_next _ _ (sym c.is_stopped.ensures ∙ c.if-is_stopped.false) c.loop-now.invariant.0 c.hold_part-part.ensures
+loop-now-preserved g c = (
+  turn_next _ _ _ (sym c.is_stopped.ensures ∙ c.if-is_stopped.false) c.loop-now.invariant.0 c.hold_part-part.ensures
       (not-false _ c.if-not-part.false) c.take_line-now.ensures.left,
   search rules,
   grind (arith, parts),

@@ -9,8 +9,8 @@ use Rattle.stream.proofs.Feeds.{AtTurn}
 use Rattle.stream.proofs.feed.Given as goal
 
 abbrev pub invariant-loop-now : goal.invariant-loop-now
-invariant-loop-now l =
-    AtTurn l.piece (feeding l.initial.now l.initial.links (lent_in l.initial.room) l.initial.line l.initial.out)
+invariant-loop-now g l =
+    AtTurn g.T.Tells.manner l.piece (feeding l.initial.now l.initial.links (lent_in l.initial.room) l.initial.line l.initial.out)
     (feeding l.now l.links (lent_in l.room) l.line l.out)
     × (IsSameRoom l.initial.room l.room
     × (length l.links ≡ length l.initial.links)
@@ -20,5 +20,5 @@ invariant-loop-now l =
     × (l.now.written ≤ length l.out)
 
 abbrev pub decreases-loop-now : goal.decreases-loop-now
-decreases-loop-now l =
+decreases-loop-now g l =
     length l.piece - l.now.used

@@ -1,4 +1,4 @@
--- THE REPORT of a line, behind what is written. Assumes nothing.
+-- A REPORT behind what is written. Assumes nothing.
 use mathlib.Core.Path.{◌≡◌, refl, sym, ap, ◌∙◌}
 use mathlib.Core.List.{List, ◌++◌}
 use Prim.Native.Nat.{ℕ, ◌+◌, ◌-◌, ◌≤◌}
