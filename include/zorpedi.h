@@ -14,8 +14,8 @@
  * WHAT IS PROMISED
  * Each promise below holds for every value of every argument, and is proved. It settles the answer and every element lent: what is not named
  * as written keeps its value. Each function returns, allocates nothing, keeps nothing between calls, and touches no memory but what is lent.
- * What is said here in words is exact in the contracts of crates/c_maps/src, crates/c_updates/src and crates/c_streams/src, whose definitions stand in
- * the crates' specs folders.
+ * What is said here in words is exact in the contracts of crates/c_maps/src, crates/c_updates/src, crates/c_streams/src and crates/c_sentences/src,
+ * whose definitions stand in the crates' specs folders.
  *
  * WHAT IS ASSUMED OF THE CALLER
  * - Every pointer is valid for its length, aligned for its type and not null, also where the length is 0.
@@ -26,9 +26,9 @@
  * HOW MEMORY IS LENT
  * A buffer is a pointer and its length in elements, in this order. Most buffers have a named size. A longer one is allowed: only its first part
  * is used, and the rest keeps its value. A shorter one is refused with 1, even where the call would not have filled it. `neighbours`, `input`,
- * `piece`, `listed`, `lines` and the frame that is written as a line have no named size; the `out` of a stream is used as far as it goes. Every
- * function takes what it is lent in one order: record, links, pairs, hops, bounds, skips, even, odd, then other buffers, then single numbers; then
- * what it is asked.
+ * `piece`, `listed`, `lines`, `text` and the frame that is written as a line have no named size; the `out` of a stream is used as far as it goes.
+ * Every function takes what it is lent in one order: record, links, pairs, hops, bounds, skips, even, odd, then other buffers, then single numbers;
+ * then what it is asked.
  *
  * REFUSALS
  * A refused call answers a number from 1 to 15: the first of its own that applies, in rising order, but that a batch looks for 11 and 12 before 9. It
@@ -59,7 +59,7 @@ extern "C" {
 /* ---- the version of the interface */
 
 #define ZORPEDI_VERSION_MAJOR 4
-#define ZORPEDI_VERSION_MINOR 0
+#define ZORPEDI_VERSION_MINOR 1
 #define ZORPEDI_VERSION (ZORPEDI_VERSION_MAJOR * 1000 + ZORPEDI_VERSION_MINOR)
 
 /* The version of the archive. Where both are of one delivery it is ZORPEDI_VERSION. */
@@ -81,6 +81,7 @@ static inline int zorpedi_version_serves(uint32_t version)
 #define ZORPEDI_FRAME_SIZE 258   /* uint8_t: the frame of a notice */
 #define ZORPEDI_LINE_SIZE 517    /* uint8_t: a notice line; the line buffer of a stream */
 #define ZORPEDI_REPORT_SIZE 48   /* uint8_t: a report line; the least room for the reports of a stream */
+#define ZORPEDI_SENTENCE_SIZE 160 /* uint8_t: a sentence of an outcome */
 #define ZORPEDI_BATCH_SIZE 64    /* uint8_t: the places for the lines left over of a batch; the most lines of one */
 #define ZORPEDI_LINES_LIMIT 1000000 /* the most lines of one stream */
 
@@ -112,7 +113,7 @@ enum zorpedi_answer {
     ZORPEDI_UNKNOWN = 8,  /* unknown: some neighbour is not open; the new depot itself is not */
     ZORPEDI_GARBLED = 9,  /* garbled: a line has no 0A among its first 517 bytes, or what stands before it does not spell a frame of kind 01, 02
                              or 04 in the digits 0-9 and A-F; for the writer, the bytes are no such frame; for a batch, a frame of kind 02 is
-                             none either */
+                             none either. Of sentences: the text is none, or the numbers are no outcome's */
     ZORPEDI_NOBODY = 10,  /* nobody: no depot of a list is open */
     ZORPEDI_OVERFULL = 11, /* overfull: a batch has more than 64 lines */
     ZORPEDI_BARE = 12,    /* bare: a batch, and no depot is open */
@@ -326,6 +327,36 @@ uint8_t zorpedi_write_notice(uint8_t *line, size_t line_size, size_t *length, co
  * Refused: 1 (line below 48). */
 uint8_t zorpedi_report(uint8_t *line, size_t line_size, size_t *length, uint32_t number, uint8_t answer, uint16_t depots, uint16_t chain,
                        uint32_t pairs, uint16_t searches);
+
+/* ---- sentences
+ *
+ * The outcome of a call as one English sentence (section 18 of the rules), for screens in the hall:
+ *
+ *     Opening depot 5 shrank the chain: 6 open, chain 3, pairs 2, searches 6.
+ *
+ * A yard that opens begins with `Opening yard`, a link with `Linking`, between its codes in the order of the frame `and`, a closing with `Closing`. The call
+ * `grew`, `kept` or `shrank the chain`, or `was refused with` a number. Numbers are decimals without a zero in front, and a sentence has
+ * no line end. An outcome is nine numbers, each free within its width, whatever a map would give:
+ * - kind, as a frame has it: 1 for the opening of a depot, 4 for that of a yard, 2 for a link, 3 for a closing
+ * - code, and other: the two codes of a link; for every other kind `other` is 0. Codes have 16 bits, though no map of this version has one above 255
+ * - letter and refusal: 71 'G', 75 'K' or 83 'S' and 0; or 0 and the number of the refusal, 0 to 255. They stand apart since 71 could be either
+ * - depots, chain, pairs and searches: the figures of a report line, after a refusal too
+ * No two outcomes have the same sentence.
+ */
+
+/* Writes the sentence of an outcome.
+ * 0: the first *length bytes of `line` are the sentence, 104 at most.
+ * Refused: 1 (line below 160), 9 (the kind is none of the four; `other` is not 0 and the kind is not 2; the letter is none of 0, 71, 75 and 83; or
+ * neither letter nor refusal is 0). */
+uint8_t zorpedi_sentence(uint8_t *line, size_t line_size, size_t *length, uint8_t kind, uint16_t code, uint16_t other, uint8_t letter,
+                         uint8_t refusal, uint16_t depots, uint16_t chain, uint32_t pairs, uint16_t searches);
+
+/* Reads a sentence, which is the whole of `text`.
+ * 0: the nine numbers are those of the one outcome that has this sentence: `other` is 0 for a kind with one code, the refusal is 0 where there is a
+ * letter, and the letter is 0 where there is none.
+ * Refused: 9 (any other text, however long: a number with a zero in front or too great for its width, a line end, no full stop). */
+uint8_t zorpedi_read_sentence(uint8_t *kind, uint16_t *code, uint16_t *other, uint8_t *letter, uint8_t *refusal, uint16_t *depots,
+                              uint16_t *chain, uint32_t *pairs, uint16_t *searches, const uint8_t *text, size_t text_size);
 
 /* ---- the stream
  *

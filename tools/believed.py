@@ -23,9 +23,10 @@ GROUPS = [
         'search_demand2', 'within_demand2', 'nearest_demand2', 'summary_demand2', 'reckon_demand2', 'update_demand2', 'update_tables', 'emptied_is_empty', 'batch_demand2', 'batch_most',  # demand 2
         'demand3']),
     ('lines', 'notice report', ['one_line', 'round_trip', 'line_injective']),
-    ('the stream', 'stream', ['pieces_alike', 'rest_unread', 'turn_uses', 'turn_all']),
+    ('sentences', 'sentences', ['reads_written', 'written_reads', 'sentence_injective', 'sentence_one_line']),
+    ('the stream', 'stream', ['pieces_alike', 'rest_unread', 'turn_uses', 'turn_all', 'pieces_told', 'narration_tells', 'transcript_tells', 'answers_same', 'garbled_same', 'events_same']),
     ('reports on files', '', ['run_written_lem', 'run_first']),
-    ('the calls for C', 'c_maps c_updates c_streams', ['updated_words', 'batched_words']),
+    ('the calls for C', 'c_maps c_updates c_streams c_sentences', ['updated_words', 'batched_words', 'write_refusals', 'read_refusals', 'numbers_return']),
     ('the table of cases', '', ['cases_hold']),
     ('what stands without yards', '', ['stands_as_before']),
     ('how far one notice moves the chain', '', ['opening_moves', 'linking_moves', 'map_moves', 'call_moves', 'demand3_moves']),

@@ -53,6 +53,14 @@ extern "C" {
         line: *mut u8, _: usize, length: *mut usize, number: u32, answer: u8, depots: u16, chain: u16, pairs: u32,
         searches: u16,
     ) -> u8;
+    pub fn zorpedi_sentence(
+        line: *mut u8, _: usize, length: *mut usize, kind: u8, code: u16, other: u16, letter: u8, refusal: u8, depots: u16,
+        chain: u16, pairs: u32, searches: u16,
+    ) -> u8;
+    pub fn zorpedi_read_sentence(
+        kind: *mut u8, code: *mut u16, other: *mut u16, letter: *mut u8, refusal: *mut u8, depots: *mut u16, chain: *mut u16,
+        pairs: *mut u32, searches: *mut u16, text: *const u8, _: usize,
+    ) -> u8;
     pub fn zorpedi_feed(
         record: *mut u64, _: usize, links: *mut u64, _: usize, pairs: *mut u64, _: usize, hops: *mut u16, _: usize,
         bounds: *mut u16, _: usize, skips: *mut u16, _: usize, even: *mut u64, _: usize, odd: *mut u64, _: usize,

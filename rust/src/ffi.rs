@@ -286,6 +286,59 @@ pub fn report(line: &mut [u8], length: &mut usize, f: &Fields) -> u8 {
     unsafe { c::zorpedi_report(line.as_mut_ptr(), line.len(), length, f.number, f.answer, f.depots, f.chain, f.pairs, f.searches) }
 }
 
+/// An outcome in the numbers of the C functions.
+#[derive(Default)]
+pub struct Told {
+    pub kind: u8,
+    pub code: u16,
+    pub other: u16,
+    pub letter: u8,
+    pub refusal: u8,
+    pub depots: u16,
+    pub chain: u16,
+    pub pairs: u32,
+    pub searches: u16,
+}
+
+pub fn sentence(line: &mut [u8], length: &mut usize, t: &Told) -> u8 {
+    // SAFETY: a slice and a number, by their references.
+    unsafe {
+        c::zorpedi_sentence(
+            line.as_mut_ptr(),
+            line.len(),
+            length,
+            t.kind,
+            t.code,
+            t.other,
+            t.letter,
+            t.refusal,
+            t.depots,
+            t.chain,
+            t.pairs,
+            t.searches,
+        )
+    }
+}
+
+pub fn read_sentence(t: &mut Told, text: &[u8]) -> u8 {
+    // SAFETY: the numbers of one struct, each named once, and a slice beside them.
+    unsafe {
+        c::zorpedi_read_sentence(
+            &mut t.kind,
+            &mut t.code,
+            &mut t.other,
+            &mut t.letter,
+            &mut t.refusal,
+            &mut t.depots,
+            &mut t.chain,
+            &mut t.pairs,
+            &mut t.searches,
+            text.as_ptr(),
+            text.len(),
+        )
+    }
+}
+
 pub fn feed(m: &mut Memory, p: &mut Progress, out: &mut [u8], used: &mut usize, written: &mut usize, piece: &[u8]) -> u8 {
     // SAFETY: whole arrays of two structs, each named once, and slices and numbers beside them.
     unsafe {

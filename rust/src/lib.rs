@@ -30,8 +30,8 @@
 //! # Ok::<(), zorpedi::Refusal>(())
 //! ```
 //!
-//! [`Map`] has the calls on a map, [`notice`] and [`report`] the lines, [`Stream`] a whole input. A call that is refused says why by a
-//! [`Refusal`], and has changed nothing. [`Version`] says which archives serve this crate, and where it looks.
+//! [`Map`] has the calls on a map, [`notice`] and [`report`] the lines, [`sentence`] outcomes in plain words, [`Stream`] a whole input. A call that
+//! is refused says why by a [`Refusal`], and has changed nothing. [`Version`] says which archives serve this crate, and where it looks.
 #![warn(missing_docs)]
 #![deny(unsafe_op_in_unsafe_fn)]
 
@@ -43,6 +43,7 @@ pub mod notice;
 mod refusal;
 pub mod report;
 mod row;
+pub mod sentence;
 mod stream;
 mod version;
 

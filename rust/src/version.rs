@@ -6,8 +6,9 @@ use std::fmt;
 ///
 /// The archive is linked statically, so that nobody compares versions when a program starts. This crate does, before the archive is lent
 /// anything: [`Map::new`](crate::Map::new) and [`Map::from_parts`](crate::Map::from_parts), and with them [`Stream::new`](crate::Stream::new),
-/// and [`notice::read`](crate::notice::read) and [`notice::write`](crate::notice::write) panic if the archive does not serve this crate:
-/// its functions may take other arguments, and no call of them would be safe. A program that wants to say so itself asks first:
+/// [`notice::read`](crate::notice::read) and [`notice::write`](crate::notice::write), and [`Outcome`](crate::sentence::Outcome) both ways panic if
+/// the archive does not serve this crate: its functions may take other arguments, and no call of them would be safe. A program that wants to say so
+/// itself asks first:
 ///
 /// ```
 /// use zorpedi::Version;
@@ -31,9 +32,9 @@ impl Version {
     /// The version that this crate was written for.
     ///
     /// ```
-    /// assert_eq!(zorpedi::Version::WANTED.to_string(), "4.0");
+    /// assert_eq!(zorpedi::Version::WANTED.to_string(), "4.1");
     /// ```
-    pub const WANTED: Version = Version { major: 4, minor: 0 };
+    pub const WANTED: Version = Version { major: 4, minor: 1 };
 
     /// The version of the archive that is linked.
     ///

@@ -12,27 +12,58 @@ mod refusal;
 mod report;
 #[path = "../src/row.rs"]
 mod row;
+#[path = "../src/sentence.rs"]
+mod sentence;
 #[path = "../src/stream.rs"]
 mod stream;
 #[path = "../src/version.rs"]
 mod version;
 
-/// The calls, each of which gives the answer that was set; but for the reader, which has a frame, they touch nothing.
+/// The calls, each of which gives the answer that was set; but for the readers, which have a frame and an outcome, they touch nothing.
 mod ffi {
     use crate::map::{Memory, Search, Summary};
     use std::cell::Cell;
 
     thread_local! {
-        pub static VERSION: Cell<u32> = const { Cell::new(4000) };
+        pub static VERSION: Cell<u32> = const { Cell::new(4001) };
         pub static ANSWER: Cell<u8> = const { Cell::new(0) };
         /// What a line reads as, where the answer is 0.
         pub static FRAME: Cell<&'static [u8]> = const { Cell::new(&[1, 0, 0]) };
+        /// What a sentence reads as, likewise.
+        pub static TOLD: Cell<Told> = const { Cell::new(SHRANK) };
     }
+
+    /// The numbers of the sentence of rule 18.2.
+    pub const SHRANK: Told = Told { kind: 1, code: 5, other: 0, letter: b'S', refusal: 0, depots: 6, chain: 3, pairs: 2, searches: 6 };
 
     pub struct Progress {
         pub line: [u8; 517],
         pub lines: u32,
         pub held: usize,
+    }
+
+    #[derive(Clone, Copy, Default)]
+    pub struct Told {
+        pub kind: u8,
+        pub code: u16,
+        pub other: u16,
+        pub letter: u8,
+        pub refusal: u8,
+        pub depots: u16,
+        pub chain: u16,
+        pub pairs: u32,
+        pub searches: u16,
+    }
+
+    pub fn sentence(_: &mut [u8], _: &mut usize, _: &Told) -> u8 {
+        ANSWER.get()
+    }
+
+    pub fn read_sentence(told: &mut Told, _: &[u8]) -> u8 {
+        if ANSWER.get() == 0 {
+            *told = TOLD.get();
+        }
+        ANSWER.get()
     }
 
     pub struct Fields {
@@ -117,6 +148,7 @@ mod ffi {
 use map::{Change, Map};
 use notice::Notice;
 use refusal::Refusal;
+use sentence::{Event, Outcome};
 use std::panic::catch_unwind;
 use stream::Stream;
 use version::Version;
@@ -137,6 +169,7 @@ fn answers(number: u8) -> Vec<Option<Refusal>> {
         map.reckon().err(),
         notice::read(b"").err(),
         notice::write(&[]).err(),
+        "".parse::<Outcome>().err(),
         stream.feed(b"", &mut []).err(),
         stream.finish(&mut []).err(),
     ]
@@ -150,12 +183,12 @@ fn numbers_without_a_name() {
         let said = answers(number);
         let is_letter = b"GKS".contains(&number);
         assert_eq!(said[..3], vec![(!is_letter).then_some(expected); 3]);
-        assert_eq!(said[3..], vec![Some(expected); 10]);
+        assert_eq!(said[3..], vec![Some(expected); 11]);
         assert_eq!(expected.number(), number);
         assert_eq!(expected.word().is_empty(), number > 15);
         assert!(expected.to_string().contains(&format!("({number})")));
     }
-    assert_eq!(answers(0)[3..], vec![None; 10]);
+    assert_eq!(answers(0)[3..], vec![None; 11]);
     assert_eq!(Refusal::of(16).to_string(), "refused (16): the archive is newer than the crate, which has no word for it");
 }
 
@@ -193,17 +226,48 @@ fn kinds_without_a_name() {
     }
 }
 
+/// Numbers are an outcome by their kind and letter; those of a kind or letter that the crate does not know are garbled to it.
+#[test]
+fn sentences_of_kinds_without_a_name() {
+    ffi::ANSWER.set(0);
+    let told = ffi::SHRANK;
+    let outcome = Outcome { event: Event::Depot(5), answer: Ok(Change::Shrank), depots: 6, chain: 3, pairs: 2, searches: 6 };
+    let link = Event::Link { first: 5, second: 3 };
+    let numbers = [
+        (told, Ok(outcome)),
+        (ffi::Told { kind: 4, ..told }, Ok(Outcome { event: Event::Yard(5), ..outcome })),
+        (ffi::Told { kind: 3, letter: b'K', ..told }, Ok(Outcome { event: Event::Closing(5), answer: Ok(Change::Kept), ..outcome })),
+        (ffi::Told { kind: 2, other: 3, letter: b'G', ..told }, Ok(Outcome { event: link, answer: Ok(Change::Grew), ..outcome })),
+        (ffi::Told { letter: 0, refusal: 71, ..told }, Ok(Outcome { answer: Err(71), ..outcome })),
+        (ffi::Told { letter: 0, ..told }, Ok(Outcome { answer: Err(0), ..outcome })),
+        (ffi::Told { kind: 5, ..told }, Err(Refusal::Garbled)),
+        (ffi::Told { kind: 0, ..told }, Err(Refusal::Garbled)),
+        (ffi::Told { letter: b'R', ..told }, Err(Refusal::Garbled)),
+    ];
+    for (told, expected) in numbers {
+        ffi::TOLD.set(told);
+        assert_eq!("".parse(), expected);
+    }
+}
+
 /// An archive that does not serve is refused before anything is lent to it; one with more serves.
 #[test]
 fn archives_of_other_versions() {
-    let ways: [fn(); 4] =
-        [|| drop(Map::new()), || drop(Stream::new()), || drop(notice::read(b"010000\n")), || drop(notice::write(&[1, 0, 0]))];
+    let ways: [fn(); 6] = [
+        || drop(Map::new()),
+        || drop(Stream::new()),
+        || drop(notice::read(b"010000\n")),
+        || drop(notice::write(&[1, 0, 0])),
+        || assert!("".parse::<Outcome>().is_ok()),
+        || assert_eq!(Outcome { event: Event::Depot(5), answer: Err(7), depots: 6, chain: 3, pairs: 2, searches: 0 }.to_string(), ""),
+    ];
     for (version, serves) in [
         (3000, false),
         (3001, false),
         (3999, false),
-        (4000, true),
+        (4000, false),
         (4001, true),
+        (4002, true),
         (4999, true),
         (0, false),
         (1000, false),
@@ -225,5 +289,5 @@ fn archives_of_other_versions() {
     ffi::VERSION.set(5003);
     let said = catch_unwind(Map::new).expect_err("it does not serve");
     let text = said.downcast_ref::<String>().expect("a text");
-    assert_eq!(text, "libzorpedi.a has version 5.3, this crate was written for 4.0");
+    assert_eq!(text, "libzorpedi.a has version 5.3, this crate was written for 4.1");
 }

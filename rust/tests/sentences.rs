@@ -1,4 +1,4 @@
-//! Sentences by the plain implementation, at texts that were written by hand.
+//! Sentences by the plain implementation, at texts that were written by hand; and the safe type beside it.
 mod inputs;
 mod plain;
 
@@ -6,8 +6,9 @@ use inputs::outcomes::{edges, some_outcome, some_text, GARBLED};
 use inputs::Dice;
 use plain::sentences::{outcome_of, sentence_of, Answer, Event, Outcome};
 use std::collections::HashSet;
+use zorpedi::{sentence, Change, Refusal};
 
-/// The outcome of the request's own sentence, and that sentence.
+/// The outcome of the sentence of rule 18.2, and that sentence.
 const SHRANK: Outcome = Outcome { event: Event::Depot(5), answer: Answer::Shrank, depots: 6, chain: 3, pairs: 2, searches: 6 };
 const SENTENCE: &str = "Opening depot 5 shrank the chain: 6 open, chain 3, pairs 2, searches 6.";
 
@@ -31,7 +32,7 @@ fn assert_said(outcome: Outcome, text: &str) {
 }
 
 #[test]
-fn the_sentence_of_the_request() {
+fn the_sentence_of_the_rule() {
     assert_said(SHRANK, SENTENCE);
 }
 
@@ -172,4 +173,59 @@ fn texts_that_are_nearly_sentences() {
         }
     }
     assert!(read > 5_000 && garbled > 50_000, "{read} read, {garbled} garbled");
+}
+
+// ---- the safe type
+
+/// The same in the crate's types.
+fn typed(outcome: &Outcome) -> sentence::Outcome {
+    let event = match outcome.event {
+        Event::Depot(code) => sentence::Event::Depot(code),
+        Event::Yard(code) => sentence::Event::Yard(code),
+        Event::Link(first, second) => sentence::Event::Link { first, second },
+        Event::Closing(code) => sentence::Event::Closing(code),
+    };
+    let answer = match outcome.answer {
+        Answer::Grew => Ok(Change::Grew),
+        Answer::Kept => Ok(Change::Kept),
+        Answer::Shrank => Ok(Change::Shrank),
+        Answer::Refused(number) => Err(number),
+    };
+    let Outcome { depots, chain, pairs, searches, .. } = *outcome;
+    sentence::Outcome { event, answer, depots, chain, pairs, searches }
+}
+
+/// What the crate reads of a text is what the plain implementation reads.
+fn assert_parsed(text: &str) {
+    let expected = outcome_of(text.as_bytes()).map(|outcome| typed(&outcome)).ok_or(Refusal::Garbled);
+    assert_eq!(text.parse(), expected, "{text}");
+}
+
+#[test]
+fn shown_and_parsed() {
+    for (event, _) in STARTS {
+        for (answer, _) in MIDDLES {
+            let outcome = Outcome { event, answer, ..SHRANK };
+            assert_eq!(typed(&outcome).to_string(), sentence_of(&outcome));
+        }
+    }
+    for seed in 0..40_000 {
+        let mut dice = Dice::new(51_000_000 + seed);
+        let outcome = some_outcome(&mut dice);
+        let text = sentence_of(&outcome);
+        assert_eq!(typed(&outcome).to_string(), text);
+        assert_eq!(text.parse(), Ok(typed(&outcome)));
+        if let Ok(text) = String::from_utf8(some_text(&mut dice)) {
+            assert_parsed(&text);
+        }
+    }
+    edges().iter().for_each(|(text, _)| assert_parsed(text));
+    GARBLED.iter().for_each(|(_, text)| assert_parsed(text));
+}
+
+/// A width is kept, as for any text.
+#[test]
+fn shown_in_columns() {
+    let outcome = typed(&SHRANK);
+    assert_eq!(format!("{outcome:>80}|{outcome:<75}|{outcome:.15}|"), format!("{SENTENCE:>80}|{SENTENCE:<75}|Opening depot 5|"));
 }

@@ -7,7 +7,7 @@ major_version = 4
 
 -- rises where something was added and all that was there stayed; 0 again with a new major number
 abbrev pub minor_version : ℕ
-minor_version = 0
+minor_version = 1
 
 -- both as one number
 abbrev pub interface_version : ℕ

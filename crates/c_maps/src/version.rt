@@ -7,5 +7,5 @@ ghost use Rattle.c_maps.specs.Version.{interface_version};
 pub extern "C" fn zorpedi_version() -> u32
     ensures { result ≡ interface_version }
 {
-    4000
+    4001
 }

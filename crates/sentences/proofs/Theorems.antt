@@ -1,23 +1,32 @@
 -- Reader and writer are inverse to each other: what is written reads back, what reads was written, and no two outcomes share a
 -- sentence. Assumes nothing.
 use mathlib.Core.Path.{◌≡◌, refl, sym, ap, ◌∙◌, subst}
+use mathlib.Core.Bool.{Bool, true, false, ◌||◌}
 use mathlib.Core.List.{List, [], ◌∷◌, ◌++◌, append_assoc}
 use mathlib.Core.Logic.{◌⊎◌, inl, inr}
 use Prim.Native.Nat.{ℕ, ◌<◌}
 use native.Mathlib.Omega.{arith}
+use lib.Dec.{eqb}
 use lib.ListN.{length}
+use borrow.Author.Tests.{ltb-true, ne_eqb}
 use Rattle.std.specs.Prelude.{Some, None, Ok, Err, codes as ascii}
+use Rattle.std.proofs.lemmas.Bool.{and_parts}
 use Rattle.std.proofs.lemmas.Option.{option_and_then_some, some_pair_parts}
+use Rattle.lists.specs.Lists.{anyb, allb, memb}
 use Rattle.lists.proofs.Appends.{append_none}
 use Rattle.decimal.specs.Decimal.{decimal}
 use Rattle.decimal.specs.Front.{Front}
 use Rattle.decimal.specs.Strip.{no_digit}
+use Rattle.decimal.proofs.Decimals.{is_graph, decimal_graph}
+use Rattle.outcome.specs.declared.Change.TheVariants.{Grew, Kept, Shrank}
 use Rattle.outcome.specs.declared.Outcome.{Outcome}
+use Rattle.outcome.specs.declared.Outcome.TheVariants.{Accepted, Refused}
 use Rattle.outcome.specs.declared.Refusal.TheVariants.{Garbled}
 use Rattle.sentences.specs.Sentence.{start_of, middle_of, figures_of, sentence_of, half_limit, word_limit, IsWithin}
 use Rattle.sentences.specs.Readers.{literal, part}
 use Rattle.sentences.specs.Reading.{read_event, read_outcome, read_said, heard, read_sentence}
 use Rattle.sentences.specs.declared.Event.{Event}
+use Rattle.sentences.specs.declared.Event.TheVariants.{Depot, Yard, Link, Closing}
 use Rattle.sentences.specs.declared.Said.{Said}
 use Rattle.sentences.proofs.Parts.{literal_reads, literal_wrote, part_reads, part_wrote}
 use Rattle.sentences.proofs.Inverses.{event_reads, event_wrote, outcome_reads, outcome_wrote, middle_ends}
@@ -172,3 +181,65 @@ pub sentence_injective : (s t : Said) → IsWithin s → IsWithin t → sentence
 sentence_injective s t v w e =
     let h : Ok s ≡ Ok t = sym (reads_written s v) ∙ ap read_sentence e ∙ reads_written t w in
     cc
+
+-- ---- a sentence is one line
+
+-- the byte that ends a line, 0A
+abbrev line_end : ℕ
+line_end = 10
+
+none_append : (xs ys : List ℕ) → memb line_end xs ≡ false → memb line_end ys ≡ false → memb line_end (xs ++ ys) ≡ false
+unfolding memb anyb
+none_append [] ys h k = k
+none_append (x ∷ xs) ys h k = go (eqb line_end x) h (λ l. none_append xs ys l k)
+  where
+    go : (b : Bool) → (b || memb line_end xs) ≡ false → (memb line_end xs ≡ false → memb line_end (xs ++ ys) ≡ false) → (b || memb line_end (xs ++ ys)) ≡ false
+    go true h ih = h
+    go false h ih = ih h
+
+-- the characters of a number are no line's end
+graph_none : (cs : List ℕ) → allb is_graph cs ≡ true → memb line_end cs ≡ false
+unfolding memb anyb allb is_graph
+graph_none [] h = refl
+graph_none (c ∷ cs) h =
+    let q = and_parts (is_graph c) (allb is_graph cs) h in
+    let above : 32 < c = ltb-true 32 c q.0 in
+    rw (ne_eqb line_end c (λ e. omega arith), graph_none cs q.1)
+
+number_none : (n : ℕ) → memb line_end (decimal n) ≡ false
+number_none n = graph_none (decimal n) (decimal_graph n)
+
+-- nor are those of a text with a number behind it
+part_none : (text : List ℕ) (n : ℕ) → memb line_end text ≡ false → memb line_end (text ++ decimal n) ≡ false
+part_none text n h = none_append text (decimal n) h (number_none n)
+
+start_none : (e : Event) → memb line_end (start_of e) ≡ false
+unfolding start_of memb anyb
+start_none (Depot n) = part_none (ascii "Opening depot ") n refl
+start_none (Yard n) = part_none (ascii "Opening yard ") n refl
+start_none (Link m n) = none_append (ascii "Linking " ++ decimal m) (ascii " and " ++ decimal n) (part_none (ascii "Linking ") m refl) (part_none (ascii " and ") n refl)
+start_none (Closing n) = part_none (ascii "Closing ") n refl
+
+middle_none : (o : Outcome) → memb line_end (middle_of o) ≡ false
+unfolding middle_of memb anyb
+middle_none (Accepted Grew) = refl
+middle_none (Accepted Kept) = refl
+middle_none (Accepted Shrank) = refl
+middle_none (Refused n) = part_none (ascii " was refused with ") n refl
+
+figures_none : (s : Said) → memb line_end (figures_of s) ≡ false
+unfolding figures_of memb anyb
+figures_none s =
+    let a = ascii ": " ++ decimal s.depots in
+    let b = a ++ (ascii " open, chain " ++ decimal s.chain) in
+    let c = b ++ (ascii ", pairs " ++ decimal s.pairs) in
+    let d = c ++ (ascii ", searches " ++ decimal s.searches) in
+    let a_none = part_none (ascii ": ") s.depots refl in
+    let b_none = none_append a (ascii " open, chain " ++ decimal s.chain) a_none (part_none (ascii " open, chain ") s.chain refl) in
+    let c_none = none_append b (ascii ", pairs " ++ decimal s.pairs) b_none (part_none (ascii ", pairs ") s.pairs refl) in
+    let d_none = none_append c (ascii ", searches " ++ decimal s.searches) c_none (part_none (ascii ", searches ") s.searches refl) in
+    none_append d (ascii ".") d_none refl
+
+pub sentence_one_line : (s : Said) → memb line_end (sentence_of s) ≡ false
+unfolding sentence_of
+sentence_one_line s = none_append (start_of s.event ++ middle_of s.outcome) (figures_of s) (none_append (start_of s.event) (middle_of s.outcome) (start_none s.event) (middle_none s.outcome)) (figures_none s)

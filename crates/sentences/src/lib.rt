@@ -76,7 +76,7 @@ pub fn read_sentence(text: &[u8]) -> Result<Said, Refusal>
 
 // Puts a sentence at a place of the line: 104 bytes hold it.
 #[tactic(auto, using(crate::proofs::Lengths::figures_most))]
-pub fn put_sentence(line: &mut [u8], at: usize, said: Said) -> usize
+fn put_sentence(line: &mut [u8], at: usize, said: Said) -> usize
     requires { at + 104 ≤ length line.old }
     ensures placed { Placed (sentence_of said) at line.old result line.new }
     ensures within { result ≤ at + 104 }

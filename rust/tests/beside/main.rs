@@ -23,6 +23,7 @@ mod links;
 mod near;
 mod networks;
 mod refusals;
+mod sentences;
 mod sizes;
 mod streams;
 mod summaries;

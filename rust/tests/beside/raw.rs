@@ -1,5 +1,5 @@
 //! The C functions, each over the memory that a test lends.
-use crate::lent::Lent;
+use crate::lent::{Buffer, Lent};
 use crate::plain::lines::Fields;
 // The crate brings the archive.
 use zorpedi as _;
@@ -136,6 +136,39 @@ pub fn report(m: &mut Lent, f: Fields) -> u8 {
     unsafe {
         c::zorpedi_report(
             m.out.pointer(), m.out.lent, &mut m.length, f.number, f.answer, f.depots, f.chain, f.pairs, f.searches,
+        )
+    }
+}
+
+/// An outcome in the numbers of the C functions.
+#[derive(Clone, Copy, Debug, PartialEq)]
+pub struct Numbers {
+    pub kind: u8,
+    pub code: u16,
+    pub other: u16,
+    pub letter: u8,
+    pub refusal: u8,
+    pub depots: u16,
+    pub chain: u16,
+    pub pairs: u32,
+    pub searches: u16,
+}
+
+#[rustfmt::skip]
+pub fn sentence(line: &mut Buffer<u8>, length: &mut usize, n: &Numbers) -> u8 {
+    unsafe {
+        c::zorpedi_sentence(
+            line.pointer(), line.lent, length, n.kind, n.code, n.other, n.letter, n.refusal, n.depots, n.chain, n.pairs, n.searches,
+        )
+    }
+}
+
+#[rustfmt::skip]
+pub fn read_sentence(n: &mut Numbers, text: &mut Buffer<u8>) -> u8 {
+    unsafe {
+        c::zorpedi_read_sentence(
+            &mut n.kind, &mut n.code, &mut n.other, &mut n.letter, &mut n.refusal, &mut n.depots, &mut n.chain, &mut n.pairs,
+            &mut n.searches, text.pointer(), text.lent,
         )
     }
 }

@@ -5,6 +5,7 @@
 pub mod batch;
 pub mod lines;
 pub mod linking;
+pub mod narrate;
 pub mod nearby;
 pub mod network;
 pub mod opening;

@@ -1,4 +1,4 @@
-//! Outcomes as English sentences, for the screens in the hall, and back. Written from the request's words alone: numbers here have the widths of their
+//! Outcomes as English sentences, for the screens in the hall, and back. Written from the rules' words alone: numbers here have the widths of their
 //! types, and a sentence is read by its words.
 use std::str::FromStr;
 

@@ -1,0 +1,2 @@
+-- The manner in which outcomes are told as sentences, and the whole output of an input that is told so.
+pub mod Narration

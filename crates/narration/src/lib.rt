@@ -1,0 +1,74 @@
+// Outcomes told as sentences, each on a line. A line that spells no frame names no event, and keeps its report.
+
+#![tactic(auto)]
+
+ghost use Rattle.std.specs.Prelude.{◌≡◌, [], ◌∷◌, ◌++◌, ◌+◌, ◌≤◌, length};
+ghost use Rattle.decimal.specs.Placed.{Placed};
+ghost use Rattle.notice.specs.Lines.{line_end};
+ghost use Rattle.sentences.specs.Sentence.{sentence_of};
+ghost use Rattle.sentences.specs.Calls.{buffer_limit};
+ghost use Rattle.narration.specs.Narration.{event_in, said_on, as_sentences};
+
+use line_buffer::{Reports, Tells};
+use report::ReportFields;
+use sentences::{Event, Said};
+
+// Tells each outcome as a sentence.
+pub struct Sentences;
+
+impl Tells for Sentences {
+    ghost manner = { as_sentences };
+
+    fn room(&self) -> usize {
+        sentences::BUFFER_LIMIT + 1
+    }
+
+    #[tactic(auto, unfolding(crate::specs::Narration::sentence_text))]
+    fn put(&self, out: &mut [u8], at: usize, read: Option<&[u8]>, report: ReportFields) -> usize {
+        match read {
+            Some(frame) => put_sentence(out, at, said_on(event_in(frame), report)),
+            None => Reports.put(out, at, None, report),
+        }
+    }
+}
+
+// The event that a frame names, by its kind.
+#[tactic(auto, unfolding(crate::specs::Narration::event_in))]
+fn event_in(frame: &[u8]) -> Event
+    requires { 3 ≤ length frame.now }
+    ensures { result ≡ event_in frame.now }
+{
+    let code = frame[1] as u16;
+    if !notice::opens_depot(frame[0]) {
+        return Event::Link(code, frame[2] as u16);
+    }
+    if notice::opens_yard(frame[0]) {
+        return Event::Yard(code);
+    }
+    Event::Depot(code)
+}
+
+// What is said of an event, by its report.
+fn said_on(event: Event, report: ReportFields) -> Said
+    ensures { result ≡ said_on event report }
+{
+    Said {
+        event,
+        outcome: report.outcome,
+        depots: report.depots,
+        chain: report.chain,
+        pairs: report.pairs,
+        searches: report.searches,
+    }
+}
+
+// Puts a sentence and the line's end at a place of the buffer.
+fn put_sentence(out: &mut [u8], at: usize, said: Said) -> usize
+    requires { at + (buffer_limit + 1) ≤ length out.old }
+    ensures { Placed (sentence_of said ++ line_end ∷ []) at out.old result out.new }
+{
+    let part = &mut out[at..at + sentences::BUFFER_LIMIT];
+    let end = at + sentences::write_sentence(part, said).unwrap();
+    out[end] = 10;
+    end + 1
+}
