@@ -1,14 +1,14 @@
 -- THE LINE BUFFER: the bytes of a piece up to the end of a line. Assumes nothing.
-use mathlib.Core.Path.{◌≡◌, sym, ap, ap₂, ◌∙◌}
+use mathlib.Core.Path.{◌≡◌, refl, sym, ap, ◌∙◌}
 use mathlib.Core.Bool.{true, false}
 use mathlib.Core.List.{List, ◌∷◌}
 use Prim.Native.Nat.{ℕ, suc, ◌+◌, ◌≤◌, ◌<◌}
 use native.Mathlib.Numerals.{add-one}
-use lib.ListN.{length, get_or, drop, drop_of_length-le}
+use lib.ListN.{length, get_or, set, drop, drop_of_length-le}
 use lib.Seq.{drop-cons}
-use borrow.Author.Tests.{eq-eqb, ne_eqb}
-use Rattle.notice.specs.Lines.{line_end}
-use Rattle.line_buffer.specs.Lines.{Holding, hold_byte, PartLeft, part_from}
+use borrow.Author.Tests.{eq-eqb, ne_eqb, lt-ltb, le-ltb}
+use Rattle.notice.specs.Lines.{line_limit, line_end}
+use Rattle.line_buffer.specs.Lines.{Holding, holding, hold_byte, PartLeft, part_from}
 
 -- ---- the bytes of a piece from a place on, which end at e: none is left, the next ends the line, or it does not
 
@@ -17,22 +17,54 @@ pub part_out : (at : ℕ) (h : Holding) (piece : List ℕ) {out : ℕ} {e : Part
 unfolding part_from
 part_out at h piece v l q = rw q (rw (drop_of_length-le piece l) at v)
 
-pub part_here : (at : ℕ) (h : Holding) (piece : List ℕ) {h' : Holding} {e : PartLeft} → part_from at h (drop at piece) ≡ e
-    → h' ≡ hold_byte (get_or piece at 0) h → at < length piece → get_or piece at 0 ≡ line_end
-    → record { at = at + 1; ended = true; buffer = h' } ≡ e
+byte_here : (at : ℕ) (h : Holding) (piece : List ℕ) → at < length piece → get_or piece at 0 ≡ line_end
+    → record { at = at + 1; ended = true; buffer = hold_byte (get_or piece at 0) h } ≡ part_from at h (drop at piece)
 unfolding part_from
-part_here at h piece v q l e =
-    rw q (rw (drop-cons piece at 0 l, eq-eqb (get_or piece at 0) line_end e) at v)
+byte_here at h piece l e = rw (drop-cons piece at 0 l, eq-eqb (get_or piece at 0) line_end e) refl
 
 part_step : (at : ℕ) (h : Holding) (x : ℕ) (xs : List ℕ) → (x ≡ line_end → ⊥) → part_from (at + 1) (hold_byte x h) xs ≡ part_from at h (x ∷ xs)
 unfolding part_from
 part_step at h x xs n = rw (ne_eqb x line_end n)
 
-pub part_on : (at : ℕ) (h : Holding) (piece : List ℕ) {h' : Holding} {e : PartLeft} → part_from at h (drop at piece) ≡ e
-    → h' ≡ hold_byte (get_or piece at 0) h → at < length piece → (get_or piece at 0 ≡ line_end → ⊥)
-    → part_from (at + 1) h' (drop (at + 1) piece) ≡ e
-part_on at h piece {h'} v q l n =
-    ap₂ (λ (g : Holding) (k : ℕ). part_from (at + 1) g (drop k piece)) q (add-one at)
+byte_on : (at : ℕ) (h : Holding) (piece : List ℕ) → at < length piece → (get_or piece at 0 ≡ line_end → ⊥)
+    → part_from (at + 1) (hold_byte (get_or piece at 0) h) (drop (at + 1) piece) ≡ part_from at h (drop at piece)
+byte_on at h piece l n =
+    ap (λ (k : ℕ). part_from (at + 1) (hold_byte (get_or piece at 0) h) (drop k piece)) (add-one at)
     ∙ part_step at h (get_or piece at 0) (drop (suc at) piece) n
     ∙ sym (ap (part_from at h) (drop-cons piece at 0 l))
-    ∙ v
+
+-- ---- where bytes are kept
+
+kept : (line : List ℕ) (held b : ℕ) → held < line_limit → holding (set line held b) (held + 1) ≡ hold_byte b (holding line held)
+unfolding hold_byte
+kept line held b k = rw (lt-ltb held line_limit k) refl
+
+pub part_here : (at : ℕ) (line : List ℕ) (held : ℕ) (piece : List ℕ) {e : PartLeft} → part_from at (holding line held) (drop at piece) ≡ e
+    → held < line_limit → at < length piece → get_or piece at 0 ≡ line_end
+    → record { at = at + 1; ended = true; buffer = holding (set line held (get_or piece at 0)) (held + 1) } ≡ e
+part_here at line held piece v k l e =
+    ap (λ (g : Holding). record { at = at + 1; ended = true; buffer = g }) (kept line held (get_or piece at 0) k) ∙ byte_here at (holding line held) piece l e ∙ v
+
+pub part_on : (at : ℕ) (line : List ℕ) (held : ℕ) (piece : List ℕ) {e : PartLeft} → part_from at (holding line held) (drop at piece) ≡ e
+    → held < line_limit → at < length piece → (get_or piece at 0 ≡ line_end → ⊥)
+    → part_from (at + 1) (holding (set line held (get_or piece at 0)) (held + 1)) (drop (at + 1) piece) ≡ e
+part_on at line held piece v k l n =
+    ap (λ (g : Holding). part_from (at + 1) g (drop (at + 1) piece)) (kept line held (get_or piece at 0) k) ∙ byte_on at (holding line held) piece l n ∙ v
+
+-- ---- where none is
+
+past : (line : List ℕ) (held b : ℕ) → line_limit ≤ held → holding line held ≡ hold_byte b (holding line held)
+unfolding hold_byte
+past line held b k = rw (le-ltb held line_limit k) refl
+
+pub past_here : (at : ℕ) (line : List ℕ) (held : ℕ) (piece : List ℕ) {e : PartLeft} → part_from at (holding line held) (drop at piece) ≡ e
+    → line_limit ≤ held → at < length piece → get_or piece at 0 ≡ line_end
+    → record { at = at + 1; ended = true; buffer = holding line held } ≡ e
+past_here at line held piece v k l e =
+    ap (λ (g : Holding). record { at = at + 1; ended = true; buffer = g }) (past line held (get_or piece at 0) k) ∙ byte_here at (holding line held) piece l e ∙ v
+
+pub past_on : (at : ℕ) (line : List ℕ) (held : ℕ) (piece : List ℕ) {e : PartLeft} → part_from at (holding line held) (drop at piece) ≡ e
+    → line_limit ≤ held → at < length piece → (get_or piece at 0 ≡ line_end → ⊥)
+    → part_from (at + 1) (holding line held) (drop (at + 1) piece) ≡ e
+past_on at line held piece v k l n =
+    ap (λ (g : Holding). part_from (at + 1) g (drop (at + 1) piece)) (past line held (get_or piece at 0) k) ∙ byte_on at (holding line held) piece l n ∙ v

@@ -2,11 +2,11 @@
 
 #![tactic(auto)]
 
-ghost use Rattle.std.specs.Prelude.{◌≡◌, ◌+◌, ◌≤◌, length, drop, IfSome, option_copied};
+ghost use Rattle.std.specs.Prelude.{◌≡◌, List, ℕ, ◌+◌, ◌≤◌, ◌<◌, length, drop, IfSome, option_copied};
 ghost use Rattle.notice.specs.Lines.{line_limit};
 ghost use Rattle.report.specs.Line.{buffer_limit, report_line};
 ghost use Rattle.transcript.specs.Manner.{Manner, as_reports};
-ghost use Rattle.line_buffer.specs.Lines.{holding, hold_byte, part_left, part_from, report_of, pasted, is_stopped};
+ghost use Rattle.line_buffer.specs.Lines.{holding, part_left, part_from, report_of, pasted, is_stopped};
 
 use report::ReportFields;
 use update::Returned;
@@ -22,30 +22,22 @@ pub struct Gathered {
 
 // ---- the line buffer
 
-// Puts a byte behind those that are held. A line's first bytes, as many as the longest has, decide how it reads, so that no more are kept.
-#[tactic(auto, unfolding(crate::specs::Lines::hold_byte))]
-fn hold(line: &mut [u8], held: usize, b: u8) -> usize
-    requires { line_limit ≤ length line.old }
-    ensures { holding line.new result ≡ hold_byte b (holding line.old held) }
-{
-    if held < notice::LINE_LIMIT {
-        line[held] = b;
-        return held + 1;
-    }
-    held
-}
-
-// Takes the bytes of a piece up to the end of a line, or all that are left of it. A struct of the buffer and the bytes held was tried: its loop has to be a
-// method, as the end of a loop over a local one leaves unsaid what the buffer holds, and then `follow` takes 0.57 % more instructions on a million lines.
-#[tactic(auto, using(crate::proofs::Holding::part_out, crate::proofs::Holding::part_here, crate::proofs::Holding::part_on))]
+// Takes the bytes of a piece up to the end of a line, or all that are left of it. A line's first bytes, as many as the longest has, decide how it reads, so
+// that no more are kept: the loop ends where the buffer takes no more, so that no byte need be asked. A struct of the buffer and the bytes held was tried:
+// its loop has to be a method, as the end of a loop over a local one leaves unsaid what the buffer holds, and then `follow` takes 0.57 % more instructions
+// on a million lines.
+#[tactic(auto, using(crate::proofs::Holding::part_here, crate::proofs::Holding::part_on))]
 pub fn hold_part(line: &mut [u8], piece: &[u8], from: usize, held: usize) -> Gathered
     requires { line_limit ≤ length line.old }
     ensures { part_left result line.new ≡ part_from from (holding line.old held) (drop from piece.now) }
 {
+    let free = notice::LINE_LIMIT.saturating_sub(held);
+    let end = from.saturating_add(free).min(piece.len());
     let mut count = held;
-    for at in from..piece.len() {
+    for at in from..end {
         let b = piece[at];
-        count = hold(line, count, b);
+        line[count] = b;
+        count += 1;
         if b == 10 {
             return Gathered {
                 at: at + 1,
@@ -54,9 +46,26 @@ pub fn hold_part(line: &mut [u8], piece: &[u8], from: usize, held: usize) -> Gat
             };
         }
     }
+    skip_part(piece, from.max(end), count)
+}
+
+// Passes over the bytes of a piece up to the end of a line, or all that are left of it, where none of them is kept.
+fn skip_part(piece: &[u8], from: usize, held: usize) -> Gathered
+    requires { from < length piece.now → line_limit ≤ held }
+    ensures { (line : List ℕ) → part_left result line ≡ part_from from (holding line held) (drop from piece.now) }
+{
+    for at in from..piece.len() {
+        if piece[at] == 10 {
+            return Gathered {
+                at: at + 1,
+                held,
+                ended: true,
+            };
+        }
+    }
     Gathered {
         at: from.max(piece.len()),
-        held: count,
+        held,
         ended: false,
     }
 }
