@@ -107,18 +107,20 @@ fn answer_line(rec: Record, links: &mut [u64], room: &mut Room<'_>, read: Option
     }
 }
 
-// Answers the line that is held, and tells the answer.
+// Answers the line that is held, and tells the answer. The frame is read into a buffer that is lent, so that none has to be cleared for each line.
 #[tactic(auto, unfolding(crate::specs::Feeding::took_line))]
 fn take_line<T: Tells>(
     fed: Fed,
     links: &mut [u64],
     room: &mut Room<'_>,
     line: &[u8],
+    frame: &mut [u8],
     out: &mut [u8],
     tell: &T,
 ) -> Fed
     requires { let long = room_sizes (length links.old) room.old in
         (map_refusal base fed.progress.rec links.old room.old.pairs.now long ≡ 0)
+        × (frame_limit ≤ length frame.old)
         × (fed.progress.held ≤ length line.now)
         × (fed.progress.lines < lines_limit)
         × (fed.written + T.manner.room ≤ length out.old) }
@@ -128,8 +130,7 @@ fn take_line<T: Tells>(
     ensures written { result.written ≤ length out.new }
 {
     let before = fed.progress;
-    let mut frame = [0u8; notice::FRAME_LIMIT];
-    let read = read_frame(&mut frame, &line[..before.held]);
+    let read = read_frame(frame, &line[..before.held]);
     let got = answer_line(before.rec, links, room, read);
     let number = before.lines + 1;
     let report = line_buffer::report_of(number, got);
@@ -174,6 +175,7 @@ pub fn feed<T: Tells>(
         used: 0,
         written: 0,
     };
+    let mut frame = [0u8; notice::FRAME_LIMIT];
     while now.used < piece.len() {
         let before = now.progress;
         if line_buffer::is_stopped(tell, before.lines, now.written, out.len()) {
@@ -192,7 +194,7 @@ pub fn feed<T: Tells>(
         if !part.ended {
             return kept;
         }
-        now = take_line(kept, links, room, &*line, out, tell);
+        now = take_line(kept, links, room, &*line, &mut frame, out, tell);
     }
     now
 }
@@ -224,5 +226,6 @@ pub fn finish<T: Tells>(
     if line_buffer::is_stopped(tell, progress.lines, 0, out.len()) {
         return fed;
     }
-    take_line(fed, links, room, line, out, tell)
+    let mut frame = [0u8; notice::FRAME_LIMIT];
+    take_line(fed, links, room, line, &mut frame, out, tell)
 }
