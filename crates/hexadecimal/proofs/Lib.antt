@@ -2,3 +2,5 @@
 pub mod DigitLaws
 -- Bytes to digits and back.
 pub mod Spelling
+-- Two digits for each byte, judged and spelt in one pass.
+pub mod Pairs

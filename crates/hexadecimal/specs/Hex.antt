@@ -1,5 +1,5 @@
 -- The sixteen digits, upper case only, and bytes spelt by two of them. Assumes nothing.
-use Rattle.std.specs.Prelude.{List, [], ◌∷◌, Bool, cond, ◌&&◌, ◌||◌, ℕ, ◌+◌, ◌-◌, ◌/◌, ◌*◌, ◌%◌, ltb, leb}
+use Rattle.std.specs.Prelude.{Option, Some, None, List, [], ◌∷◌, Bool, cond, ◌&&◌, ◌||◌, ℕ, ◌+◌, ◌-◌, ◌/◌, ◌*◌, ◌%◌, ltb, leb}
 
 -- the character of a number below 16: 0 to 9, then A to F
 unfoldable pub hex_digit : ℕ → ℕ
@@ -27,3 +27,7 @@ unfoldable pub bytes_of : List ℕ → List ℕ
 bytes_of [] = []
 bytes_of (h ∷ []) = []
 bytes_of (h ∷ l ∷ ds) = (16 * digit_value h + digit_value l) ∷ bytes_of ds
+
+-- the byte that two characters spell, if both are digits
+unfoldable pub spelt : ℕ → ℕ → Option ℕ
+spelt high low = cond (is_digit high && is_digit low) (Some (16 * digit_value high + digit_value low)) None

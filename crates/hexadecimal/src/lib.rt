@@ -2,9 +2,9 @@
 
 #![tactic(auto)]
 
-ghost use Rattle.std.specs.Prelude.{◌≡◌, true, false, ◌+◌, ◌*◌, ◌≤◌, ◌<◌, length, get_or, take};
+ghost use Rattle.std.specs.Prelude.{◌≡◌, true, cond, Some, None, IfSome, false, ◌+◌, ◌*◌, ◌≤◌, ◌<◌, length, get_or, take};
 ghost use Rattle.lists.specs.Lists.{allb, overwrite};
-ghost use Rattle.hexadecimal.specs.Hex.{hex_digit, is_digit, digit_value, digits_of, bytes_of};
+ghost use Rattle.hexadecimal.specs.Hex.{hex_digit, is_digit, digit_value, digits_of, bytes_of, spelt};
 
 // Digits, one beside another.
 #[derive(Clone, Copy)]
@@ -46,6 +46,25 @@ impl<'a> Digits<'a> {
     }
 }
 
+// Puts the bytes that a text's first digits spell at the start of the buffer, as long as digits stand there in twos and the buffer takes a byte; and answers
+// how many bytes. One pass both judges and spells, and so what it wrote is no frame yet.
+pub fn read_pairs(buffer: &mut [u8], text: &[u8]) -> usize
+    ensures fits { (2 * result ≤ length text.now) × (result ≤ length buffer.new) }
+    ensures digits { allb is_digit (take (2 * result) text.now) ≡ true }
+    ensures bytes { take result buffer.new ≡ bytes_of (take (2 * result) text.now) }
+    ensures end { 2 * result + 1 < length text.now → result < length buffer.new
+        → spelt (get_or text.now (2 * result) 0) (get_or text.now (2 * result + 1) 0) ≡ None }
+{
+    let most = buffer.len().min(text.len() / 2);
+    for i in 0..most {
+        match byte_spelt(text[2 * i], text[2 * i + 1]) {
+            Some(b) => buffer[i] = b,
+            None => return i,
+        }
+    }
+    most
+}
+
 // Puts two digits for each byte of the frame at the start of the line buffer.
 #[tactic(auto, using(crate::proofs::Spelling::digits_written))]
 pub fn write_digits(line: &mut [u8], frame: &[u8])
@@ -73,6 +92,37 @@ fn is_digit(c: u8) -> bool
         return true;
     }
     65 <= c
+}
+
+// The byte that two characters spell, if both are digits.
+#[tactic(auto, unfolding(crate::specs::Hex::spelt))]
+fn byte_spelt(high: u8, low: u8) -> Option<u8>
+    ensures { result ≡ spelt high low }
+{
+    let h = value_of(high)?;
+    let l = value_of(low)?;
+    Some(16 * h + l)
+}
+
+// The number that a character stands for, if it is a digit.
+#[tactic(auto, unfolding(crate::specs::Hex::is_digit, crate::specs::Hex::digit_value))]
+fn value_of(c: u8) -> Option<u8>
+    ensures number { result ≡ cond (is_digit c) (Some (digit_value c)) None }
+    ensures small { IfSome result (λ d. d < 16) }
+{
+    if c < 48 {
+        return None;
+    }
+    if c <= 57 {
+        return Some(c - 48);
+    }
+    if c < 65 {
+        return None;
+    }
+    if c <= 70 {
+        return Some(c - 55);
+    }
+    None
 }
 
 // The number that a digit stands for.

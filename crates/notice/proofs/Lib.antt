@@ -12,3 +12,5 @@ pub mod Theorems
 pub mod Readings
 -- The lines of rule 7.2, and one that opens a yard, computed.
 pub mod Examples
+-- The reader in one pass.
+pub mod Passes

@@ -1,5 +1,5 @@
 -- The two calls (rules 7.3 to 7.5) on lent memory. Each is one definition from what was lent to the answer and every byte. Assumes nothing.
-use Rattle.std.specs.Prelude.{cond, List, ℕ, ltb, length, Result, Ok, Err}
+use Rattle.std.specs.Prelude.{cond, List, ℕ, ◌+◌, ◌*◌, ltb, length, take, Option, Some, None, Result, Ok, Err}
 use Rattle.lists.specs.Lists.{overwrite}
 use Rattle.outcome.specs.Numbers.{short_buffer, garbled_line}
 use Rattle.outcome.specs.Refusals.{number_of}
@@ -55,3 +55,8 @@ unfoldable pub write_call : List ℕ → List ℕ → LineLeft
 write_call f buffer =
     cond (ltb (length buffer) line_limit) (line_left (line_refused short_buffer) buffer)
     (cond (is_frame f) (line_left (line_done (length (line_of f)) 0) (overwrite (line_of f) buffer)) (line_left (line_refused garbled_line) buffer))
+
+-- what stands at the start of an input, by how many bytes of its frame are in the buffer: its line has two digits for each, and 0A
+unfoldable pub line_found : Option ℕ → List ℕ → Line
+line_found None buffer = garbled
+line_found (Some n) buffer = frame (take n buffer) (2 * n + 1)

@@ -4,10 +4,10 @@
 
 #![tactic(auto)]
 
-ghost use Rattle.std.specs.Prelude.{◌≡◌, ◌<◌, eqb, take};
-ghost use Rattle.notice.specs.Lines.{line_limit, yard_kind, opens_depot, frame_length, is_frame, spells_frame};
+ghost use Rattle.std.specs.Prelude.{◌≡◌, ◌<◌, ◌≤◌, eqb, length, take, IfSome};
+ghost use Rattle.notice.specs.Lines.{line_limit, yard_kind, opens_depot, frame_length, is_frame, spells_frame, read_line};
 ghost use Rattle.notice.specs.Kinds.{byte_of, KindIs};
-ghost use Rattle.notice.specs.Calls.{reading_of, writing_of, line_left, read_call, write_call};
+ghost use Rattle.notice.specs.Calls.{frame_limit, line_found, reading_of, writing_of, line_left, read_call, write_call};
 
 use hexadecimal::Digits;
 use outcome::Refusal;
@@ -103,6 +103,29 @@ pub fn read_notice(frame: &mut [u8], input: &[u8]) -> Result<Frame, Refusal>
         length: end / 2,
         used: end + 1,
     })
+}
+
+// Reads the line that the input begins with into the frame buffer, and answers how many bytes the frame has, if the line reads. It judges the digits as it
+// spells them, in one pass, and so a line that does not read may leave any bytes in the buffer, unlike `read_notice`, which changes nothing then.
+#[tactic(auto, using(crate::proofs::Passes::passes), unfolding(crate::specs::Calls::line_found))]
+pub fn read_frame(buffer: &mut [u8], input: &[u8]) -> Option<usize>
+    requires { frame_limit ≤ length buffer.old }
+    ensures line { line_found result buffer.new ≡ read_line input.now }
+    ensures long { IfSome result (λ n. (3 ≤ n) × (n ≤ length buffer.new)) }
+{
+    let head = first_part(input);
+    let n = hexadecimal::read_pairs(buffer, head);
+    let behind = 2 * n;
+    if behind == head.len() {
+        return None;
+    }
+    if head[behind] != 10 {
+        return None;
+    }
+    if !is_frame(&buffer[..n]) {
+        return None;
+    }
+    Some(n)
 }
 
 // Writes the line of a frame, which is the whole slice, into the line buffer, and answers its length.

@@ -1,5 +1,5 @@
 -- A LINE'S ANSWER, by what the reader found. Assumes nothing.
-use mathlib.Core.Path.{◌≡◌, refl}
+use mathlib.Core.Path.{◌≡◌, sym, ap, ◌∙◌}
 use mathlib.Core.Bool.{Bool, true, false, cond}
 use mathlib.Core.List.{List}
 use Prim.Native.Nat.{ℕ, ◌<◌}
@@ -7,17 +7,16 @@ use native.Mathlib.Omega.{arith}
 use lib.Dec.{eqb}
 use lib.ListN.{get_or, take, drop}
 use borrow.Author.Tests.{ltb-true}
-use Rattle.std.specs.Prelude.{Some, None}
+use Rattle.std.specs.Prelude.{Option, Some, None}
 use Rattle.lists.proofs.Scans.{all-at}
-use Rattle.outcome.specs.Numbers.{garbled_line}
 use Rattle.graph.specs.Opening.{notice_of}
 use Rattle.graph.specs.Updates.{opens, joins}
 use Rattle.map.specs.Memory.{base}
 use Rattle.hexadecimal.specs.Hex.{is_byte}
-use Rattle.notice.specs.Lines.{yard_kind, opens_depot, garbled, frame, read_line}
+use Rattle.notice.specs.Lines.{yard_kind, opens_depot, frame, read_line}
 use Rattle.notice.proofs.Tests.{frame_parts}
 use Rattle.notice.proofs.Theorems.{read_frame}
-use Rattle.notice.proofs.Readings.{FrameStands}
+use Rattle.notice.specs.Calls.{line_found}
 use Rattle.update.specs.UpdateCall.{IsWithin}
 use Rattle.transcript.specs.Transcript.{update_in}
 use Rattle.transcript.specs.Manner.{frame_in}
@@ -39,8 +38,12 @@ read-within text f u e = go (opens_depot (get_or f 0 0))
 -- ---- a line
 
 -- what the reader's answer says of the frame: it stands in the buffer, or there is none
-pub framed : (text : List ℕ) (f : List ℕ) (v : ℕ) {n : ℕ} {after : List ℕ} → read_line text ≡ frame f v → FrameStands f n after → Some (take n after) ≡ frame_in (read_line text)
-framed text f v q s = rw (q, ← s.whole) refl
+pub framed : (text buffer : List ℕ) {n : ℕ} {o : Option ℕ} → line_found o buffer ≡ read_line text → o ≡ Some n → Some (take n buffer) ≡ frame_in (read_line text)
+unfolding line_found
+framed text buffer {n} e q = ap (λ (o : Option ℕ). frame_in (line_found o buffer)) (sym q) ∙ ap frame_in e
 
-pub unframed : (text : List ℕ) {n : ℕ} → (read_line text ≡ garbled) × (n ≡ garbled_line) → None ≡ frame_in (read_line text)
-unframed text q = rw (q.0) refl
+pub unframed : (text buffer : List ℕ) {o : Option ℕ} → line_found o buffer ≡ read_line text → o ≡ None → None ≡ frame_in (read_line text)
+unfolding line_found
+unframed text buffer e q = ap (λ (o : Option ℕ). frame_in (line_found o buffer)) (sym q) ∙ ap frame_in e
+
+pub ruleset readings = (framed, unframed)

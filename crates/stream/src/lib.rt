@@ -55,15 +55,14 @@ pub fn begin(links: &mut [u64], pairs: &mut [u64]) -> Progress
 // ---- a line's answer
 
 // The frame that a line spells, if any, in the buffer that is lent for it.
+#[tactic(auto, using(crate::proofs::Answers::readings))]
 fn read_frame<'a>(frame: &'a mut [u8], text: &[u8]) -> Option<&'a [u8]>
     requires { frame_limit ≤ length frame.old }
     ensures read { option_copied result ≡ frame_in (read_line text.now) }
     ensures long { IfSome result (λ f. 3 ≤ length f.now) }
 {
-    match notice::read_notice(&mut *frame, text) {
-        Ok(read) => Some(&frame[..read.length]),
-        Err(_) => None,
-    }
+    let length = notice::read_frame(&mut *frame, text)?;
+    Some(&frame[..length])
 }
 
 // Answers a frame by its kind: the opening of a depot or a yard, or the link of two depots.
