@@ -12,6 +12,8 @@ pub mod Marking
 pub mod Simulation
 -- their start, and what they leave at the end
 pub mod Finish
+-- the bound that every remaining depot has
+pub mod Level
 -- the code's functions put together
 pub mod Turns
 -- the tables that they leave, read back

@@ -8,16 +8,14 @@ use Prim.Native.Nat.{ℕ, zero, suc, ◌+◌, ◌*◌, ◌≤◌, ◌<◌}
 use native.Mathlib.Nat.{lt_irrefl}
 use native.Mathlib.Omega.{arith}
 use lib.ListN.{length}
-use Rattle.std.proofs.lemmas.Bool.{cases_Bool, and_parts, cases_eq}
+use Rattle.std.proofs.lemmas.Bool.{cases_Bool, and_parts}
 use Rattle.lists.specs.Lists.{range, filterb, mapl, countb, overwrite}
-use Rattle.lists.proofs.Tests.{clash}
 use Rattle.lists.proofs.Members.{length-range, filter_out, range_in, range_out}
 use Rattle.lists.proofs.Counts.{count_lt, count_le_length}
 use Rattle.graph.specs.Chart.{chart}
 use Rattle.graph.proofs.Rounds.{pick_in_lem}
-use Rattle.rows.specs.Rows.{row_bit, encode_row, put_bit, InTable}
-use Rattle.rows.proofs.Written.{row_at, table_zero}
-use Rattle.rows.proofs.Puts.{put_here, put_rest}
+use Rattle.rows.specs.Rows.{row_bit, encode_row}
+use Rattle.rows.proofs.Written.{row_at}
 use Rattle.layers.specs.Layers.{Searched, searched, search_table}
 use Rattle.map.specs.Memory.{table_network}
 use Rattle.map.specs.Room.{Tables, tables}
@@ -26,6 +24,7 @@ use Rattle.pairs.proofs.Settling.{settle_counted}
 use Rattle.pairs.specs.Pairs.{Tally, tally, tally_of, settle_of, Counted}
 use Rattle.pairs.proofs.Tallies.{holds_counted}
 use Rattle.bounds.specs.Bounds.{Marks, marks, leave_of, waiting_after, relax_of}
+use Rattle.bounds.proofs.Settled.{left_bit}
 use Rattle.ranks.specs.Ranks.{pick_in, waiting_of}
 use Rattle.ranks.proofs.Ranks.{ranked_row, ranked_all}
 use Rattle.rounds.specs.Workspace.{Workspace, workspace, last_row, reach_in, Absorbed, absorbed, raised, taking, absorbing, absorb_of, round_of, or_end, run_of, RoundsBegun, rounds_begun, rounds_begin_of}
@@ -105,17 +104,6 @@ picked_in W links waiting r q =
     (range_out (64 * W) x.0, x.1)
 
 module _ (W : ℕ) (targets links : List ℕ) where
-  left_bit : (r e mark : ℕ) (m : Marks) → r < 64 * W → W ≤ length m.waiting → (v : ℕ) → row_bit W (leave_of W r e mark m).waiting v ≡ true → (v ≢ r) × (row_bit W m.waiting v ≡ true)
-  unfolding leave_of
-  left_bit r e mark m l w v h = go (cases_eq v r)
-    where
-      in_table : InTable W m.waiting 0 r
-      in_table = record { row = omega arith; below = omega arith; column = l }
-
-      go : (v ≡ r) ⊎ (v ≢ r) → (v ≢ r) × (row_bit W m.waiting v ≡ true)
-      go (inl q) = absurd (clash (ap (row_bit W (put_bit W 0 r false m.waiting)) (sym q) ∙ h) (sym (table_zero W (put_bit W 0 r false m.waiting) r) ∙ put_here W 0 r false m.waiting in_table))
-      go (inr n) = (n, sym (table_zero W m.waiting v) ∙ sym (put_rest W 0 r false m.waiting in_table 0 v (λ z. n z.1)) ∙ table_zero W (put_bit W 0 r false m.waiting) v ∙ h)
-
   pub round_fewer : (mark r : ℕ) (M : Workspace) → row_bit W M.marked.waiting r ≡ true → r < 64 * W → W ≤ length M.marked.waiting
       → countb (row_bit W (round_of W targets links mark r M).marked.waiting) (range (64 * W)) < countb (row_bit W M.marked.waiting) (range (64 * W))
   unfolding round_of absorb_of absorbing taking relax_of waiting_after
@@ -125,7 +113,7 @@ module _ (W : ℕ) (targets links : List ℕ) where
       after = row_bit W (round_of W targets links mark r M).marked.waiting
 
       stays : (v : ℕ) → v < 64 * W → after v ≡ true → (v ≢ r) × (row_bit W M.marked.waiting v ≡ true)
-      stays v k h = left_bit r _ mark M.marked l w v (and_parts (row_bit W (leave_of W r _ mark M.marked).waiting v) _ (sym (row_at W _ _ v k) ∙ h)).0
+      stays v k h = left_bit W r _ mark M.marked l w v (and_parts (row_bit W (leave_of W r _ mark M.marked).waiting v) _ (sym (row_at W _ _ v k) ∙ h)).0
 
       gone : after r ≡ false
       gone = go (cases_Bool (after r))

@@ -1,13 +1,13 @@
 -- WHAT IS LENT TO THE ROUNDS AS ONE VALUE, so that a contract names it once; what its sizes are; and that it lends the same tables after a call.
 -- Assumes nothing.
-use Rattle.std.specs.Prelude.{ℕ, List, Option, None, Some}
+use Rattle.std.specs.Prelude.{ℕ, ◌≤◌, List, Option, None, Some}
 use Rattle.graph.specs.Network.{Network}
 use Rattle.map.specs.Slices.{IsSameSlice}
 use Rattle.map.specs.Room.{tables}
 use Rattle.map.specs.declared.Room.{Room}
 use Rattle.targets.specs.Reach.{Reached, reached}
 use Rattle.pairs.specs.Pairs.{tally}
-use Rattle.bounds.specs.Bounds.{marks, Fits}
+use Rattle.bounds.specs.Bounds.{Marks, marks, AreBetween, Fits}
 use Rattle.ranks.specs.Ranks.{waiting_of}
 use Rattle.rounds.specs.Targets.{target_network}
 use Rattle.rounds.specs.Workspace.{Workspace, workspace, RoundRoom}
@@ -16,13 +16,17 @@ use Rattle.rounds.specs.declared.Desk.{Desk}
 use Rattle.rounds.specs.declared.Finished.{Finished}
 use Rattle.rounds.specs.declared.RoundFigures.{RoundFigures}
 
+-- the marks of W words in it: bounds and skips of the room, and the ranks on the desk
+abbrev pub marks_of : ℕ → Room → Desk → Marks
+marks_of W r d = marks r.bounds.now r.skips.now (waiting_of W d.ranks.now)
+
 -- the workspace of the rounds of W words: the room, the ranks on the desk, and the figures so far
 abbrev pub workspace_in : ℕ → Room → Desk → RoundFigures → Workspace
 workspace_in W r d f =
     workspace
     (tally r.pairs.now f.count)
     (tables r.hops.now r.even.now r.odd.now)
-    (marks r.bounds.now r.skips.now (waiting_of W d.ranks.now))
+    (marks_of W r d)
     f.candidate
     f.searches
 
@@ -50,6 +54,16 @@ said_of f = reached f.span.ecc f.span.own f.partners.now
 abbrev pub limit_in : Option ℕ → ℕ
 limit_in None = 0
 limit_in (Some c) = c
+
+-- where a bound is known that every remaining depot has, they have it
+abbrev pub AreLevel : ℕ → Option ℕ → Marks → Type 0
+AreLevel W None M = Unit
+AreLevel W (Some v) M = AreBetween W v v M
+
+-- such a bound is known; it is not below the limit c, and no offer of a reference with the eccentricity e is below it
+abbrev pub IsSettled : Option ℕ → ℕ → ℕ → Type 0
+IsSettled None e c = ⊥
+IsSettled (Some v) e c = (c ≤ v) × (v ≤ e)
 
 -- the network of a plan that is lent
 abbrev pub plan_network : ℕ → Plan → Network

@@ -4,7 +4,7 @@
 
 #![tactic(auto)]
 
-ghost use Rattle.std.specs.Prelude.{◌≡◌, cond, ◌+◌, ◌*◌, ◌^◌, ◌<◌, ◌≤◌, ltb, length};
+ghost use Rattle.std.specs.Prelude.{◌≡◌, true, cond, ◌+◌, ◌*◌, ◌^◌, ◌<◌, ◌≤◌, ltb, length};
 ghost use Rattle.pairs.specs.Pairs.{tally, Counted};
 ghost use Rattle.bounds.specs.Bounds.{leave_of, relax_of};
 ghost use Rattle.ranks.specs.Ranks.{AreRanks, AreThinned, PickIs};
@@ -13,7 +13,7 @@ ghost use Rattle.rounds.specs.Workspace.{reach_in, absorbed, taking, round_of, r
 ghost use Rattle.map.specs.Room.{tables};
 ghost use Rattle.map.specs.Slices.{IsSameRoom};
 ghost use Rattle.bounds.specs.Slices.{marks_in, MarksFit, IsSameMarks};
-ghost use Rattle.rounds.specs.Slices.{workspace_in, MarksFitIn, RoomFits, IsSameDesk, said_of, limit_in};
+ghost use Rattle.rounds.specs.Slices.{workspace_in, MarksFitIn, RoomFits, IsSameDesk, said_of, limit_in, marks_of, AreLevel, IsSettled};
 
 mod plan;
 
@@ -105,7 +105,19 @@ fn least_kept(limit: Option<u16>) -> u16
     }
 }
 
-// What a search from r with the eccentricity e does to the marks: r leaves the remaining; then their bounds, and those below the limit are skipped.
+// Whether a pass over the bounds would change nothing, where `level` is the bound that every remaining depot has: it is not below the limit c, and a search
+// with the eccentricity e offers none below it.
+fn stays(level: Option<u16>, e: u16, c: u16) -> bool
+    ensures { result ≡ true → IsSettled level e c }
+{
+    match level {
+        Some(v) => c <= v && v <= e,
+        None => false,
+    }
+}
+
+// What a search from r with the eccentricity e does to the marks: r leaves the remaining; then their bounds, and those below the limit are skipped. Where
+// that changes nothing the pass is left out. The answer is the bound that every remaining depot has then, if it is known.
 #[tactic(auto, using(ranks::proofs::Ranks::thinned_twice))]
 fn spread(
     hops: &[u16],
@@ -115,15 +127,28 @@ fn spread(
     r: usize,
     e: u16,
     limit: Option<u16>,
-)
-    requires { MarksFit words marks.old × (64 * words ≤ length hops.now) × (r < 64 * words) }
+    level: Option<u16>,
+) -> Option<u16>
+    requires { MarksFit words marks.old
+        × (64 * words ≤ length hops.now)
+        × (r < 64 * words)
+        × AreLevel words level (marks_in words marks.old) }
     ensures same { IsSameMarks marks.old marks.new }
     ensures marked { let left = leave_of words r e mark (marks_in words marks.old) in
         marks_in words marks.new ≡ relax_of words hops.now r e (limit_in limit) left }
     ensures thinned { AreThinned words marks.old.ranks.now marks.new.ranks.now }
+    ensures level { AreLevel words result (marks_in words marks.new) }
 {
     bounds::leave(marks, words, r, e, mark);
-    bounds::relax(hops, marks, words, r as u16, e, least_kept(limit));
+    let c = least_kept(limit);
+    if stays(level, e, c) {
+        return level;
+    }
+    let top = bounds::relax(hops, marks, words, r as u16, e, c);
+    if top <= c {
+        return Some(c);
+    }
+    None
 }
 
 // Takes in a finished search from r: candidate and pairs by what is its own, marks by its eccentricity; then the depots whose bound is below the limit are
@@ -161,7 +186,7 @@ pub fn absorb(
         count: before.count,
     };
     let count = pairs::settle(pairs, found.partners, words, r, own, known);
-    spread(hops, marks, words, mark, r, found.span.ecc, limit);
+    spread(hops, marks, words, mark, r, found.span.ecc, limit, None);
     RoundFigures {
         candidate: raised(before.candidate, own),
         count,
@@ -170,6 +195,13 @@ pub fn absorb(
 }
 
 // ---- one round more
+
+// The figures so far, and the bound that every remaining depot has, if it is known.
+#[derive(Clone, Copy)]
+struct Turn {
+    figures: RoundFigures,
+    level: Option<u16>,
+}
 
 // One round: a search from r, taken in. What stands in seen, next and partners afterwards is free.
 // It takes targets and links apart, as `run_rounds` does, and `begin` members and links: a `Plan` says that its targets are those of the base's width, and
@@ -182,17 +214,20 @@ fn round(
     words: usize,
     mark: u16,
     r: usize,
-    before: RoundFigures,
-) -> RoundFigures
+    before: Turn,
+) -> Turn
     requires { RoomFits words targets.now links.now room.old desk.old
-        × Counted words room.old.pairs.now before.count
+        × Counted words room.old.pairs.now before.figures.count
         × MarksFitIn words room.old desk.old
         × (r < 64 * words)
-        × (before.searches ≤ 64 * words + 1) }
+        × (before.figures.searches ≤ 64 * words + 1)
+        × AreLevel words before.level (marks_of words room.old desk.old) }
     ensures same_room { IsSameRoom room.old room.new }
     ensures same_desk { IsSameDesk desk.old desk.new }
-    ensures left { workspace_in words room.new desk.new result ≡ round_of words targets.now links.now mark r (workspace_in words room.old desk.old before) }
+    ensures left { let entry = workspace_in words room.old desk.old before.figures in
+        workspace_in words room.new desk.new result.figures ≡ round_of words targets.now links.now mark r entry }
     ensures thinned { AreThinned words desk.old.ranks.now desk.new.ranks.now }
+    ensures level { AreLevel words result.level (marks_of words room.new desk.new) }
 {
     let pairs = &mut *room.pairs;
     let hops = &mut *room.hops;
@@ -211,22 +246,28 @@ fn round(
     };
     let depth = layers::search_table(links, &mut scratch, desk.seen, desk.next, words, r);
     let span = reach_by(targets, &*hops, &*even, &*odd, partners, words, r, depth);
-    let found = Finished {
-        span,
-        partners: &*partners,
+    let limit = raised(before.figures.candidate, span.own);
+    let known = Farthest {
+        chain: before.figures.candidate,
+        count: before.figures.count,
     };
-    let limit = raised(before.candidate, span.own);
-    absorb(
-        pairs,
+    let count = pairs::settle(pairs, &*partners, words, r, span.own, known);
+    let level = spread(
         &*hops,
         &mut marks,
         words,
         mark,
         r,
-        found,
-        before,
+        span.ecc,
         Some(limit),
-    )
+        before.level,
+    );
+    let figures = RoundFigures {
+        candidate: limit,
+        count,
+        searches: before.figures.searches + 1,
+    };
+    Turn { figures, level }
 }
 
 // ---- rounds until none remains
@@ -259,11 +300,16 @@ pub fn run_rounds(
     ensures left { let entry = workspace_in words room.old desk.old before in
         workspace_in words room.new desk.new result ≡ run_of words targets.now links.now mark (64 * words) entry }
 {
-    let mut now = before;
+    // nothing is known of the bounds yet
+    let level = None;
+    let mut now = Turn {
+        figures: before,
+        level,
+    };
     while let Some(r) = pick_next(&*desk, words) {
         now = round(targets, links, room, desk, words, mark, r, now);
     }
-    now
+    now.figures
 }
 
 // The start of rounds: no pair, no bound, no mark, every open depot remaining.

@@ -28,6 +28,7 @@ round-now-requires c =
       search rules,
       p.0,
       room_left _ _ _ _ _ _ _ c.loop-r.invariant.0 c.requires.4 (picked (goal.at.round-now-requires c).In-Some) (waiting_fits _ _),
+      c.loop-r.invariant.4,
     )
 
 pub loop-r-smaller : goal.loop-r-smaller
@@ -41,6 +42,7 @@ loop-r-preserved c =
       search rules,
       search rules,
       search (thinned_ranks, rules),
+      c.round-now.ensures.level,
     )
 
 pub loop-r-init : goal.loop-r-init

@@ -5,16 +5,18 @@ use Rattle.lists.specs.Lists.{range, countb}
 use Rattle.rows.specs.Rows.{row_bit}
 use Rattle.map.specs.Slices.{IsSameRoom}
 use Rattle.ranks.specs.Ranks.{waiting_of, AreRanks}
-use Rattle.rounds.specs.Slices.{workspace_in, IsSameDesk}
+use Rattle.rounds.specs.Slices.{marks_of, workspace_in, IsSameDesk, AreLevel}
 use Rattle.rounds.proofs.Turns.{AtRound}
 use Rattle.rounds.proofs.run_rounds.Given as goal
 
 abbrev pub invariant-loop-r : goal.invariant-loop-r
 invariant-loop-r l =
-    AtRound l.words l.targets l.links l.mark (workspace_in l.words l.initial.room l.initial.desk l.initial.now) (workspace_in l.words l.room l.desk l.now)
+    AtRound l.words l.targets l.links l.mark (workspace_in l.words l.initial.room l.initial.desk l.initial.now.figures)
+    (workspace_in l.words l.room l.desk l.now.figures)
     × IsSameRoom l.initial.room l.room
     × IsSameDesk l.initial.desk l.desk
     × AreRanks l.words l.links l.desk.ranks.now
+    × AreLevel l.words l.now.level (marks_of l.words l.room l.desk)
 
 abbrev pub decreases-loop-r : goal.decreases-loop-r
 decreases-loop-r l =
