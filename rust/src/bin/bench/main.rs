@@ -3,16 +3,17 @@
 //! it. It prints tables in Markdown.
 mod inputs;
 mod instructions;
+mod search;
 mod surveys;
 mod times;
 
+use instructions::{Counts, Profile};
 use std::error::Error;
 use std::fs::{self, File};
 use std::path::{Path, PathBuf};
 use std::process::{Command, Stdio};
-use std::time::Instant;
 use times::Time;
-use zorpedi::{Map, Stream};
+use zorpedi::Stream;
 
 type Outcome<T> = Result<T, Box<dyn Error>>;
 
@@ -40,6 +41,12 @@ impl<T> Three<T> {
     }
 }
 
+impl Three<Profile> {
+    fn counts(&self) -> Three<Counts> {
+        Three { zorpedi: self.zorpedi.counts, fast: self.fast.counts, naive: self.naive.counts }
+    }
+}
+
 struct Places {
     work: PathBuf,
     follow: PathBuf,
@@ -48,6 +55,9 @@ struct Places {
 }
 
 fn main() -> Outcome<()> {
+    if search::is_child()? {
+        return Ok(());
+    }
     let root = Path::new(env!("CARGO_MANIFEST_DIR")).join("..");
     let work = root.join("target/bench");
     fs::create_dir_all(&work)?;
@@ -65,7 +75,8 @@ fn main() -> Outcome<()> {
         check_outputs(&places, input)?;
     }
     println!("The four outputs of each input are the same (of naive the first five fields).");
-    let counts = if instructions::are_counted()? { Some(instructions::count_all(&places, &inputs)?) } else { None };
+    let profiles = if instructions::are_counted()? { Some(instructions::profile_all(&places, &inputs)?) } else { None };
+    let counts = profiles.as_ref().map(|all| all.iter().map(Three::counts).collect::<Vec<_>>());
     match &counts {
         Some(counts) => instructions::print_table(&inputs, counts),
         None => println!("\nvalgrind is not there: no instructions are counted, and the goals are not judged."),
@@ -77,7 +88,10 @@ fn main() -> Outcome<()> {
     if let Some(counts) = counts {
         print_goals(&counts, &memory, &process);
     }
-    print_search(&inputs[0])?;
+    if let Some(profiles) = &profiles {
+        instructions::print_functions(&inputs, profiles);
+    }
+    search::print(&root, &places.work, &inputs[0])?;
     surveys::print(&root, &places.work)
 }
 
@@ -98,7 +112,10 @@ fn make_inputs(places: &Places) -> Outcome<Vec<Input>> {
         ("ring that closes", inputs::ring(), 41, 3, 41),
         ("worst case for skipping", inputs::alternate(), 9, 5, 41),
         ("a million lines", inputs::million(), 3, 3, 15),
+        ("star", inputs::star(), 41, 5, 41),
+        ("complete network", inputs::complete(), 41, 5, 41),
         // no goal
+        ("dense network", inputs::dense(), 41, 5, 41),
         ("links after regional growth", inputs::links(), 41, 3, 41),
         ("regional growth with yards", inputs::yards(), 101, 5, 41),
     ];
@@ -139,7 +156,7 @@ fn check_outputs(places: &Places, input: &Input) -> Outcome<()> {
 
 // ---- goals
 
-/// A goal: a ratio on one input, and whether it is met.
+/// A goal: a limit for the ratio of two programs on one input.
 struct Goal {
     name: &'static str,
     input: usize,
@@ -147,66 +164,40 @@ struct Goal {
     is_met: fn(f64) -> bool,
 }
 
-const GOALS: [Goal; 5] = [
-    Goal { name: "regional growth: Zorpedi / fast, at most 2.5", input: 0, ratio: |n| n.zorpedi / n.fast, is_met: |r| r <= 2.5 },
-    Goal { name: "regional growth: naive / Zorpedi, at least 25", input: 0, ratio: |n| n.naive / n.zorpedi, is_met: |r| r >= 25.0 },
-    Goal { name: "ring: Zorpedi / fast, at most 1.5", input: 1, ratio: |n| n.zorpedi / n.fast, is_met: |r| r <= 1.5 },
-    Goal { name: "worst case: Zorpedi / naive, at most 1", input: 2, ratio: |n| n.zorpedi / n.naive, is_met: |r| r <= 1.0 },
-    Goal { name: "a million lines: Zorpedi / fast, at most 3", input: 3, ratio: |n| n.zorpedi / n.fast, is_met: |r| r <= 3.0 },
+const GOALS: [Goal; 10] = [
+    Goal { name: "regional growth: Zorpedi / fast, at most 1.25", input: 0, ratio: to_fast, is_met: |r| r <= 1.25 },
+    Goal { name: "regional growth: naive / Zorpedi, at least 25", input: 0, ratio: from_naive, is_met: |r| r >= 25.0 },
+    Goal { name: "ring: Zorpedi / fast, at most 1.1", input: 1, ratio: to_fast, is_met: |r| r <= 1.1 },
+    Goal { name: "worst case: Zorpedi / fast, at most 1.2", input: 2, ratio: to_fast, is_met: |r| r <= 1.2 },
+    Goal { name: "worst case: naive / Zorpedi, at least 1.3", input: 2, ratio: from_naive, is_met: |r| r >= 1.3 },
+    Goal { name: "a million lines: Zorpedi / fast, at most 1.5", input: MILLION, ratio: to_fast, is_met: |r| r <= 1.5 },
+    Goal { name: "star: Zorpedi / fast, at most 2.5", input: 4, ratio: to_fast, is_met: |r| r <= 2.5 },
+    Goal { name: "star: naive / Zorpedi, at least 1", input: 4, ratio: from_naive, is_met: |r| r >= 1.0 },
+    Goal { name: "complete network: Zorpedi / fast, at most 2.5", input: 5, ratio: to_fast, is_met: |r| r <= 2.5 },
+    Goal { name: "complete network: naive / Zorpedi, at least 1", input: 5, ratio: from_naive, is_met: |r| r >= 1.0 },
 ];
 
-/// Instructions judge the goals. The ratios of the least times stand beside them.
-fn print_goals(counts: &[Three<f64>], memory: &[Three<Time>], process: &[Three<Time>]) {
-    println!("\n| Goal | By instructions | Met | By time, in memory | By time, as a process |");
-    println!("|---|---|---|---|---|");
+/// The input whose goal is judged by times of processes: in memory it waits for the memory that its reports go to.
+const MILLION: usize = 3;
+
+fn to_fast(n: Three<f64>) -> f64 {
+    n.zorpedi / n.fast
+}
+
+fn from_naive(n: Three<f64>) -> f64 {
+    n.naive / n.zorpedi
+}
+
+/// Goals are judged by the instructions of the programs' own code, and by the medians of times, which depend on the machine and on what else it does: of
+/// processes for a million lines, in memory for all else. The ratios of the least times stand beside them.
+fn print_goals(counts: &[Three<Counts>], memory: &[Three<Time>], process: &[Three<Time>]) {
+    println!("\n| Goal | By instructions | Met | By medians of times | Met | By least times |");
+    println!("|---|---|---|---|---|---|");
+    let yes = |is_met: bool| if is_met { "yes" } else { "NO" };
     for Goal { name, input, ratio, is_met } in GOALS {
-        let counted = ratio(counts[input]);
-        let timed = |times: &[Three<Time>]| ratio(times[input].map(|time| time.least));
-        let met = if is_met(counted) { "yes" } else { "NO" };
-        println!("| {name} | {counted:.2} | {met} | {:.2} | {:.2} |", timed(memory), timed(process));
+        let times = if input == MILLION { process[input] } else { memory[input] };
+        let counted = ratio(counts[input].map(|n| n.own));
+        let [median, least] = [times.map(|time| time.median), times.map(|time| time.least)].map(ratio);
+        println!("| {name} | {counted:.2} | {} | {median:.2} | {} | {least:.2} |", yes(is_met(counted)), yes(is_met(median)));
     }
-}
-
-// ---- one search
-
-/// The map after the first `lines` lines of an input.
-fn map_after(input: &[u8], lines: usize) -> Outcome<Map> {
-    let mut stream = Stream::new();
-    let mut reports = Vec::new();
-    for line in input.split_inclusive(|&b| b == b'\n').take(lines) {
-        stream.push(line, &mut reports)?;
-    }
-    Ok(stream.into_map())
-}
-
-/// The time of one call in a sweep over all codes for which `is_tried` holds; the median of many sweeps. Refusals count as calls.
-fn sweep(map: &Map, is_tried: impl Fn(&Map, u8) -> bool) -> f64 {
-    let codes: Vec<u8> = (0..=255).filter(|&code| is_tried(map, code)).collect();
-    let calls = 256 / codes.len().max(1);
-    let mut times = Vec::new();
-    for _ in 0..201 {
-        let start = Instant::now();
-        for _ in 0..calls {
-            for &code in &codes {
-                let _ = std::hint::black_box(map.search(code));
-            }
-        }
-        times.push(start.elapsed().as_nanos() as f64 / (calls * codes.len()) as f64);
-    }
-    Time::of(times).median
-}
-
-/// `zorpedi_search` on the whole regional map; and the search inside it, without the checks: on the map before its last opening, where one
-/// code is closed, a search from that code is refused after all checks, so that the difference is the search alone.
-fn print_search(regional: &Input) -> Outcome<()> {
-    let whole = map_after(&regional.bytes, 256)?;
-    let before = map_after(&regional.bytes, 255)?;
-    let call = sweep(&whole, |_, _| true);
-    let checks = sweep(&before, |map, code| !map.is_open(code));
-    let both = sweep(&before, |map, code| map.is_open(code));
-    println!("\n| One search of the regional map | Time |");
-    println!("|---|---|");
-    println!("| zorpedi_search, with all checks of the map | {} |", times::text_of(call));
-    println!("| the search inside it | {} |", times::text_of((both - checks).max(0.0)));
-    Ok(())
 }

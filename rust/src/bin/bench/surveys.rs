@@ -54,7 +54,7 @@ fn check_outputs(programs: &Three<PathBuf>, files: &[PathBuf]) -> Outcome<()> {
 /// The instructions for some files, less those of a run without any.
 fn count(program: &Path, files: &[PathBuf]) -> Outcome<f64> {
     let nothing = Path::new("/dev/null");
-    Ok(instructions::count(program, files, nothing)? - instructions::count(program, &[], nothing)?)
+    Ok(instructions::count(program, files, nothing)?.less(instructions::count(program, &[], nothing)?).whole)
 }
 
 fn time(programs: &Three<PathBuf>, files: &[PathBuf], output: &Path) -> Outcome<Three<Time>> {
