@@ -2,11 +2,11 @@
 
 #![tactic(auto)]
 
-ghost use Rattle.std.specs.Prelude.{◌≡◌, ◌+◌, ◌≤◌, ◌<◌, length, IfSome, option_copied};
+ghost use Rattle.std.specs.Prelude.{◌≡◌, List, ℕ, take, ◌+◌, ◌≤◌, ◌<◌, length, IfSome, option_copied};
 ghost use Rattle.map.specs.Memory.{base, table_words};
 ghost use Rattle.map.specs.Slices.{lent_in, room_sizes, IsSameRoom};
 ghost use Rattle.notice.specs.Lines.{read_line};
-ghost use Rattle.notice.specs.Calls.{frame_limit};
+ghost use Rattle.notice.specs.Calls.{line_found};
 ghost use Rattle.update.specs.UpdateCall.{update_left, update_call};
 ghost use Rattle.update.specs.Steps.{map_refusal};
 ghost use Rattle.transcript.specs.Transcript.{lines_limit, update_in};
@@ -54,15 +54,14 @@ pub fn begin(links: &mut [u64], pairs: &mut [u64]) -> Progress
 
 // ---- a line's answer
 
-// The frame that a line spells, if any, in the buffer that is lent for it.
+// The frame that a buffer begins with, of the length that was found, if any was.
 #[tactic(auto, using(crate::proofs::Answers::readings))]
-fn read_frame<'a>(frame: &'a mut [u8], text: &[u8]) -> Option<&'a [u8]>
-    requires { frame_limit ≤ length frame.old }
-    ensures read { option_copied result ≡ frame_in (read_line text.now) }
+fn frame_read(buffer: &[u8], count: Option<usize>) -> Option<&[u8]>
+    requires { IfSome count (λ n. (3 ≤ n) × (n ≤ length buffer.now)) }
+    ensures read { (text : List ℕ) → line_found count buffer.now ≡ read_line text → option_copied result ≡ frame_in (read_line text) }
     ensures long { IfSome result (λ f. 3 ≤ length f.now) }
 {
-    let length = notice::read_frame(&mut *frame, text)?;
-    Some(&frame[..length])
+    Some(&buffer[..count?])
 }
 
 // Answers a frame by its kind: the opening of a depot or a yard, or the link of two depots.
@@ -106,30 +105,28 @@ fn answer_line(rec: Record, links: &mut [u64], room: &mut Room<'_>, read: Option
     }
 }
 
-// Answers the line that is held, and tells the answer. The frame is read into a buffer that is lent, so that none has to be cleared for each line.
+// Answers the line that is held, by the frame that it spells, if any, and tells the answer.
 #[tactic(auto, unfolding(crate::specs::Feeding::took_line))]
 fn take_line<T: Tells>(
     fed: Fed,
     links: &mut [u64],
     room: &mut Room<'_>,
-    line: &[u8],
-    frame: &mut [u8],
+    read: Option<&[u8]>,
     out: &mut [u8],
     tell: &T,
 ) -> Fed
-    requires { let long = room_sizes (length links.old) room.old in
+    requires free { let long = room_sizes (length links.old) room.old in
         (map_refusal base fed.progress.rec links.old room.old.pairs.now long ≡ 0)
-        × (frame_limit ≤ length frame.old)
-        × (fed.progress.held ≤ length line.now)
         × (fed.progress.lines < lines_limit)
         × (fed.written + T.manner.room ≤ length out.old) }
+    requires long { IfSome read (λ f. 3 ≤ length f.now) }
     ensures same { IsSameRoom room.old room.new }
-    ensures left { feeding result links.new (lent_in room.new) line.now out.new
-        ≡ took_line T.manner (feeding fed links.old (lent_in room.old) line.now out.old) }
+    ensures left { (line : List ℕ) → option_copied read.entry ≡ frame_in (read_line (take fed.progress.held line))
+        → feeding result links.new (lent_in room.new) line out.new
+        ≡ took_line T.manner (feeding fed links.old (lent_in room.old) line out.old) }
     ensures written { result.written ≤ length out.new }
 {
     let before = fed.progress;
-    let read = read_frame(frame, &line[..before.held]);
     let got = answer_line(before.rec, links, room, read);
     let number = before.lines + 1;
     let report = line_buffer::report_of(number, got);
@@ -180,7 +177,8 @@ pub fn feed<T: Tells>(
         if line_buffer::is_stopped(tell, before.lines, now.written, out.len()) {
             return now;
         }
-        let part = line_buffer::hold_part(line, piece, now.used, before.held);
+        let taken = line_buffer::take_part(line, &mut frame, piece, now.used, before.held);
+        let part = taken.part;
         let kept = Fed {
             progress: Progress {
                 rec: before.rec,
@@ -193,7 +191,8 @@ pub fn feed<T: Tells>(
         if !part.ended {
             return kept;
         }
-        now = take_line(kept, links, room, &*line, &mut frame, out, tell);
+        let read = frame_read(&frame, taken.frame);
+        now = take_line(kept, links, room, read, out, tell);
     }
     now
 }
@@ -226,5 +225,6 @@ pub fn finish<T: Tells>(
         return fed;
     }
     let mut frame = [0u8; notice::FRAME_LIMIT];
-    take_line(fed, links, room, line, &mut frame, out, tell)
+    let read = notice::read_frame(&mut frame, &line[..progress.held]);
+    take_line(fed, links, room, frame_read(&frame, read), out, tell)
 }
