@@ -7,7 +7,7 @@ ghost use Rattle.map.specs.Memory.{base, table_words};
 ghost use Rattle.map.specs.Slices.{lent_in, room_sizes, IsSameRoom};
 ghost use Rattle.notice.specs.Lines.{read_line};
 ghost use Rattle.notice.specs.Calls.{line_found};
-ghost use Rattle.update.specs.UpdateCall.{update_left, update_call};
+ghost use Rattle.update.specs.UpdateCall.{left_of, update_call};
 ghost use Rattle.update.specs.Steps.{map_refusal};
 ghost use Rattle.transcript.specs.Transcript.{lines_limit, update_in};
 ghost use Rattle.transcript.specs.Manner.{frame_in};
@@ -19,7 +19,7 @@ use map::{Record, Room};
 use opening::Notice;
 use outcome::Refusal;
 use step::Asked;
-use update::Returned;
+use update::{Report, Returned};
 
 // How far a stream has come: the map's record, the lines answered, and the bytes that the line buffer holds of the next one.
 #[derive(Clone, Copy)]
@@ -66,12 +66,12 @@ fn frame_read(buffer: &[u8], count: Option<usize>) -> Option<&[u8]>
 
 // Answers a frame by its kind: the opening of a depot or a yard, or the link of two depots.
 #[tactic(auto, using(notice::proofs::Readings::behind), unfolding(transcript::specs::Transcript::update_in))]
-fn answer_frame(rec: Record, links: &mut [u64], room: &mut Room<'_>, frame: &[u8]) -> Returned
+fn answer_frame(rec: &mut Record, links: &mut [u64], room: &mut Room<'_>, frame: &[u8]) -> Report
     requires { let long = room_sizes (length links.old) room.old in
-        (map_refusal base rec links.old room.old.pairs.now long ≡ 0) × (3 ≤ length frame.now) }
+        (map_refusal base rec.old links.old room.old.pairs.now long ≡ 0) × (3 ≤ length frame.now) }
     ensures same { IsSameRoom room.old room.new }
-    ensures left { update_left result links.new (lent_in room.new)
-        ≡ update_call base rec links.old (lent_in room.old) (update_in frame.now) }
+    ensures left { left_of result rec.new links.new (lent_in room.new)
+        ≡ update_call base rec.old links.old (lent_in room.old) (update_in frame.now) }
 {
     let code = frame[1];
     let asked = if notice::opens_depot(frame[0]) {
@@ -86,61 +86,60 @@ fn answer_frame(rec: Record, links: &mut [u64], room: &mut Room<'_>, frame: &[u8
             second: frame[2],
         })
     };
-    step::step_sound(rec, links, room, asked)
+    step::step_lent(rec, links, room, asked)
 }
 
 // Answers a line by the frame that it spells: what the frame asks for, or the refusal where there is none.
 #[tactic(auto, unfolding(crate::specs::Feeding::answer_to))]
-fn answer_line(rec: Record, links: &mut [u64], room: &mut Room<'_>, read: Option<&[u8]>) -> Returned
+fn answer_line(
+    rec: &mut Record,
+    links: &mut [u64],
+    room: &mut Room<'_>,
+    read: Option<&[u8]>,
+) -> Report
     requires free { let long = room_sizes (length links.old) room.old in
-        map_refusal base rec links.old room.old.pairs.now long ≡ 0 }
+        map_refusal base rec.old links.old room.old.pairs.now long ≡ 0 }
     requires long { IfSome read (λ f. 3 ≤ length f.now) }
     ensures same { IsSameRoom room.old room.new }
-    ensures left { update_left result links.new (lent_in room.new)
-        ≡ answer_to (option_copied read.entry) rec links.old (lent_in room.old) }
+    ensures left { left_of result rec.new links.new (lent_in room.new)
+        ≡ answer_to (option_copied read.entry) rec.old links.old (lent_in room.old) }
 {
     match read {
         Some(frame) => answer_frame(rec, links, room, frame),
-        None => update::refused(rec, Refusal::Garbled.number()),
+        None => update::refused(*rec, Refusal::Garbled.number()).report,
     }
 }
 
-// Answers the line that is held, by the frame that it spells, if any, and tells the answer.
+// Answers the line that is held, by the frame that it spells, if any, and tells the answer. What was fed is lent, so that a refused line copies no record.
 #[tactic(auto, unfolding(crate::specs::Feeding::took_line))]
 fn take_line<T: Tells>(
-    fed: Fed,
+    fed: &mut Fed,
     links: &mut [u64],
     room: &mut Room<'_>,
     read: Option<&[u8]>,
     out: &mut [u8],
     tell: &T,
-) -> Fed
+)
     requires free { let long = room_sizes (length links.old) room.old in
-        (map_refusal base fed.progress.rec links.old room.old.pairs.now long ≡ 0)
-        × (fed.progress.lines < lines_limit)
-        × (fed.written + T.manner.room ≤ length out.old) }
+        (map_refusal base fed.old.progress.rec links.old room.old.pairs.now long ≡ 0)
+        × (fed.old.progress.lines < lines_limit)
+        × (fed.old.written + T.manner.room ≤ length out.old) }
     requires long { IfSome read (λ f. 3 ≤ length f.now) }
     ensures same { IsSameRoom room.old room.new }
-    ensures left { (line : List ℕ) → option_copied read.entry ≡ frame_in (read_line (take fed.progress.held line))
-        → feeding result links.new (lent_in room.new) line out.new
-        ≡ took_line T.manner (feeding fed links.old (lent_in room.old) line out.old) }
-    ensures written { result.written ≤ length out.new }
+    ensures left { (line : List ℕ) → option_copied read.entry ≡ frame_in (read_line (take fed.old.progress.held line))
+        → feeding fed.new links.new (lent_in room.new) line out.new
+        ≡ took_line T.manner (feeding fed.old links.old (lent_in room.old) line out.old) }
+    ensures written { fed.new.written ≤ length out.new }
 {
-    let before = fed.progress;
-    let got = answer_line(before.rec, links, room, read);
-    let number = before.lines + 1;
-    let report = line_buffer::report_of(number, got);
-    let written = tell.put(out, fed.written, read, report);
-    let progress = Progress {
-        rec: got.after,
-        lines: number,
-        held: 0,
+    let number = fed.progress.lines + 1;
+    let report = answer_line(&mut fed.progress.rec, links, room, read);
+    let got = Returned {
+        report,
+        after: fed.progress.rec,
     };
-    Fed {
-        progress,
-        used: fed.used,
-        written,
-    }
+    fed.written = tell.put(out, fed.written, read, line_buffer::report_of(number, got));
+    fed.progress.lines = number;
+    fed.progress.held = 0;
 }
 
 // ---- the step
@@ -173,26 +172,17 @@ pub fn feed<T: Tells>(
     };
     let mut frame = [0u8; notice::FRAME_LIMIT];
     while now.used < piece.len() {
-        let before = now.progress;
-        if line_buffer::is_stopped(tell, before.lines, now.written, out.len()) {
+        if line_buffer::is_stopped(tell, now.progress.lines, now.written, out.len()) {
             return now;
         }
-        let taken = line_buffer::take_part(line, &mut frame, piece, now.used, before.held);
-        let part = taken.part;
-        let kept = Fed {
-            progress: Progress {
-                rec: before.rec,
-                lines: before.lines,
-                held: part.held,
-            },
-            used: part.at,
-            written: now.written,
-        };
-        if !part.ended {
-            return kept;
+        let taken = line_buffer::take_part(line, &mut frame, piece, now.used, now.progress.held);
+        now.progress.held = taken.part.held;
+        now.used = taken.part.at;
+        if !taken.part.ended {
+            return now;
         }
         let read = frame_read(&frame, taken.frame);
-        now = take_line(kept, links, room, read, out, tell);
+        take_line(&mut now, links, room, read, out, tell);
     }
     now
 }
@@ -213,7 +203,7 @@ pub fn finish<T: Tells>(
         ≡ finish_call T.manner progress links.old (lent_in room.old) line.now out.old }
     ensures written { result.written ≤ length out.new }
 {
-    let fed = Fed {
+    let mut fed = Fed {
         progress,
         used: 0,
         written: 0,
@@ -226,5 +216,6 @@ pub fn finish<T: Tells>(
     }
     let mut frame = [0u8; notice::FRAME_LIMIT];
     let read = notice::read_frame(&mut frame, &line[..progress.held]);
-    take_line(fed, links, room, frame_read(&frame, read), out, tell)
+    take_line(&mut fed, links, room, frame_read(&frame, read), out, tell);
+    fed
 }
