@@ -24,7 +24,7 @@ use Rattle.graph.specs.Batch.{Entry, entry_of, without, numbers_of, AreNumbered}
 use Rattle.hexadecimal.specs.Hex.{is_byte}
 use Rattle.notice.specs.Lines.{yard_kind, opens_depot, Line, garbled, frame, lines_of, read_line}
 use Rattle.notice.proofs.Tests.{frame_parts}
-use Rattle.notice.proofs.Theorems.{read_frame}
+use Rattle.notice.proofs.Theorems.{read_is_frame}
 use Rattle.transcript.specs.Transcript.{update_in}
 use Rattle.batch.specs.Lines.{opening_in, notice_in, is_some, is_opening, entry_before, entries_from, entries_of}
 use Rattle.batch.specs.Steps.{waiting_of, left_numbers}
@@ -99,7 +99,7 @@ unfolding is_byte
 line_code l o q = notice_code (read_line l) byte o q
   where
     byte : (f : List ℕ) (u : ℕ) → read_line l ≡ frame f u → get_or f 1 0 < 256
-    byte f u e = let good = read_frame l f u e in ltb-true (get_or f 1 0) 256 (all-at is_byte f 1 0 (omega (arith, frame_parts f good.0)) good.1)
+    byte f u e = let good = read_is_frame l f u e in ltb-true (get_or f 1 0) 256 (all-at is_byte f 1 0 (omega (arith, frame_parts f good.0)) good.1)
 
 entry_code : (n : ℕ) (ls : List (List ℕ)) {e : Entry} → Memᴰ e (entries_from n ls) → e.notice.code < 256
 unfolding entries_from entry_before

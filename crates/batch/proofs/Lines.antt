@@ -20,7 +20,7 @@ use Rattle.hexadecimal.proofs.DigitLaws.{digit_no_end}
 use Rattle.hexadecimal.proofs.Spelling.{all_digits}
 use Rattle.notice.specs.Lines.{yard_kind, opens_depot, line_end, line_of, Line, garbled, frame, read_line, onto, lines_of}
 use Rattle.notice.proofs.Readings.{behind, FrameStands, frame_read, garbled_read}
-use Rattle.notice.proofs.Theorems.{written_reads, read_written, read_used, read_frame}
+use Rattle.notice.proofs.Theorems.{written_reads, read_written, read_used, read_is_frame}
 use Rattle.transcript.specs.Transcript.{update_in}
 use Rattle.batch.specs.Lines.{opening_in, notice_in, is_some, is_opening, entry_before, entries_from}
 use Rattle.batch.specs.Steps.{opening_length}
@@ -72,7 +72,7 @@ pub record LineReads (s f : List ℕ) (u : ℕ) : Type 0 where
 pub line_reads : (s f : List ℕ) (u : ℕ) → read_line s ≡ frame f u → LineReads s f u
 unfolding line_of
 line_reads s f u e =
-    let good = read_frame s f u e in
+    let good = read_is_frame s f u e in
     let used : length (line_of f) ≡ u = read_used s f u e in
     let split : s ≡ line_of f ++ drop u s = sym (take-append-drop u s) ∙ ap (λ (x : List ℕ). x ++ drop u s) (read_written s f u e) in
     record {
@@ -92,7 +92,7 @@ line_fails (b ∷ bs) l e = let is = begins_with b bs in (is.line, is.others, is
     go : (is : Begins (b ∷ bs)) (r : Line) → read_line is.line ≡ r → read_line is.line ≡ garbled
     go is garbled q = q
     go is (frame f u) q =
-        let good = read_frame is.line f u q in
+        let good = read_is_frame is.line f u q in
         let whole : b ∷ bs ≡ line_of f ++ (drop u is.line ++ is.rest) =
         is.begins ∙ ap (λ (x : List ℕ). x ++ is.rest) (sym (take-append-drop u is.line) ∙ ap (λ (x : List ℕ). x ++ drop u is.line) (read_written is.line f u q))
         ∙ append_append (line_of f) (drop u is.line) is.rest in

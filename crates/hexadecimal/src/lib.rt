@@ -2,9 +2,31 @@
 
 #![tactic(auto)]
 
-ghost use Rattle.std.specs.Prelude.{◌≡◌, true, cond, Some, None, IfSome, false, ◌+◌, ◌*◌, ◌≤◌, ◌<◌, length, get_or, take};
+ghost use Rattle.std.specs.Prelude.{◌≡◌, true, None, false, ◌+◌, ◌*◌, ◌≤◌, ◌<◌, length, get_or, take};
 ghost use Rattle.lists.specs.Lists.{allb, overwrite};
 ghost use Rattle.hexadecimal.specs.Hex.{hex_digit, is_digit, digit_value, digits_of, bytes_of, spelt};
+ghost use Rattle.hexadecimal.specs.Table.{value_or_none};
+
+// The number that each character stands for; 16: it is no digit. As characters of a text come in any order, a table tells them quicker than tests do.
+#[rattlefmt::skip]
+static VALUES: [u8; 256] = [
+    16, 16, 16, 16, 16, 16, 16, 16, 16, 16, 16, 16, 16, 16, 16, 16,
+    16, 16, 16, 16, 16, 16, 16, 16, 16, 16, 16, 16, 16, 16, 16, 16,
+    16, 16, 16, 16, 16, 16, 16, 16, 16, 16, 16, 16, 16, 16, 16, 16,
+    0, 1, 2, 3, 4, 5, 6, 7, 8, 9, 16, 16, 16, 16, 16, 16,
+    16, 10, 11, 12, 13, 14, 15, 16, 16, 16, 16, 16, 16, 16, 16, 16,
+    16, 16, 16, 16, 16, 16, 16, 16, 16, 16, 16, 16, 16, 16, 16, 16,
+    16, 16, 16, 16, 16, 16, 16, 16, 16, 16, 16, 16, 16, 16, 16, 16,
+    16, 16, 16, 16, 16, 16, 16, 16, 16, 16, 16, 16, 16, 16, 16, 16,
+    16, 16, 16, 16, 16, 16, 16, 16, 16, 16, 16, 16, 16, 16, 16, 16,
+    16, 16, 16, 16, 16, 16, 16, 16, 16, 16, 16, 16, 16, 16, 16, 16,
+    16, 16, 16, 16, 16, 16, 16, 16, 16, 16, 16, 16, 16, 16, 16, 16,
+    16, 16, 16, 16, 16, 16, 16, 16, 16, 16, 16, 16, 16, 16, 16, 16,
+    16, 16, 16, 16, 16, 16, 16, 16, 16, 16, 16, 16, 16, 16, 16, 16,
+    16, 16, 16, 16, 16, 16, 16, 16, 16, 16, 16, 16, 16, 16, 16, 16,
+    16, 16, 16, 16, 16, 16, 16, 16, 16, 16, 16, 16, 16, 16, 16, 16,
+    16, 16, 16, 16, 16, 16, 16, 16, 16, 16, 16, 16, 16, 16, 16, 16,
+];
 
 // Digits, one beside another.
 #[derive(Clone, Copy)]
@@ -94,35 +116,27 @@ fn is_digit(c: u8) -> bool
     65 <= c
 }
 
-// The byte that two characters spell, if both are digits.
-#[tactic(auto, unfolding(crate::specs::Hex::spelt))]
+// The byte that two characters spell, if both are digits. Both are looked up before one is asked, so that there is one test for the two.
+#[tactic(auto, using(crate::proofs::Values::spelling))]
 fn byte_spelt(high: u8, low: u8) -> Option<u8>
     ensures { result ≡ spelt high low }
 {
-    let h = value_of(high)?;
-    let l = value_of(low)?;
+    let h = value_of(high);
+    let l = value_of(low);
+    if 16 <= h {
+        return None;
+    }
+    if 16 <= l {
+        return None;
+    }
     Some(16 * h + l)
 }
 
-// The number that a character stands for, if it is a digit.
-#[tactic(auto, unfolding(crate::specs::Hex::is_digit, crate::specs::Hex::digit_value))]
-fn value_of(c: u8) -> Option<u8>
-    ensures number { result ≡ cond (is_digit c) (Some (digit_value c)) None }
-    ensures small { IfSome result (λ d. d < 16) }
+// The number that a character stands for; 16: it is no digit.
+fn value_of(c: u8) -> u8
+    ensures { result ≡ value_or_none c }
 {
-    if c < 48 {
-        return None;
-    }
-    if c <= 57 {
-        return Some(c - 48);
-    }
-    if c < 65 {
-        return None;
-    }
-    if c <= 70 {
-        return Some(c - 55);
-    }
-    None
+    VALUES[c as usize]
 }
 
 // The number that a digit stands for.

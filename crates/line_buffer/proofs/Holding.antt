@@ -1,12 +1,14 @@
 -- THE LINE BUFFER: the bytes of a piece up to the end of a line. Assumes nothing.
 use mathlib.Core.Path.{◌≡◌, refl, sym, ap, ◌∙◌}
-use mathlib.Core.Bool.{true, false}
-use mathlib.Core.List.{List, ◌∷◌}
+use mathlib.Core.Bool.{Bool, true, false, cond}
+use mathlib.Core.List.{List, [], ◌∷◌}
 use Prim.Native.Nat.{ℕ, suc, ◌+◌, ◌≤◌, ◌<◌}
 use native.Mathlib.Numerals.{add-one}
+use native.Mathlib.Omega.{arith}
+use lib.Dec.{eqb, ltb}
 use lib.ListN.{length, get_or, set, drop, drop_of_length-le}
 use lib.Seq.{drop-cons}
-use borrow.Author.Tests.{eq-eqb, ne_eqb, lt-ltb, le-ltb}
+use borrow.Author.Tests.{eq-eqb, ne_eqb, lt-ltb, le-ltb, ltb-true}
 use Rattle.notice.specs.Lines.{line_limit, line_end}
 use Rattle.line_buffer.specs.Lines.{Holding, holding, hold_byte, PartLeft, part_from}
 
@@ -68,3 +70,23 @@ pub past_on : (at : ℕ) (line : List ℕ) (held : ℕ) (piece : List ℕ) {e : 
     → part_from (at + 1) (holding line held) (drop (at + 1) piece) ≡ e
 past_on at line held piece v k l n =
     ap (λ (g : Holding). part_from (at + 1) g (drop (at + 1) piece)) (past line held (get_or piece at 0) k) ∙ byte_on at (holding line held) piece l n ∙ v
+
+-- ---- a part holds at most a line
+
+hold_most : (b : ℕ) (h : Holding) → h.held ≤ line_limit → (hold_byte b h).held ≤ line_limit
+unfolding hold_byte
+hold_most b h l = go (ltb h.held line_limit) refl
+  where
+    go : (x : Bool) → ltb h.held line_limit ≡ x → (cond x (holding (set h.line h.held b) (h.held + 1)) h).held ≤ line_limit
+    go true e = omega (arith, ltb-true h.held line_limit e)
+    go false e = l
+
+pub part_most : (at : ℕ) (h : Holding) (bs : List ℕ) → h.held ≤ line_limit → (part_from at h bs).buffer.held ≤ line_limit
+unfolding part_from
+part_most at h [] l = l
+part_most at h (b ∷ bs) l = go (eqb b line_end) (hold_most b h l) (part_most (at + 1) (hold_byte b h) bs (hold_most b h l))
+  where
+    go : (x : Bool) → (hold_byte b h).held ≤ line_limit → (part_from (at + 1) (hold_byte b h) bs).buffer.held ≤ line_limit
+        → (cond x (record { at = at + 1; ended = true; buffer = hold_byte b h }) (part_from (at + 1) (hold_byte b h) bs)).buffer.held ≤ line_limit
+    go true p q = p
+    go false p q = q

@@ -1,7 +1,7 @@
 -- THE LINES OF A STREAM in lent memory: the line buffer, the answer behind what is written, and where a step stops. Assumes nothing.
-use Rattle.std.specs.Prelude.{Bool, true, false, cond, ◌||◌, List, [], ◌∷◌, ◌++◌, ℕ, ◌+◌, eqb, ltb, leb, take, drop, set}
+use Rattle.std.specs.Prelude.{◌≡◌, ◌*◌, ◌≤◌, length, Bool, true, false, cond, ◌||◌, List, [], ◌∷◌, ◌++◌, ℕ, ◌+◌, eqb, ltb, leb, take, drop, set}
 use Rattle.lists.specs.Lists.{overwrite}
-use Rattle.notice.specs.Lines.{line_limit, line_end}
+use Rattle.notice.specs.Lines.{line_limit, line_end, frame, read_line}
 use Rattle.report.specs.declared.ReportFields.{ReportFields}
 use Rattle.update.specs.declared.Returned.{Returned}
 use Rattle.transcript.specs.Transcript.{lines_limit}
@@ -33,6 +33,13 @@ part_left p line = record { at = p.at; ended = p.ended; buffer = holding line p.
 unfoldable pub part_from : ℕ → Holding → List ℕ → PartLeft
 part_from at h [] = record { at = at; ended = false; buffer = h }
 part_from at h (b ∷ bs) = cond (eqb b line_end) (record { at = at + 1; ended = true; buffer = hold_byte b h }) (part_from (at + 1) (hold_byte b h) bs)
+
+-- a text begins with a line that ends and spells a frame of n bytes
+pub record StandsWhole (n : ℕ) (text : List ℕ) : Type 0 where
+  pub spelled : List ℕ
+  pub reads : read_line text ≡ frame spelled (2 * n + 1)
+  pub fits : 2 * n + 1 ≤ length text
+  pub within : 2 * n + 1 ≤ line_limit
 
 -- ---- the answer
 

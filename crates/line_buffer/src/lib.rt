@@ -2,11 +2,13 @@
 
 #![tactic(auto)]
 
-ghost use Rattle.std.specs.Prelude.{◌≡◌, List, ℕ, ◌+◌, ◌≤◌, ◌<◌, length, drop, IfSome, option_copied};
-ghost use Rattle.notice.specs.Lines.{line_limit};
+ghost use Rattle.std.specs.Prelude.{◌≡◌, List, ℕ, ◌+◌, ◌*◌, ◌≤◌, ◌<◌, length, take, drop, true, Some, IfSome, option_copied};
+ghost use Rattle.lists.specs.Lists.{overwrite};
+ghost use Rattle.notice.specs.Lines.{line_limit, read_line};
+ghost use Rattle.notice.specs.Calls.{frame_limit, line_found};
 ghost use Rattle.report.specs.Line.{buffer_limit, report_line};
 ghost use Rattle.transcript.specs.Manner.{Manner, as_reports};
-ghost use Rattle.line_buffer.specs.Lines.{holding, part_left, part_from, report_of, pasted, is_stopped};
+ghost use Rattle.line_buffer.specs.Lines.{StandsWhole, holding, part_left, part_from, report_of, pasted, is_stopped};
 
 use report::ReportFields;
 use update::Returned;
@@ -20,14 +22,77 @@ pub struct Gathered {
     pub ended: bool,
 }
 
+// What was taken of a piece, and, where that ended a line, how many bytes of the frame buffer are the frame that the line spells, if it spells one.
+#[derive(Clone, Copy)]
+pub struct Taken {
+    pub part: Gathered,
+    pub frame: Option<usize>,
+}
+
 // ---- the line buffer
+
+// Takes the bytes of a piece up to the end of a line, or all that are left of it, and reads the line that ends. One that stands whole in the piece, as most
+// do, is read where it stands, and taken over without a look at each byte.
+#[tactic(auto, using(crate::proofs::Whole::stands_behind, crate::proofs::Holding::part_most))]
+pub fn take_part(line: &mut [u8], frame: &mut [u8], piece: &[u8], from: usize, held: usize) -> Taken
+    requires { (line_limit ≤ length line.old)
+        × (frame_limit ≤ length frame.old)
+        × (held ≤ line_limit)
+        × (from ≤ length piece.now) }
+    ensures part { part_left result.part line.new ≡ part_from from (holding line.old held) (drop from piece.now) }
+    ensures read { result.part.ended ≡ true → line_found result.frame frame.new ≡ read_line (take result.part.held line.new) }
+    ensures long { IfSome result.frame (λ n. (3 ≤ n) × (n ≤ length frame.new)) }
+{
+    if held == 0
+        && let Some(n) = notice::read_frame(&mut *frame, &piece[from..])
+    {
+        let part = take_whole(line, piece, from, n);
+        return Taken {
+            part,
+            frame: Some(n),
+        };
+    }
+    let part = hold_part(line, piece, from, held);
+    if !part.ended {
+        return Taken { part, frame: None };
+    }
+    let read = notice::read_frame(frame, &line[..part.held]);
+    Taken { part, frame: read }
+}
+
+// Takes a line that stands whole at a place of a piece and spells a frame of n bytes.
+#[tactic(auto, using(crate::proofs::Whole::whole, notice::proofs::Readings::behind))]
+fn take_whole(line: &mut [u8], piece: &[u8], from: usize, n: usize) -> Gathered
+    requires room { (line_limit ≤ length line.old) × (from ≤ length piece.now) }
+    requires whole { StandsWhole n (drop from piece.now) }
+    ensures part { part_left result line.new ≡ part_from from (holding line.old 0) (drop from piece.now) }
+    ensures ended { (result.ended ≡ true) × (result.held ≡ 2 * n + 1) }
+    ensures read { read_line (take result.held line.new) ≡ read_line (drop from piece.now) }
+{
+    let end = 2 * n + 1;
+    copy_first(line, &piece[from..], end);
+    Gathered {
+        at: from + end,
+        held: end,
+        ended: true,
+    }
+}
+
+// Copies the first bytes of a text to the start of the buffer.
+#[tactic(auto, using(crate::proofs::Whole::copied_over))]
+fn copy_first(line: &mut [u8], text: &[u8], count: usize)
+    requires { (count ≤ length line.old) × (count ≤ length text.now) }
+    ensures { line.new ≡ overwrite (take count text.now) line.old }
+{
+    line[..count].copy_from_slice(&text[..count]);
+}
 
 // Takes the bytes of a piece up to the end of a line, or all that are left of it. A line's first bytes, as many as the longest has, decide how it reads, so
 // that no more are kept: the loop ends where the buffer takes no more, so that no byte need be asked. A struct of the buffer and the bytes held was tried:
 // its loop has to be a method, as the end of a loop over a local one leaves unsaid what the buffer holds, and then `follow` takes 0.57 % more instructions
 // on a million lines.
 #[tactic(auto, using(crate::proofs::Holding::part_here, crate::proofs::Holding::part_on))]
-pub fn hold_part(line: &mut [u8], piece: &[u8], from: usize, held: usize) -> Gathered
+fn hold_part(line: &mut [u8], piece: &[u8], from: usize, held: usize) -> Gathered
     requires { line_limit ≤ length line.old }
     ensures { part_left result line.new ≡ part_from from (holding line.old held) (drop from piece.now) }
 {

@@ -28,7 +28,7 @@ use Rattle.map.proofs.Theorems.{base_shape}
 use Rattle.hexadecimal.specs.Hex.{is_byte}
 use Rattle.notice.specs.Lines.{yard_kind, opens_depot, Line, garbled, frame, read_line}
 use Rattle.notice.proofs.Tests.{frame_parts}
-use Rattle.notice.proofs.Theorems.{read_frame}
+use Rattle.notice.proofs.Theorems.{read_is_frame}
 use Rattle.rounds.proofs.Reading.{few_searches}
 use Rattle.update.specs.UpdateCall.{IsWithin as IsOfMap}
 use Rattle.update.proofs.Memories.{IsHeld, depots_few}
@@ -44,7 +44,7 @@ use Rattle.narration.specs.Narration.{event_in, said_on}
 module _ (text f : List ℕ) (u : ℕ) (e : read_line text ≡ frame f u) where
   byte_at : (i : ℕ) → i < 3 → get_or f i 0 < 256
   unfolding is_byte
-  byte_at i l = let p = read_frame text f u e in ltb-true (get_or f i 0) 256 (all-at is_byte f i 0 (omega (arith, frame_parts f p.0)) p.1)
+  byte_at i l = let p = read_is_frame text f u e in ltb-true (get_or f i 0) 256 (all-at is_byte f i 0 (omega (arith, frame_parts f p.0)) p.1)
 
   code_low : get_or f 1 0 < 256
   code_low = byte_at 1 (omega arith)

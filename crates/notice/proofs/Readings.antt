@@ -17,7 +17,7 @@ use Rattle.notice.specs.Calls.{frame_limit, line_done, line_refused, reading_of,
 use Rattle.notice.specs.declared.Frame.{Frame}
 use Rattle.lists.proofs.Scans.{all-at}
 use Rattle.notice.proofs.Tests.{length_most, frame_parts}
-use Rattle.notice.proofs.Theorems.{read_frame}
+use Rattle.notice.proofs.Theorems.{read_is_frame}
 
 -- the reader on a frame buffer that is long enough
 read_into_lem : (text buffer : List ℕ) → frame_limit ≤ length buffer → read_call text buffer ≡ read_into (read_line text) buffer
@@ -43,7 +43,7 @@ pub record FrameStands (f : List ℕ) (n : ℕ) (after : List ℕ) : Type 0 wher
 frame-length : (text f : List ℕ) (u : ℕ) → read_line text ≡ frame f u → (3 ≤ length f) × (length f ≤ frame_limit)
 unfolding is_byte
 frame-length text f u e =
-    let p = read_frame text f u e in
+    let p = read_is_frame text f u e in
     let q = frame_parts f p.0 in
     let b = ltb-true (get_or f 2 0) 256 (all-at is_byte f 2 0 (omega (arith, q)) p.1) in
     (q.0, omega (arith, q, b, length_most (get_or f 0 0) (get_or f 2 0)))

@@ -57,7 +57,7 @@ head_reads ds rest h =
     let t : ltb (length ds) (length (ds ++ line_end ∷ rest)) ≡ true = lt-ltb (length ds) (length (ds ++ line_end ∷ rest)) (omega arith) in
     rw (end_digits ds rest (spells_parts ds h).digits, take-append_seam ds (line_end ∷ rest), t, h)
 
-line_opened : (f rest : List ℕ) → line_of f ++ rest ≡ digits_of f ++ line_end ∷ rest
+pub line_opened : (f rest : List ℕ) → line_of f ++ rest ≡ digits_of f ++ line_end ∷ rest
 unfolding line_of
 line_opened f rest = append_snoc (digits_of f) line_end rest
 
@@ -119,9 +119,9 @@ read_used s f n h =
     omega (arith, w.used, w.ends, length-take n (take line_limit s))
 
 -- what is read is a frame, of bytes
-pub read_frame : (s f : List ℕ) (n : ℕ) → read_line s ≡ frame f n → (is_frame f ≡ true) × (allb is_byte f ≡ true)
+pub read_is_frame : (s f : List ℕ) (n : ℕ) → read_line s ≡ frame f n → (is_frame f ≡ true) × (allb is_byte f ≡ true)
 unfolding read_line
-read_frame s f n h =
+read_is_frame s f n h =
     let w = head_found (take line_limit s) f n h in
     let ds = take (end_of (take line_limit s)) (take line_limit s) in
     (sym (ap is_frame w.bytes) ∙ w.spells.spelt, sym (ap (allb is_byte) w.bytes) ∙ bytes_below ds w.spells.digits)

@@ -5,14 +5,14 @@
 ghost use Rattle.std.specs.Prelude.{◌≡◌, length};
 ghost use Rattle.map.specs.Memory.{base};
 ghost use Rattle.map.specs.Slices.{lent_in, room_sizes, IsSameRoom};
-ghost use Rattle.update.specs.UpdateCall.{update_left, update_call};
+ghost use Rattle.update.specs.UpdateCall.{left_of, update_left, update_call};
 ghost use Rattle.update.specs.Steps.{map_refusal};
 ghost use Rattle.step.specs.Asks.{update_of};
 
 use admission::Link;
 use map::{Record, Room};
 use opening::Notice;
-use update::Returned;
+use update::{Report, Returned};
 
 // What a call asks for: the opening of a depot or a yard, or the link of two depots.
 #[derive(Clone, Copy)]
@@ -21,7 +21,27 @@ pub enum Asked<'a> {
     Link(Link),
 }
 
-// The step for callers that hold a proved map, whose memory nothing refuses: the same answer without checking it again.
+// The step for callers that hold a proved map, whose memory nothing refuses, on a record that is lent: the same answer without checking the memory again. A
+// refused call does not touch the record.
+pub fn step_lent(
+    rec: &mut Record,
+    links: &mut [u64],
+    room: &mut Room<'_>,
+    asked: Asked<'_>,
+) -> Report
+    requires { let long = room_sizes (length links.old) room.old in
+        map_refusal base rec.old links.old room.old.pairs.now long ≡ 0 }
+    ensures same { IsSameRoom room.old room.new }
+    ensures left { left_of result rec.new links.new (lent_in room.new)
+        ≡ update_call base rec.old links.old (lent_in room.old) (update_of asked.entry) }
+{
+    match asked {
+        Asked::Opening(notice) => opening::open_lent(rec, links, room, notice),
+        Asked::Link(link) => linking::link_lent(rec, links, room, link),
+    }
+}
+
+// The same by value.
 pub fn step_sound(rec: Record, links: &mut [u64], room: &mut Room<'_>, asked: Asked<'_>) -> Returned
     requires { let long = room_sizes (length links.old) room.old in
         map_refusal base rec links.old room.old.pairs.now long ≡ 0 }

@@ -15,7 +15,7 @@ use Rattle.map.specs.Memory.{base}
 use Rattle.hexadecimal.specs.Hex.{is_byte}
 use Rattle.notice.specs.Lines.{yard_kind, opens_depot, frame, read_line}
 use Rattle.notice.proofs.Tests.{frame_parts}
-use Rattle.notice.proofs.Theorems.{read_frame}
+use Rattle.notice.proofs.Theorems.{read_is_frame}
 use Rattle.notice.specs.Calls.{line_found}
 use Rattle.update.specs.UpdateCall.{IsWithin}
 use Rattle.transcript.specs.Transcript.{update_in}
@@ -29,7 +29,7 @@ unfolding update_in is_byte
 read-within text f u e = go (opens_depot (get_or f 0 0))
   where
     low : get_or f 1 0 < 256
-    low = let p = read_frame text f u e in ltb-true (get_or f 1 0) 256 (all-at is_byte f 1 0 (omega (arith, frame_parts f p.0)) p.1)
+    low = let p = read_is_frame text f u e in ltb-true (get_or f 1 0) 256 (all-at is_byte f 1 0 (omega (arith, frame_parts f p.0)) p.1)
 
     go : (b : Bool) → IsWithin base (cond b (opens (notice_of (eqb (get_or f 0 0) yard_kind) (get_or f 1 0) (drop 3 f))) (joins (get_or f 1 0) (get_or f 2 0)))
     go true = low

@@ -5,10 +5,9 @@ use mathlib.Core.Bool.{Bool, true, false, cond}
 use mathlib.Core.List.{List, [], ◌∷◌}
 use Prim.Native.Nat.{ℕ, suc, ◌+◌, ◌≤◌, ◌<◌}
 use native.Mathlib.Omega.{arith}
-use lib.Dec.{eqb, ltb}
-use lib.ListN.{length, get_or, take, drop, set, length-drop, drop_of_length-le}
+use lib.Dec.{eqb}
+use lib.ListN.{length, get_or, take, drop, length-drop, drop_of_length-le}
 use lib.Seq.{drop-cons, drop-drop}
-use borrow.Author.Tests.{ltb-true}
 use Rattle.lists.proofs.Tests.{clash}
 use Rattle.map.specs.Room.{Lent, sizes_of}
 use Rattle.map.specs.Memory.{base}
@@ -20,6 +19,7 @@ use Rattle.transcript.specs.Transcript.{update_in}
 use Rattle.transcript.specs.Manner.{Manner, frame_in}
 use Rattle.line_buffer.specs.Lines.{Holding, holding, hold_byte, PartLeft, part_from}
 use Rattle.line_buffer.proofs.Stops.{going}
+use Rattle.line_buffer.proofs.Holding.{part_most}
 use Rattle.stream.specs.Feeding.{answer_to, Feeding, feeding, progress_of, fed_of, stopped, took_line, held_byte, take_byte, feed_bytes}
 use Rattle.stream.proofs.Answers.{read-within}
 use Rattle.map.proofs.Theorems.{base_shape}
@@ -62,7 +62,7 @@ part_nil : (at : ℕ) (h : Holding) → part_from at h [] ≡ record { at = at; 
 unfolding part_from
 part_nil at h = refl
 
--- a part takes at least a byte where one is left, and holds at most a line
+-- a part takes at least a byte where one is left
 part_past : (at : ℕ) (h : Holding) (bs : List ℕ) → at ≤ (part_from at h bs).at
 unfolding part_from
 part_past at h [] = omega arith
@@ -97,24 +97,6 @@ past_within at h (b ∷ bs) = go (eqb b line_end) (past_within (at + 1) (hold_by
 
 pub part_within : (at : ℕ) (h : Holding) (piece : List ℕ) → at ≤ length piece → (part_from at h (drop at piece)).at ≤ length piece
 part_within at h piece l = omega (arith, past_within at h (drop at piece), length-drop at piece)
-
-hold_most : (b : ℕ) (h : Holding) → h.held ≤ line_limit → (hold_byte b h).held ≤ line_limit
-unfolding hold_byte
-hold_most b h l = go (ltb h.held line_limit) refl
-  where
-    go : (x : Bool) → ltb h.held line_limit ≡ x → (cond x (holding (set h.line h.held b) (h.held + 1)) h).held ≤ line_limit
-    go true e = omega (arith, ltb-true h.held line_limit e)
-    go false e = l
-
-pub part_most : (at : ℕ) (h : Holding) (bs : List ℕ) → h.held ≤ line_limit → (part_from at h bs).buffer.held ≤ line_limit
-unfolding part_from
-part_most at h [] l = l
-part_most at h (b ∷ bs) l = go (eqb b line_end) (hold_most b h l) (part_most (at + 1) (hold_byte b h) bs (hold_most b h l))
-  where
-    go : (x : Bool) → (hold_byte b h).held ≤ line_limit → (part_from (at + 1) (hold_byte b h) bs).buffer.held ≤ line_limit
-        → (cond x (record { at = at + 1; ended = true; buffer = hold_byte b h }) (part_from (at + 1) (hold_byte b h) bs)).buffer.held ≤ line_limit
-    go true p q = p
-    go false p q = q
 
 -- nothing refuses F's map
 abbrev pub IsFree : Feeding → Type 0

@@ -2,12 +2,12 @@
 
 #![tactic(auto)]
 
-ghost use Rattle.std.specs.Prelude.{◌≡◌, ◌+◌, ◌≤◌, ◌<◌, length, IfSome, option_copied};
+ghost use Rattle.std.specs.Prelude.{◌≡◌, List, ℕ, take, ◌+◌, ◌≤◌, ◌<◌, length, IfSome, option_copied};
 ghost use Rattle.map.specs.Memory.{base, table_words};
 ghost use Rattle.map.specs.Slices.{lent_in, room_sizes, IsSameRoom};
 ghost use Rattle.notice.specs.Lines.{read_line};
-ghost use Rattle.notice.specs.Calls.{frame_limit};
-ghost use Rattle.update.specs.UpdateCall.{update_left, update_call};
+ghost use Rattle.notice.specs.Calls.{line_found};
+ghost use Rattle.update.specs.UpdateCall.{left_of, update_call};
 ghost use Rattle.update.specs.Steps.{map_refusal};
 ghost use Rattle.transcript.specs.Transcript.{lines_limit, update_in};
 ghost use Rattle.transcript.specs.Manner.{frame_in};
@@ -19,7 +19,7 @@ use map::{Record, Room};
 use opening::Notice;
 use outcome::Refusal;
 use step::Asked;
-use update::Returned;
+use update::{Report, Returned};
 
 // How far a stream has come: the map's record, the lines answered, and the bytes that the line buffer holds of the next one.
 #[derive(Clone, Copy)]
@@ -54,25 +54,24 @@ pub fn begin(links: &mut [u64], pairs: &mut [u64]) -> Progress
 
 // ---- a line's answer
 
-// The frame that a line spells, if any, in the buffer that is lent for it.
+// The frame that a buffer begins with, of the length that was found, if any was.
 #[tactic(auto, using(crate::proofs::Answers::readings))]
-fn read_frame<'a>(frame: &'a mut [u8], text: &[u8]) -> Option<&'a [u8]>
-    requires { frame_limit ≤ length frame.old }
-    ensures read { option_copied result ≡ frame_in (read_line text.now) }
+fn frame_read(buffer: &[u8], count: Option<usize>) -> Option<&[u8]>
+    requires { IfSome count (λ n. (3 ≤ n) × (n ≤ length buffer.now)) }
+    ensures read { (text : List ℕ) → line_found count buffer.now ≡ read_line text → option_copied result ≡ frame_in (read_line text) }
     ensures long { IfSome result (λ f. 3 ≤ length f.now) }
 {
-    let length = notice::read_frame(&mut *frame, text)?;
-    Some(&frame[..length])
+    Some(&buffer[..count?])
 }
 
 // Answers a frame by its kind: the opening of a depot or a yard, or the link of two depots.
 #[tactic(auto, using(notice::proofs::Readings::behind), unfolding(transcript::specs::Transcript::update_in))]
-fn answer_frame(rec: Record, links: &mut [u64], room: &mut Room<'_>, frame: &[u8]) -> Returned
+fn answer_frame(rec: &mut Record, links: &mut [u64], room: &mut Room<'_>, frame: &[u8]) -> Report
     requires { let long = room_sizes (length links.old) room.old in
-        (map_refusal base rec links.old room.old.pairs.now long ≡ 0) × (3 ≤ length frame.now) }
+        (map_refusal base rec.old links.old room.old.pairs.now long ≡ 0) × (3 ≤ length frame.now) }
     ensures same { IsSameRoom room.old room.new }
-    ensures left { update_left result links.new (lent_in room.new)
-        ≡ update_call base rec links.old (lent_in room.old) (update_in frame.now) }
+    ensures left { left_of result rec.new links.new (lent_in room.new)
+        ≡ update_call base rec.old links.old (lent_in room.old) (update_in frame.now) }
 {
     let code = frame[1];
     let asked = if notice::opens_depot(frame[0]) {
@@ -87,63 +86,60 @@ fn answer_frame(rec: Record, links: &mut [u64], room: &mut Room<'_>, frame: &[u8
             second: frame[2],
         })
     };
-    step::step_sound(rec, links, room, asked)
+    step::step_lent(rec, links, room, asked)
 }
 
 // Answers a line by the frame that it spells: what the frame asks for, or the refusal where there is none.
 #[tactic(auto, unfolding(crate::specs::Feeding::answer_to))]
-fn answer_line(rec: Record, links: &mut [u64], room: &mut Room<'_>, read: Option<&[u8]>) -> Returned
+fn answer_line(
+    rec: &mut Record,
+    links: &mut [u64],
+    room: &mut Room<'_>,
+    read: Option<&[u8]>,
+) -> Report
     requires free { let long = room_sizes (length links.old) room.old in
-        map_refusal base rec links.old room.old.pairs.now long ≡ 0 }
+        map_refusal base rec.old links.old room.old.pairs.now long ≡ 0 }
     requires long { IfSome read (λ f. 3 ≤ length f.now) }
     ensures same { IsSameRoom room.old room.new }
-    ensures left { update_left result links.new (lent_in room.new)
-        ≡ answer_to (option_copied read.entry) rec links.old (lent_in room.old) }
+    ensures left { left_of result rec.new links.new (lent_in room.new)
+        ≡ answer_to (option_copied read.entry) rec.old links.old (lent_in room.old) }
 {
     match read {
         Some(frame) => answer_frame(rec, links, room, frame),
-        None => update::refused(rec, Refusal::Garbled.number()),
+        None => update::refused(*rec, Refusal::Garbled.number()).report,
     }
 }
 
-// Answers the line that is held, and tells the answer. The frame is read into a buffer that is lent, so that none has to be cleared for each line.
+// Answers the line that is held, by the frame that it spells, if any, and tells the answer. What was fed is lent, so that a refused line copies no record.
 #[tactic(auto, unfolding(crate::specs::Feeding::took_line))]
 fn take_line<T: Tells>(
-    fed: Fed,
+    fed: &mut Fed,
     links: &mut [u64],
     room: &mut Room<'_>,
-    line: &[u8],
-    frame: &mut [u8],
+    read: Option<&[u8]>,
     out: &mut [u8],
     tell: &T,
-) -> Fed
-    requires { let long = room_sizes (length links.old) room.old in
-        (map_refusal base fed.progress.rec links.old room.old.pairs.now long ≡ 0)
-        × (frame_limit ≤ length frame.old)
-        × (fed.progress.held ≤ length line.now)
-        × (fed.progress.lines < lines_limit)
-        × (fed.written + T.manner.room ≤ length out.old) }
+)
+    requires free { let long = room_sizes (length links.old) room.old in
+        (map_refusal base fed.old.progress.rec links.old room.old.pairs.now long ≡ 0)
+        × (fed.old.progress.lines < lines_limit)
+        × (fed.old.written + T.manner.room ≤ length out.old) }
+    requires long { IfSome read (λ f. 3 ≤ length f.now) }
     ensures same { IsSameRoom room.old room.new }
-    ensures left { feeding result links.new (lent_in room.new) line.now out.new
-        ≡ took_line T.manner (feeding fed links.old (lent_in room.old) line.now out.old) }
-    ensures written { result.written ≤ length out.new }
+    ensures left { (line : List ℕ) → option_copied read.entry ≡ frame_in (read_line (take fed.old.progress.held line))
+        → feeding fed.new links.new (lent_in room.new) line out.new
+        ≡ took_line T.manner (feeding fed.old links.old (lent_in room.old) line out.old) }
+    ensures written { fed.new.written ≤ length out.new }
 {
-    let before = fed.progress;
-    let read = read_frame(frame, &line[..before.held]);
-    let got = answer_line(before.rec, links, room, read);
-    let number = before.lines + 1;
-    let report = line_buffer::report_of(number, got);
-    let written = tell.put(out, fed.written, read, report);
-    let progress = Progress {
-        rec: got.after,
-        lines: number,
-        held: 0,
+    let number = fed.progress.lines + 1;
+    let report = answer_line(&mut fed.progress.rec, links, room, read);
+    let got = Returned {
+        report,
+        after: fed.progress.rec,
     };
-    Fed {
-        progress,
-        used: fed.used,
-        written,
-    }
+    fed.written = tell.put(out, fed.written, read, line_buffer::report_of(number, got));
+    fed.progress.lines = number;
+    fed.progress.held = 0;
 }
 
 // ---- the step
@@ -176,24 +172,17 @@ pub fn feed<T: Tells>(
     };
     let mut frame = [0u8; notice::FRAME_LIMIT];
     while now.used < piece.len() {
-        let before = now.progress;
-        if line_buffer::is_stopped(tell, before.lines, now.written, out.len()) {
+        if line_buffer::is_stopped(tell, now.progress.lines, now.written, out.len()) {
             return now;
         }
-        let part = line_buffer::hold_part(line, piece, now.used, before.held);
-        let kept = Fed {
-            progress: Progress {
-                rec: before.rec,
-                lines: before.lines,
-                held: part.held,
-            },
-            used: part.at,
-            written: now.written,
-        };
-        if !part.ended {
-            return kept;
+        let taken = line_buffer::take_part(line, &mut frame, piece, now.used, now.progress.held);
+        now.progress.held = taken.part.held;
+        now.used = taken.part.at;
+        if !taken.part.ended {
+            return now;
         }
-        now = take_line(kept, links, room, &*line, &mut frame, out, tell);
+        let read = frame_read(&frame, taken.frame);
+        take_line(&mut now, links, room, read, out, tell);
     }
     now
 }
@@ -214,7 +203,7 @@ pub fn finish<T: Tells>(
         ≡ finish_call T.manner progress links.old (lent_in room.old) line.now out.old }
     ensures written { result.written ≤ length out.new }
 {
-    let fed = Fed {
+    let mut fed = Fed {
         progress,
         used: 0,
         written: 0,
@@ -226,5 +215,7 @@ pub fn finish<T: Tells>(
         return fed;
     }
     let mut frame = [0u8; notice::FRAME_LIMIT];
-    take_line(fed, links, room, line, &mut frame, out, tell)
+    let read = notice::read_frame(&mut frame, &line[..progress.held]);
+    take_line(&mut fed, links, room, frame_read(&frame, read), out, tell);
+    fed
 }

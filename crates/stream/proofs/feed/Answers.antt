@@ -9,9 +9,10 @@ use Rattle.stream.proofs.feed.Goals as goal
 
 pub loop-now-preserved : goal.loop-now-preserved
 loop-now-preserved g c = (
-  turn_next _ _ _ (sym c.is_stopped.ensures ∙ c.if-is_stopped.false) c.loop-now.invariant.0 c.hold_part-part.ensures
-      (not-false _ c.if-not-part.false) c.take_line-now.ensures.left,
+  turn_next _ _ _ (sym c.is_stopped.ensures ∙ c.if-is_stopped.false) c.loop-now.invariant.0 c.take_part-taken.ensures.part
+      (not-false _ c.if-not-taken.false)
+      (c.take_line.ensures.left _ (c.frame_read-read.ensures.read _ (c.take_part-taken.ensures.read (not-false _ c.if-not-taken.false)))),
   search rules,
   grind (arith, parts),
-  c.take_line-now.ensures.written,
+  c.take_line.ensures.written,
 )

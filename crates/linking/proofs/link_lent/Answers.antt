@@ -1,12 +1,16 @@
--- `linking::link_sound` meets its contract: of a memory that nothing refuses the two codes alone are judged.
-use mathlib.Core.Path.{sym, ◌∙◌}
+-- `linking::link_lent` meets its contract: of a memory that nothing refuses the two codes alone are judged.
+use mathlib.Core.Path.{refl, sym, ap, ◌∙◌}
 use native.Mathlib.Omega.{arith}
 use Rattle.map.specs.Memory.{base}
 use Rattle.map.proofs.Longs.{are_long_lem}
+use Rattle.map.specs.Slices.{lent_in}
+use Rattle.update.specs.UpdateCall.{left_of}
+use Rattle.update.specs.Steps.{refused_with}
+use Rattle.update.specs.declared.Returned.{Returned}
 use Rattle.update.proofs.Refuses.{map_long, refused_call}
 use Rattle.outcome.proofs.Numbering.{refuses}
 use Rattle.linking.proofs.Joined.{judged}
-use Rattle.linking.proofs.link_sound.Goals as goal
+use Rattle.linking.proofs.link_lent.Goals as goal
 
 pub link_refusal-requires : goal.link_refusal-requires
 link_refusal-requires c =
@@ -14,5 +18,6 @@ link_refusal-requires c =
 
 pub returns-in-Err-clause-left : goal.returns-in-Err-clause-left
 returns-in-Err-clause-left c =
-    refused_call base _ _ _ _ _ _ _ _ _ _ _ c.refused.ensures
+    ap (λ (r : Returned). left_of r.report c.args.rec.now c.args.links.now (lent_in c.args.room.now)) c.refused.ensures
+    ∙ refused_call base _ _ _ _ _ _ _ _ _ _ (refused_with c.number.result c.args.rec.now) refl
     (c.number.ensures ∙ c.in-Err.ensures ∙ sym (judged base _ _ _ _ _ _ c.requires)) (λ z. refuses _ (sym c.number.ensures ∙ z))
