@@ -1,10 +1,12 @@
 -- A number put into a buffer from its last digit to its first: how many digits it has, those of a short one, a turn of `put_long`, and a field. Assumes nothing.
 use mathlib.Core.Path.{◌≡◌, refl, sym, ap, ◌∙◌}
 use mathlib.Core.List.{List, [], ◌∷◌, ◌++◌, append_assoc}
+use mathlib.Core.Logic.{◌⊎◌, inl, inr}
 use Prim.Native.Nat.{ℕ, zero, suc, ◌+◌, ◌/◌, ◌%◌, ◌^◌, ◌≤◌, ◌<◌}
 use native.Mathlib.Nat.{zero-add, one-le-pow, pow-succ', div-one, div-div-eq-div-mul}
 use native.Mathlib.Omega.{arith}
 use lib.ListN.{length, set, length-append, length-set}
+use Rattle.std.proofs.lemmas.Bool.{cases_lt}
 use Rattle.lists.proofs.Appends.{append_none}
 use Rattle.decimal.specs.Decimal.{numeral, decimal, two_digits, field}
 use Rattle.decimal.specs.Placed.{Placed}
@@ -18,6 +20,13 @@ one_length n h = ap length (decimal_one n h)
 
 pub more_length : (n : ℕ) → 10 ≤ n → length (decimal n) ≡ length (decimal (n / 10)) + 1
 more_length n h = ap length (decimal_more n h) ∙ length-append (decimal (n / 10)) (numeral (n % 10) ∷ [])
+
+pub digits_some : (n : ℕ) → 0 < length (decimal n)
+digits_some n = by_size (cases_lt n 10)
+  where
+    by_size : (n < 10) ⊎ (10 ≤ n) → 0 < length (decimal n)
+    by_size (inl h) = omega (arith, one_length n h)
+    by_size (inr h) = omega (arith, more_length n h)
 
 pub digits_first : (n : ℕ) → n < 10 → 1 ≡ length (decimal n)
 digits_first n h = sym (one_length n h)

@@ -81,6 +81,7 @@ fn put_short(line: &mut [u8], at: usize, n: u64) -> usize
 }
 
 // Puts a number at a place of the line, two digits a turn from its last to its first, and answers the place behind it.
+#[inline(never)]
 #[tactic(auto, using(crate::proofs::Numbers::filling))]
 fn put_long(line: &mut [u8], at: usize, n: u64) -> usize
     requires { at + length (decimal n) ≤ length line.old }
@@ -100,6 +101,7 @@ fn put_long(line: &mut [u8], at: usize, n: u64) -> usize
 }
 
 // Puts a number at a place of the line, and answers the place behind it. Most are short, and a short one is put without counting its digits.
+#[inline]
 #[tactic(auto, using(crate::proofs::Numbers::three_digits))]
 pub fn put_number(line: &mut [u8], at: usize, n: u64) -> usize
     requires { at + length (decimal n) ≤ length line.old }
