@@ -115,7 +115,7 @@ fn take_line<T: Tells>(
     line: &[u8],
     frame: &mut [u8],
     out: &mut [u8],
-    tell: &T,
+    tell: &mut T,
 ) -> Fed
     requires { let long = room_sizes (length links.old) room.old in
         (map_refusal base fed.progress.rec links.old room.old.pairs.now long ≡ 0)
@@ -159,7 +159,7 @@ pub fn feed<T: Tells>(
     line: &mut [u8],
     out: &mut [u8],
     piece: &[u8],
-    tell: &T,
+    tell: &mut T,
 ) -> Fed
     requires { IsReady progress links.old (lent_in room.old) line.old }
     ensures same { IsSameRoom room.old room.new }
@@ -177,7 +177,7 @@ pub fn feed<T: Tells>(
     let mut frame = [0u8; notice::FRAME_LIMIT];
     while now.used < piece.len() {
         let before = now.progress;
-        if line_buffer::is_stopped(tell, before.lines, now.written, out.len()) {
+        if line_buffer::is_stopped(&*tell, before.lines, now.written, out.len()) {
             return now;
         }
         let part = line_buffer::hold_part(line, piece, now.used, before.held);
@@ -206,7 +206,7 @@ pub fn finish<T: Tells>(
     room: &mut Room<'_>,
     line: &[u8],
     out: &mut [u8],
-    tell: &T,
+    tell: &mut T,
 ) -> Fed
     requires { IsReady progress links.old (lent_in room.old) line.now }
     ensures same { IsSameRoom room.old room.new }
@@ -222,7 +222,7 @@ pub fn finish<T: Tells>(
     if progress.held == 0 {
         return fed;
     }
-    if line_buffer::is_stopped(tell, progress.lines, 0, out.len()) {
+    if line_buffer::is_stopped(&*tell, progress.lines, 0, out.len()) {
         return fed;
     }
     let mut frame = [0u8; notice::FRAME_LIMIT];
