@@ -67,7 +67,7 @@ pub extern "C" fn zorpedi_feed(
         lines: *lines,
         held: *held,
     };
-    let fed = stream::feed(progress, links, &mut room, line, out, piece, &Reports);
+    let fed = stream::feed(progress, links, &mut room, line, out, piece, &mut Reports::new());
     let now = fed.progress;
     c_values::put_record(words, now.rec);
     *lines = now.lines;
@@ -134,7 +134,7 @@ pub extern "C" fn zorpedi_finish(
         lines: *lines,
         held: *held,
     };
-    let fed = stream::finish(progress, links, &mut room, line, out, &Reports);
+    let fed = stream::finish(progress, links, &mut room, line, out, &mut Reports::new());
     let now = fed.progress;
     c_values::put_record(words, now.rec);
     *lines = now.lines;

@@ -1,7 +1,7 @@
 -- Numbers in decimal: one step, length, characters, and that no two numbers are written alike. Assumes nothing.
 use mathlib.Core.Path.{◌≡◌, refl, sym, ap, ap₂, ◌∙◌}
 use mathlib.Core.Bool.{Bool, true}
-use mathlib.Core.List.{List, [], ◌∷◌, ◌++◌}
+use mathlib.Core.List.{List, [], ◌∷◌, ◌++◌, append_assoc}
 use Prim.Native.Nat.{ℕ, zero, suc, ◌+◌, ◌-◌, ◌*◌, ◌/◌, ◌%◌, ◌^◌, ◌≤◌, ◌<◌, zero-le}
 use native.Mathlib.Omega.{arith}
 use lib.Dec.{ltb}
@@ -9,7 +9,7 @@ use lib.ListN.{length, length-append}
 use borrow.Author.Tests.{lt-ltb}
 use Rattle.std.proofs.lemmas.Bool.{and_parts, and_from}
 use Rattle.lists.specs.Lists.{allb}
-use Rattle.decimal.specs.Decimal.{numeral, spell, decimal}
+use Rattle.decimal.specs.Decimal.{numeral, spell, decimal, two_digits}
 
 -- ---- one step
 
@@ -51,6 +51,22 @@ decimal_more zero h = absurd (omega arith)
 decimal_more (suc m) h =
     ap (λ (r : List ℕ). r ++ (numeral (suc m % 10) ∷ []))
     (spell_enough m (suc m / 10) (suc m / 10) (omega arith) (omega arith) ∙ sym (decimal-spell (suc m / 10) (omega arith)))
+
+-- two digits alone, and two behind those of a shorter number
+pub decimal_two : (n : ℕ) → 10 ≤ n → n < 100 → decimal n ≡ two_digits n
+unfolding two_digits
+decimal_two n h k = decimal_more n h ∙ ap (λ (r : List ℕ). r ++ (numeral (n % 10) ∷ [])) (decimal_one (n / 10) (omega arith))
+
+pub decimal_hundred : (n : ℕ) → 100 ≤ n → decimal n ≡ decimal (n / 100) ++ two_digits (n % 100)
+unfolding two_digits
+decimal_hundred n h =
+    let q : n / 10 / 10 ≡ n / 100 = omega arith in
+    let c : n / 10 % 10 ≡ n % 100 / 10 = omega arith in
+    let d : n % 10 ≡ n % 100 % 10 = omega arith in
+    decimal_more n (omega arith)
+    ∙ ap (λ (r : List ℕ). r ++ (numeral (n % 10) ∷ [])) (decimal_more (n / 10) (omega arith))
+    ∙ append_assoc (decimal (n / 10 / 10)) (numeral (n / 10 % 10) ∷ []) (numeral (n % 10) ∷ [])
+    ∙ ap₂ (λ (m : ℕ) (r : List ℕ). decimal m ++ r) q (ap₂ (λ (x y : ℕ). numeral x ∷ numeral y ∷ []) c d)
 
 -- ---- length
 

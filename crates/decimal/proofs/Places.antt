@@ -6,7 +6,8 @@ use native.Mathlib.Nat.{zero-add}
 use native.Mathlib.Numerals.{add-one}
 use native.Mathlib.Omega.{arith}
 use lib.ListN.{length, set, take, drop, length-append, length-take, length-drop, take-append-drop}
-use lib.Seq.{length-take-le, set-append_left, set_split, take_at, take-set-lt, take-suc-set, drop-append-add, drop-drop}
+use lib.Seq.{length-take-le, set_split, take_at, drop-append_seam, drop-append-add, drop-drop}
+use Rattle.std.proofs.lemmas.List.{take-append-le, take-take}
 use Rattle.lists.specs.Lists.{overwrite}
 use Rattle.decimal.specs.Placed.{Placed}
 
@@ -19,23 +20,25 @@ placed_none at old =
     let n : at ≡ at + 0 = omega arith in
     record { behind = n; is = sym (take-append-drop at old) ∙ ap (λ (k : ℕ). take at old ++ drop k old) n }
 
--- a byte before a text
-pub placed_before : {text old mid : List ℕ} {at end : ℕ} (x : ℕ) → Placed text (at + 1) old end mid → at < length old → Placed (x ∷ text) at old end (set mid at x)
-placed_before {text} {old} {mid} {at} x w h =
-    let front = take (at + 1) old in
-    let rest = text ++ drop (at + 1 + length text) old in
-    let n : length front ≡ at + 1 = length-take-le (at + 1) old (omega arith) in
-    let m : at + 1 + length text ≡ at + length (x ∷ text) = omega arith in
-    let f : set front at x ≡ take at old ++ (x ∷ []) =
-    sym (take-set-lt (at + 1) old at x (omega arith)) ∙ ap (λ (k : ℕ). take k (set old at x)) (add-one at) ∙ take-suc-set old at x h in
+-- a text before another
+pub placed_before : {a text old mid new : List ℕ} {at seam end : ℕ} → Placed text seam old end mid → Placed a at mid seam new → seam ≤ length old → Placed (a ++ text) at old end new
+placed_before {a} {text} {old} {mid} {new} {at} {seam} w v h =
+    let front = take seam old in
+    let rest = text ++ drop (seam + length text) old in
+    let n : length front ≡ seam = length-take-le seam old h in
+    let q : seam ≡ at + length a = v.behind in
+    let m : seam + length text ≡ at + length (a ++ text) = omega (arith, q, length-append a text) in
+    let f : take at mid ≡ take at old =
+    ap (take at) w.is ∙ take-append-le at front rest (omega (arith, n, q)) ∙ take-take at seam old (omega (arith, q)) in
+    let d : drop (at + length a) mid ≡ rest =
+    ap (λ (k : ℕ). drop k mid) (sym (n ∙ q)) ∙ ap (drop (length front)) w.is ∙ drop-append_seam front rest in
     record {
-      behind = omega (arith, w.behind);
+      behind = w.behind ∙ m;
       is =
-          ap (λ (r : List ℕ). set r at x) w.is
-          ∙ set-append_left front rest at x (omega (arith, n))
-          ∙ ap (λ (r : List ℕ). r ++ rest) f
-          ∙ append_assoc (take at old) (x ∷ []) rest
-          ∙ ap (λ (k : ℕ). take at old ++ (x ∷ text ++ drop k old)) m;
+          v.is
+          ∙ ap₂ (λ (x y : List ℕ). x ++ (a ++ y)) f d
+          ∙ ap (λ (r : List ℕ). take at old ++ r) (sym (append_assoc a text (drop (seam + length text) old)))
+          ∙ ap (λ (k : ℕ). take at old ++ ((a ++ text) ++ drop k old)) m;
     }
 
 -- the size of the buffer stays

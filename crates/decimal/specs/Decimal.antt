@@ -16,6 +16,10 @@ unfoldable pub decimal : ℕ → List ℕ
 decimal zero = numeral 0 ∷ []
 decimal (suc m) = spell (suc m) (suc m)
 
+-- the two digits of a number below 100, a zero where it has one
+unfoldable pub two_digits : ℕ → List ℕ
+two_digits n = numeral (n / 10) ∷ numeral (n % 10) ∷ []
+
 -- a field behind the first: one space before it
 unfoldable pub field : List ℕ → List ℕ
 field text = 32 ∷ text

@@ -5,7 +5,7 @@
 #![tactic(auto)]
 
 ghost use Rattle.std.specs.Prelude.{◌≡◌, ◌+◌, ◌^◌, ◌≤◌, ◌<◌, length};
-ghost use Rattle.decimal.specs.Decimal.{decimal, field};
+ghost use Rattle.decimal.specs.Decimal.{decimal, field, two_digits};
 ghost use Rattle.decimal.specs.Placed.{Placed};
 ghost use Rattle.decimal.specs.Front.{front_of};
 ghost use Rattle.decimal.specs.Strip.{goes_on, strip_decimal};
@@ -57,23 +57,65 @@ fn digits(n: u64) -> usize
     10 + few_digits(n / 10000000000)
 }
 
-// Puts a number at a place of the line, from its last digit to its first, and answers the place behind it.
+// Puts the two digits of a number below 100 at a place of the line, a zero where it has one.
+fn put_two(line: &mut [u8], at: usize, n: u64)
+    requires { (n < 100) × (at + 2 ≤ length line.old) }
+    ensures { Placed (two_digits n) at line.old (at + 2) line.new }
+{
+    line[at] = 48 + (n / 10) as u8;
+    line[at + 1] = 48 + (n % 10) as u8;
+}
+
+// Puts a number below 100 at a place of the line, and answers the place behind it.
+#[tactic(auto, using(crate::proofs::Numbers::short_numbers))]
+fn put_short(line: &mut [u8], at: usize, n: u64) -> usize
+    requires { (n < 100) × (at + length (decimal n) ≤ length line.old) }
+    ensures { Placed (decimal n) at line.old result line.new }
+{
+    if n < 10 {
+        line[at] = 48 + n as u8;
+        return at + 1;
+    }
+    put_two(line, at, n);
+    at + 2
+}
+
+// Puts a number at a place of the line, two digits a turn from its last to its first, and answers the place behind it.
+#[inline(never)]
 #[tactic(auto, using(crate::proofs::Numbers::filling))]
-pub fn put_number(line: &mut [u8], at: usize, n: u64) -> usize
+fn put_long(line: &mut [u8], at: usize, n: u64) -> usize
     requires { at + length (decimal n) ≤ length line.old }
     ensures { Placed (decimal n) at line.old result line.new }
 {
     let end = at + digits(n);
-    // The number says when its digits end, not the place: a for over the places would divide once more, for the first digit.
-    let mut i = end - 1;
+    // The number says when its digits end, not the place: a for over the places would divide once more, for the first digits.
+    let mut i = end;
     let mut m = n;
-    while 10 <= m {
-        line[i] = 48 + (m % 10) as u8;
-        m /= 10;
-        i -= 1;
+    while 100 <= m {
+        i -= 2;
+        put_two(line, i, m % 100);
+        m /= 100;
     }
-    line[i] = 48 + m as u8;
+    put_short(line, at, m);
     end
+}
+
+// Puts a number at a place of the line, and answers the place behind it. Most are short, and a short one is put without counting its digits.
+#[inline]
+#[tactic(auto, using(crate::proofs::Numbers::three_digits))]
+pub fn put_number(line: &mut [u8], at: usize, n: u64) -> usize
+    requires { at + length (decimal n) ≤ length line.old }
+    ensures { Placed (decimal n) at line.old result line.new }
+{
+    if n < 100 {
+        return put_short(line, at, n);
+    }
+    if n < 1000 {
+        line[at] = 48 + (n / 100) as u8;
+        put_two(line, at + 1, n % 100);
+        return at + 3;
+    }
+    put_long(line, at, n)
 }
 
 // Puts a space and a number at a place of the line.

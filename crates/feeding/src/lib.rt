@@ -24,7 +24,7 @@ fn answer<T: Tells, W: Fn(&[u8]) -> bool>(
     line: &mut [u8],
     out: &mut [u8],
     piece: &[u8],
-    tell: &T,
+    tell: &mut T,
     hand_on: &W,
 ) -> bool
     requires { IsReady progress.old links.old (lent_in room.old) line.old × W.IsAlwaysCallable hand_on.now }
@@ -40,7 +40,7 @@ fn answer<T: Tells, W: Fn(&[u8]) -> bool>(
         }
         rest = &rest[fed.used..];
     }
-    !line_buffer::is_stopped(tell, progress.lines, 0, out.len())
+    !line_buffer::is_stopped(&*tell, progress.lines, 0, out.len())
 }
 
 // How the reading of an input came to its end: nothing more was to be read, the input is whole, or a read failed.
@@ -69,7 +69,7 @@ pub fn answer_all<R: Read, T: Tells, W: Fn(&[u8]) -> bool>(
     out: &mut [u8],
     input: &mut [u8],
     from: &mut R,
-    tell: &T,
+    tell: &mut T,
     hand_on: &W,
 ) -> Ended
     requires { IsReady begun links.old (lent_in room.old) line.old × W.IsAlwaysCallable hand_on.now }
@@ -130,7 +130,7 @@ fn answer_input<T: Tells>(
     line: &mut [u8],
     out: &mut [u8],
     input: &mut [u8],
-    tell: &T,
+    tell: &mut T,
     names: Names<'_>,
 )
     requires { IsReady progress links.old (lent_in room.old) line.old }
@@ -152,7 +152,7 @@ fn answer_input<T: Tells>(
 }
 
 // Answers standard input from an empty map.
-pub fn run<T: Tells>(rt: &HostRuntime, tell: &T, names: Names<'_>) {
+pub fn run<T: Tells>(rt: &HostRuntime, tell: &mut T, names: Names<'_>) {
     let mut links = [0u64; map::TABLE];
     let mut pairs = [0u64; map::TABLE];
     let mut hops = [0u16; map::PLACES];

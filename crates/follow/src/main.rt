@@ -15,5 +15,5 @@ fn main(rt: HostRuntime) {
         input: b"follow: standard input",
         output: b"follow: standard output",
     };
-    feeding::run(&rt, &Reports, names);
+    feeding::run(&rt, &mut Reports::new(), names);
 }

@@ -10,7 +10,7 @@ ghost use Rattle.report.specs.Line.{buffer_limit, report_line};
 ghost use Rattle.transcript.specs.Manner.{Manner, as_reports};
 ghost use Rattle.line_buffer.specs.Lines.{StandsWhole, holding, part_left, part_from, report_of, pasted, is_stopped};
 
-use report::ReportFields;
+use report::{KeptTexts, ReportFields};
 use update::Returned;
 
 // What the line buffer took of a piece: the place behind it, the bytes held then, and whether the line ended.
@@ -147,7 +147,7 @@ pub trait Tells {
         ensures { result ≡ manner.room };
 
     // Writes the text of a line's answer, by the frame that the line spells, if any, and its report, behind what is written; and answers the place behind it.
-    fn put(&self, out: &mut [u8], at: usize, read: Option<&[u8]>, report: ReportFields) -> usize
+    fn put(&mut self, out: &mut [u8], at: usize, read: Option<&[u8]>, report: ReportFields) -> usize
         requires room { at + manner.room ≤ length out.old }
         requires read { IfSome read (λ f. 3 ≤ length f.now) }
         ensures { let told = manner.text (option_copied read.entry) report in
@@ -156,8 +156,20 @@ pub trait Tells {
             × (result ≤ length out.new) };
 }
 
-// Tells each answer as its report.
-pub struct Reports;
+// Tells each answer as its report. What the next may have like the last one is kept.
+#[derive(Clone, Copy)]
+pub struct Reports {
+    kept: KeptTexts,
+}
+
+impl Reports {
+    // Those of a stream that begins anywhere.
+    pub fn new() -> Self {
+        Reports {
+            kept: KeptTexts::new(),
+        }
+    }
+}
 
 impl Tells for Reports {
     ghost manner = { as_reports };
@@ -166,21 +178,21 @@ impl Tells for Reports {
         report::BUFFER_LIMIT
     }
 
-    fn put(&self, out: &mut [u8], at: usize, _: Option<&[u8]>, report: ReportFields) -> usize {
-        put_report(out, at, report)
+    fn put(&mut self, out: &mut [u8], at: usize, _: Option<&[u8]>, report: ReportFields) -> usize {
+        put_report(&mut self.kept, out, at, report)
     }
 }
 
 // Writes a report behind what is written, and answers the place behind it.
 #[tactic(auto, using(crate::proofs::Putting::report_put_laws))]
-fn put_report(out: &mut [u8], at: usize, report: ReportFields) -> usize
+fn put_report(kept: &mut KeptTexts, out: &mut [u8], at: usize, report: ReportFields) -> usize
     requires { at + buffer_limit ≤ length out.old }
     ensures { let line = report_line report in
         (out.new ≡ pasted line at out.old)
         × (result ≡ at + length line)
         × (result ≤ length out.new) }
 {
-    at + report::write_report(&mut out[at..], report).unwrap()
+    at + report::write_report_by(kept, &mut out[at..], report).unwrap()
 }
 
 // The report of line `number`.

@@ -16,5 +16,5 @@ fn main(rt: HostRuntime) {
         input: b"narrate: standard input",
         output: b"narrate: standard output",
     };
-    feeding::run(&rt, &Sentences, names);
+    feeding::run(&rt, &mut Sentences::new(), names);
 }

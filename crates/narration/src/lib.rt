@@ -13,8 +13,20 @@ use line_buffer::{Reports, Tells};
 use report::ReportFields;
 use sentences::{Event, Said};
 
-// Tells each outcome as a sentence.
-pub struct Sentences;
+// Tells each outcome as a sentence, and a line without an event as its report.
+#[derive(Clone, Copy)]
+pub struct Sentences {
+    reports: Reports,
+}
+
+impl Sentences {
+    // Those of a stream that begins anywhere.
+    pub fn new() -> Self {
+        Sentences {
+            reports: Reports::new(),
+        }
+    }
+}
 
 impl Tells for Sentences {
     ghost manner = { as_sentences };
@@ -24,10 +36,10 @@ impl Tells for Sentences {
     }
 
     #[tactic(auto, unfolding(crate::specs::Narration::sentence_text))]
-    fn put(&self, out: &mut [u8], at: usize, read: Option<&[u8]>, report: ReportFields) -> usize {
+    fn put(&mut self, out: &mut [u8], at: usize, read: Option<&[u8]>, report: ReportFields) -> usize {
         match read {
             Some(frame) => put_sentence(out, at, said_on(event_in(frame), report)),
-            None => Reports.put(out, at, None, report),
+            None => self.reports.put(out, at, None, report),
         }
     }
 }

@@ -2,7 +2,7 @@
 use mathlib.Core.Path.{◌≡◌, refl, sym, ap, ap₂, ◌∙◌}
 use mathlib.Core.Bool.{Bool, true, false, cond}
 use mathlib.Core.List.{List, [], ◌∷◌}
-use Prim.Native.Nat.{ℕ, ◌+◌, ◌^◌, ◌≤◌, ◌<◌, zero-le}
+use Prim.Native.Nat.{ℕ, ◌+◌, ◌≤◌, ◌<◌, zero-le}
 use native.Mathlib.Nat.{zero-add}
 use native.Mathlib.Omega.{arith}
 use lib.Dec.{ltb}
@@ -20,10 +20,10 @@ use Rattle.std.specs.Prelude.{Result, Ok, Err}
 use Rattle.std.specs.Result.{result_unwrap_or}
 use Rattle.decimal.specs.Decimal.{decimal, field}
 use Rattle.decimal.specs.Placed.{Placed}
-use Rattle.decimal.proofs.Decimals.{decimal_word, decimal_half, decimal_byte}
+use Rattle.decimal.proofs.Decimals.{decimal_word, decimal_byte}
 use Rattle.decimal.proofs.Places.{placed_byte, placed_join, placed_text, placed_end, placed_whole}
-use Rattle.decimal.proofs.Numbers.{field-length}
 use Rattle.report.specs.declared.ReportFields.{ReportFields}
+use Rattle.report.proofs.Texts.{figures_most}
 use Rattle.report.specs.Line.{outcome_text, figures_text, report_line, buffer_limit, report_done, report_refused, ReportLeft, report_left, written_of, report_call, handed_back}
 
 -- ---- the outcome
@@ -48,30 +48,6 @@ refused_placed o at old {n} {l} e k w h =
     (ap (λ (x : ℕ). 32 ∷ x ∷ decimal n) (k ∙ ap letter_of e) ∙ sym (ap (λ (p : Outcome). field (outcome_text p)) e))
 
 pub ruleset outcome_put = (accepted_placed, refused_placed, decimal_byte, length-set)
-
--- ---- the figures
-
-pub figures_length : (r : ReportFields) → length (figures_text r) ≡ length (field (decimal r.depots)) + length (field (decimal r.chain)) + length (field (decimal r.pairs)) + length (field (decimal r.searches))
-unfolding figures_text
-figures_length r = simp length-append (omega arith)
-
--- within the widths the figures take at most 29 bytes
-pub figures_most : (r : ReportFields) → r.depots < 2 ^ 16 → r.chain < 2 ^ 16 → r.pairs < 2 ^ 32 → r.searches < 2 ^ 16 → length (figures_text r) ≤ 29
-figures_most r d c p s =
-    omega (
-      arith,
-      figures_length r,
-      field-length (decimal r.depots),
-      field-length (decimal r.chain),
-      field-length (decimal r.pairs),
-      field-length (decimal r.searches),
-      decimal_half r.depots d,
-      decimal_half r.chain c,
-      decimal_word r.pairs p,
-      decimal_half r.searches s,
-    )
-
-pub ruleset figures_put = (figures_length, placed_join)
 
 -- ---- the call
 

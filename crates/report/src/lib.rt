@@ -5,8 +5,11 @@
 ghost use Rattle.std.specs.Prelude.{◌≡◌, map, ◌+◌, ◌≤◌, length};
 ghost use Rattle.decimal.specs.Decimal.{field};
 ghost use Rattle.decimal.specs.Placed.{Placed};
-ghost use Rattle.report.specs.Line.{outcome_text, figures_text, written_of, report_left, report_call, handed_back};
+ghost use Rattle.report.specs.Line.{outcome_text, written_of, report_left, report_call, handed_back};
 
+mod kept;
+
+pub use kept::KeptTexts;
 use outcome::{Outcome, Refusal};
 
 // the bytes that a line is lent; in specifications `buffer_limit`
@@ -23,20 +26,31 @@ pub struct ReportFields {
     pub searches: u16,
 }
 
-// Writes the line of a report at the start of the caller's buffer, and answers its length.
+// Writes the line of a report at the start of the caller's buffer, and answers its length. What the line has like those before it is kept, and copied.
 #[tactic(auto, using(crate::proofs::Lines::written), unfolding(crate::specs::Line::written_of))]
-pub fn write_report(line: &mut [u8], report: ReportFields) -> Result<usize, Refusal>
+pub fn write_report_by(
+    kept: &mut KeptTexts,
+    line: &mut [u8],
+    report: ReportFields,
+) -> Result<usize, Refusal>
     ensures { report_left (written_of result) line.new ≡ report_call report line.old }
 {
     if line.len() < BUFFER_LIMIT {
         return Err(Refusal::Short);
     }
     let outcome = report.outcome;
-    let a = decimal::put_number(line, 0, report.number as u64);
+    let a = kept.tens.put(line, 0, report.number);
     let b = put_outcome(line, a, outcome);
-    let end = put_figures(line, b, report);
+    let end = kept.figures.put(line, b, report);
     line[end] = 10;
     Ok(end + 1)
+}
+
+// The same for a single line, of which nothing is kept.
+pub fn write_report(line: &mut [u8], report: ReportFields) -> Result<usize, Refusal>
+    ensures { report_left (written_of result) line.new ≡ report_call report line.old }
+{
+    write_report_by(&mut KeptTexts::new(), line, report)
 }
 
 // The same, with the written part handed back as a part of the caller's buffer, and the whole buffer
@@ -64,16 +78,4 @@ fn put_outcome(line: &mut [u8], at: usize, outcome: Outcome) -> usize
         Outcome::Accepted(_) => at + 2,
         Outcome::Refused(n) => decimal::put_number(line, at + 2, n as u64),
     }
-}
-
-// Puts the figures of a report at a place of the line.
-#[tactic(auto, using(crate::proofs::Lines::figures_put), unfolding(crate::specs::Line::figures_text))]
-fn put_figures(line: &mut [u8], at: usize, report: ReportFields) -> usize
-    requires { at + length (figures_text report) ≤ length line.old }
-    ensures { Placed (figures_text report) at line.old result line.new }
-{
-    let a = decimal::put_field(line, at, report.depots as u64);
-    let b = decimal::put_field(line, a, report.chain as u64);
-    let c = decimal::put_field(line, b, report.pairs as u64);
-    decimal::put_field(line, c, report.searches as u64)
 }

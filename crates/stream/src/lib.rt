@@ -118,7 +118,7 @@ fn take_line<T: Tells>(
     room: &mut Room<'_>,
     read: Option<&[u8]>,
     out: &mut [u8],
-    tell: &T,
+    tell: &mut T,
 )
     requires free { let long = room_sizes (length links.old) room.old in
         (map_refusal base fed.old.progress.rec links.old room.old.pairs.now long ≡ 0)
@@ -155,7 +155,7 @@ pub fn feed<T: Tells>(
     line: &mut [u8],
     out: &mut [u8],
     piece: &[u8],
-    tell: &T,
+    tell: &mut T,
 ) -> Fed
     requires { IsReady progress links.old (lent_in room.old) line.old }
     ensures same { IsSameRoom room.old room.new }
@@ -172,7 +172,7 @@ pub fn feed<T: Tells>(
     };
     let mut frame = [0u8; notice::FRAME_LIMIT];
     while now.used < piece.len() {
-        if line_buffer::is_stopped(tell, now.progress.lines, now.written, out.len()) {
+        if line_buffer::is_stopped(&*tell, now.progress.lines, now.written, out.len()) {
             return now;
         }
         let taken = line_buffer::take_part(line, &mut frame, piece, now.used, now.progress.held);
@@ -195,7 +195,7 @@ pub fn finish<T: Tells>(
     room: &mut Room<'_>,
     line: &[u8],
     out: &mut [u8],
-    tell: &T,
+    tell: &mut T,
 ) -> Fed
     requires { IsReady progress links.old (lent_in room.old) line.now }
     ensures same { IsSameRoom room.old room.new }
@@ -211,7 +211,7 @@ pub fn finish<T: Tells>(
     if progress.held == 0 {
         return fed;
     }
-    if line_buffer::is_stopped(tell, progress.lines, 0, out.len()) {
+    if line_buffer::is_stopped(&*tell, progress.lines, 0, out.len()) {
         return fed;
     }
     let mut frame = [0u8; notice::FRAME_LIMIT];

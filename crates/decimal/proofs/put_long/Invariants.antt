@@ -1,7 +1,7 @@
--- `decimal::put_number` meets its contract: from the last digit to the first, each before those that stand. The measure is what is left of the
+-- `decimal::put_long` meets its contract: from the last digit to the first, two a turn, each pair before those that stand. The measure is what is left of the
 -- number.
 use Rattle.decimal.proofs.Numbers.{Filling}
-use Rattle.decimal.proofs.put_number.Given as goal
+use Rattle.decimal.proofs.put_long.Given as goal
 
 abbrev pub invariant-loop-m : goal.invariant-loop-m
 invariant-loop-m l = Filling l.n l.at l.end l.initial.line l.line l.i l.m

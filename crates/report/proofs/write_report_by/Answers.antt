@@ -1,14 +1,15 @@
--- `report::write_report` meets its contract: number, outcome, figures and ending are put one behind another, and 45 bytes hold them all.
+-- `report::write_report_by` meets its contract: number, outcome, figures and ending are put one behind another, and 45 bytes hold them all.
 use native.Mathlib.Omega.{arith}
 use lib.ListN.{length}
 use Prim.Native.Nat.{◌≤◌}
 use Rattle.decimal.specs.Decimal.{decimal}
 use Rattle.decimal.proofs.Decimals.{decimal_word}
 use Rattle.report.specs.Line.{figures_text, written_of}
-use Rattle.report.proofs.Lines.{figures_most, report_done_lem, line_placed}
+use Rattle.report.proofs.Texts.{figures_most}
+use Rattle.report.proofs.Lines.{report_done_lem, line_placed}
 use borrow.Author.Rules.{rules}
-use Rattle.report.proofs.write_report.Goals as goal
-use Rattle.report.proofs.write_report.Goals.{Start}
+use Rattle.report.proofs.write_report_by.Goals as goal
+use Rattle.report.proofs.write_report_by.Goals.{Start}
 
 -- the fields of the report have their widths, so number and figures take at most 10 and 29 bytes
 number_fits : (c : Start) → length (decimal c.args.report.number) ≤ 10
@@ -20,5 +21,5 @@ figures-fit c = figures_most c.args.report (search rules) (search rules) (search
 pub returns : goal.returns
 unfolding written_of
 returns c =
-    report_done_lem _ (line_placed _ c.put_number-a.ensures c.put_outcome-b.ensures.0
-    c.put_figures-end.ensures (omega (arith, number_fits (goal.at.returns c).Start, figures-fit (goal.at.returns c).Start))) (omega arith)
+    report_done_lem _ (line_placed _ c.put-a.ensures c.put_outcome-b.ensures.0
+    c.put-end.ensures (omega (arith, number_fits (goal.at.returns c).Start, figures-fit (goal.at.returns c).Start))) (omega arith)

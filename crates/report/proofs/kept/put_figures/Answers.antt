@@ -1,8 +1,8 @@
--- `report::put_figures` meets its contract: the four fields, each behind the one before it.
+-- `report::kept::put_figures` meets its contract: the four fields, each behind the one before it.
 use native.Mathlib.Omega.{arith}
 use Rattle.decimal.proofs.Places.{placed_join}
 use Rattle.report.specs.Line.{figures_text}
-use Rattle.report.proofs.put_figures.Goals as goal
+use Rattle.report.proofs.kept.put_figures.Goals as goal
 
 pub returns : goal.returns
 unfolding figures_text
