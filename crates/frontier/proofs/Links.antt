@@ -163,9 +163,9 @@ module _ (W : ℕ) (links : List ℕ) (k : ℕ) where
       ap (λ (r : List ℕ). overwrite r hops)
       (fill_ext (λ v. cond (S v) k (get_or hops v 0)) (λ v. cond (R v) k (get_or hops v 0)) (64 * W) (λ v m. ap (λ (b : Bool). cond b k (get_or hops v 0)) (h v m)))
 
-  hop-none : (hops : List ℕ) → 64 * W ≤ length hops → hops ≡ hop_set W k (λ u. false) hops
+  pub hop_none : (hops : List ℕ) → 64 * W ≤ length hops → hops ≡ hop_set W k (λ u. false) hops
   unfolding hop_set
-  hop-none hops m = fill_whole (λ v. get_or hops v 0) (64 * W) hops m (λ v h. refl)
+  hop_none hops m = fill_whole (λ v. get_or hops v 0) (64 * W) hops m (λ v h. refl)
 
   pub hop_one : (v : ℕ) (hops : List ℕ) → v < 64 * W → 64 * W ≤ length hops → set hops v k ≡ hop_set W k (λ u. eqb u v) hops
   unfolding hop_set
@@ -203,7 +203,7 @@ module _ (W : ℕ) (links : List ℕ) (k : ℕ) where
 
     pub visit_none : (f : Four) (hops : List ℕ) → AreWords f → 64 * W ≤ length hops → reached f hops ≡ visit (λ u. false) (reached f hops)
     unfolding reach_set
-    visit_none f hops i m = side_ext (word_none j f.a i.a_fits) (word_none (j + 1) f.b i.b_fits) (word_none (j + 2) f.c i.c_fits) (word_none (j + 3) f.d i.d_fits) (hop-none hops m)
+    visit_none f hops i m = side_ext (word_none j f.a i.a_fits) (word_none (j + 1) f.b i.b_fits) (word_none (j + 2) f.c i.c_fits) (word_none (j + 3) f.d i.d_fits) (hop_none hops m)
 
     pub visit_both : (S R : ℕ → Bool) (B : Reached) → visit R (visit S B) ≡ visit (λ u. S u || R u) B
     unfolding reach_set

@@ -1,7 +1,7 @@
--- The two passes over next in a step: without the codes that are seen, and passed on. Assumes nothing.
-use mathlib.Core.Path.{◌≡◌, refl, sym, ap, ap₂, ◌∙◌, subst}
+-- The two passes over next in a step: the codes left are taken, and next goes into the other row. Assumes nothing.
+use mathlib.Core.Path.{◌≡◌, refl, sym, ap, ap₂, ◌∙◌}
 use mathlib.Core.Logic.{◌⊎◌, inl, inr}
-use mathlib.Core.Bool.{Bool, true, false, not, ◌||◌}
+use mathlib.Core.Bool.{Bool, true, false, not, ◌&&◌}
 use mathlib.Core.List.{List}
 use Prim.Native.Nat.{ℕ, ◌+◌, ◌-◌, ◌*◌, ◌^◌, ◌≤◌, ◌<◌}
 use native.Mathlib.Nat.{lt_irrefl}
@@ -10,103 +10,128 @@ use lib.Bits.{bit_and, bit_or, or_add_and, and_le_l, and_le_r}
 use lib.Count.{count_trailing_zeros}
 use lib.Dec.{eqb}
 use lib.ListN.{length, get_or, set, length-set}
-use lib.Seq.{get_or-set_same}
 use borrow.Author.Tests.{eq-eqb, ne_eqb}
 use Rattle.std.proofs.lemmas.Bool.{cases_lt}
 use Rattle.lists.specs.Lists.{range, anyb, overwrite}
 use Rattle.lists.proofs.Members.{any_none, any_intro, range_in, range_out}
 use Rattle.words.specs.Bits.{bit, word_of}
 use Rattle.words.specs.Least.{IsLeast}
-use Rattle.words.proofs.Bits.{bit_of_zero, bit-word_of, word_of_lt}
+use Rattle.words.proofs.Bits.{bit_of_zero, bit_and_lem, bit-word_of, word_of_ext, word_is, word_minus}
 use Rattle.words.proofs.Lowest.{least_is}
-use Rattle.rows.specs.Rows.{row_bit, table_bit, encode_row}
-use Rattle.rows.proofs.Written.{encode_row_word, table_zero}
-use Rattle.rows.proofs.Wholes.{encode_row_ext}
-use Rattle.rows.proofs.Turns.{turn_none, turn_copy, turn_union, turn_minus}
-use Rattle.frontier.specs.Steps.{is_unseen, unseen, unseen_of, passed, pass_on}
+use Rattle.rows.specs.Rows.{row_bit, encode_row}
+use Rattle.rows.proofs.Written.{row_word}
+use Rattle.rows.proofs.Turns.{turn_none, turn_more, turn_next, turn_copy}
+use Rattle.frontier.specs.Steps.{is_taken, taken, take_of}
 
--- ---- next without the codes that are seen
+-- ---- the codes left are taken
 
-module _ (W : ℕ) (seen next₀ : List ℕ) where
+module _ (W : ℕ) (next₀ left₀ : List ℕ) where
   abbrev new : ℕ → Bool
-  new = is_unseen W seen next₀
+  new = is_taken W next₀ left₀
 
-  -- the first j words have been kept, and their or is `all`
-  pub record Keeping (next : List ℕ) (all j : ℕ) : Type 0 where
+  abbrev staying : ℕ → Bool
+  staying v = row_bit W left₀ v && not (new v)
+
+  -- the first j words have been taken, and their or is `all`
+  pub record Taking (next left : List ℕ) (all j : ℕ) : Type 0 where
     pub within : j ≤ W
-    pub same : length next ≡ length next₀
+    pub next_same : length next ≡ length next₀
+    pub left_same : length left ≡ length left₀
     pub next_is : next ≡ overwrite (encode_row j new) next₀
+    pub left_is : left ≡ overwrite (encode_row j staying) left₀
     pub none : all ≡ 0 → (v : ℕ) → v < 64 * j → new v ≡ false
     pub some : 0 < all → anyb new (range (64 * W)) ≡ true
 
-  pub keep-start : Keeping next₀ 0 0
-  keep-start = record {
+  pub take_start : Taking next₀ left₀ 0 0
+  take_start = record {
     within = omega arith;
-    same = refl;
+    next_same = refl;
+    left_same = refl;
     next_is = turn_none new next₀;
+    left_is = turn_none staying left₀;
     none = λ e v l. absurd (lt_irrefl v (omega arith));
     some = λ l. absurd (lt_irrefl 0 l);
   }
 
-  module _ (next : List ℕ) (all j : ℕ) (I : Keeping next all j) (h : j < W) (l : j < length next₀) (a : get_or next j 0 < 2 ^ 64) (b : get_or seen j 0 < 2 ^ 64) where
-    -- the word that is stored
+  module _ (next left : List ℕ) (all j : ℕ) (I : Taking next left all j) (h : j < W) (l : j < length next₀) (m : j < length left₀)
+      (a : get_or next j 0 < 2 ^ 64) (b : get_or left j 0 < 2 ^ 64) where
+    -- the word that is stored, and what is left
     abbrev x : ℕ
-    x = bit_and (get_or next j 0) ((2 ^ 64 - 1) - get_or seen j 0)
+    x = bit_and (get_or next j 0) (get_or left j 0)
 
-    stored : set next j x ≡ overwrite (encode_row (j + 1) new) next₀
-    unfolding is_unseen
-    stored = turn_minus W seen next₀ next j I.next_is l h a b
+    abbrev y : ℕ
+    y = bit_and (get_or left j 0) ((2 ^ 64 - 1) - x)
+
+    next_bit : (c : ℕ) → c < 64 → bit (get_or next j 0) c ≡ row_bit W next₀ (64 * j + c)
+    next_bit c n = ap (λ (r : ℕ). bit r c) (turn_next new next₀ next j I.next_is) ∙ sym (row_word W next₀ j c h n)
+
+    left_bit : (c : ℕ) → c < 64 → bit (get_or left j 0) c ≡ row_bit W left₀ (64 * j + c)
+    left_bit c n = ap (λ (r : ℕ). bit r c) (turn_next staying left₀ left j I.left_is) ∙ sym (row_word W left₀ j c h n)
+
+    x_fits : x < 2 ^ 64
+    x_fits = let p = and_le_l (get_or next j 0) (get_or left j 0) in omega arith
 
     x_is : x ≡ word_of 64 (λ c. new (64 * j + c))
+    unfolding is_taken
     x_is =
-        sym (get_or-set_same next j x 0 (omega (arith, I.same)))
-        ∙ ap (λ (r : List ℕ). get_or r j 0) stored ∙ encode_row_word (j + 1) new next₀ j (omega arith)
+        word_is 64 x (λ c. new (64 * j + c)) x_fits
+        (λ c n. bit_and_lem (get_or next j 0) (get_or left j 0) c ∙ ap₂ (λ (p q : Bool). p && q) (next_bit c n) (left_bit c n))
 
     x_bit : (c : ℕ) → c < 64 → new (64 * j + c) ≡ bit x c
-    x_bit c m = sym (ap (λ (r : ℕ). bit r c) x_is ∙ bit-word_of 64 (λ c. new (64 * j + c)) c m)
+    x_bit c n = sym (ap (λ (r : ℕ). bit r c) x_is ∙ bit-word_of 64 (λ c. new (64 * j + c)) c n)
+
+    y_is : y ≡ word_of 64 (λ c. staying (64 * j + c))
+    y_is =
+        word_minus 64 (get_or left j 0) x b x_fits
+        ∙ word_of_ext 64 (λ c. bit (get_or left j 0) c && not (bit x c)) (λ c. staying (64 * j + c))
+        (λ c n. ap₂ (λ (p q : Bool). p && not q) (left_bit c n) (sym (x_bit c n)))
 
     x_none : x ≡ 0 → (v : ℕ) → 64 * j ≤ v → v < 64 * (j + 1) → new v ≡ false
-    x_none e v m n =
-        let q : v ≡ 64 * j + (v - 64 * j) = omega arith in
-        ap new q ∙ x_bit (v - 64 * j) (omega arith) ∙ ap (λ (r : ℕ). bit r (v - 64 * j)) e ∙ bit_of_zero (v - 64 * j)
+    x_none e v p q =
+        let r : v ≡ 64 * j + (v - 64 * j) = omega arith in
+        ap new r ∙ x_bit (v - 64 * j) (omega arith) ∙ ap (λ (r : ℕ). bit r (v - 64 * j)) e ∙ bit_of_zero (v - 64 * j)
 
     x_some : 0 < x → anyb new (range (64 * W)) ≡ true
-    x_some m =
-        let p : IsLeast x (count_trailing_zeros 64 x) = least_is x m (subst (λ (r : ℕ). r < 2 ^ 64) (sym x_is) (word_of_lt 64 (λ c. new (64 * j + c)))) in
-        any_intro new (range (64 * W)) (range_in (64 * W) {v = 64 * j + count_trailing_zeros 64 x} (omega (arith, p.below))) (x_bit (count_trailing_zeros 64 x) p.below ∙ p.here)
+    x_some p =
+        let q : IsLeast x (count_trailing_zeros 64 x) = least_is x p x_fits in
+        any_intro new (range (64 * W)) (range_in (64 * W) {v = 64 * j + count_trailing_zeros 64 x} (omega (arith, q.below))) (x_bit (count_trailing_zeros 64 x) q.below ∙ q.here)
 
-    pub keep_next : Keeping (set next j (bit_and (get_or next j 0) ((2 ^ 64 - 1) - get_or seen j 0))) (bit_or all (bit_and (get_or next j 0) ((2 ^ 64 - 1) - get_or seen j 0))) (j + 1)
-    keep_next = record {
+    pub take_next : Taking (set next j x) (set left j y) (bit_or all x) (j + 1)
+    take_next = record {
       within = omega arith;
-      same = length-set next j x ∙ I.same;
-      next_is = stored;
-      none = λ e v m.
+      next_same = length-set next j x ∙ I.next_same;
+      left_same = length-set left j y ∙ I.left_same;
+      next_is = turn_more new next₀ next j x I.next_is l x_is;
+      left_is = turn_more staying left₀ left j y I.left_is m y_is;
+      none = λ e v n.
           (let s = or_add_and all x in
           let p = and_le_l all x in
           let q = and_le_r all x in
-          on (omega arith) (omega arith) v m (cases_lt v (64 * j)));
-      some = λ m. (let s = or_add_and all x in left m s (cases_lt 0 all));
+          on (omega arith) (omega arith) v n (cases_lt v (64 * j)));
+      some = λ n. (let s = or_add_and all x in more n s (cases_lt 0 all));
     }
       where
         on : all ≡ 0 → x ≡ 0 → (v : ℕ) → v < 64 * (j + 1) → (v < 64 * j) ⊎ (64 * j ≤ v) → new v ≡ false
-        on p q v m (inl n) = I.none p v n
-        on p q v m (inr n) = x_none q v n m
+        on p q v n (inl o) = I.none p v o
+        on p q v n (inr o) = x_none q v o n
 
-        left : 0 < bit_or all x → bit_or all x + bit_and all x ≡ all + x → (0 < all) ⊎ (all ≤ 0) → anyb new (range (64 * W)) ≡ true
-        left m s (inl n) = I.some n
-        left m s (inr n) = x_some (omega arith)
+        more : 0 < bit_or all x → bit_or all x + bit_and all x ≡ all + x → (0 < all) ⊎ (all ≤ 0) → anyb new (range (64 * W)) ≡ true
+        more n s (inl o) = I.some o
+        more n s (inr o) = x_some (omega arith)
 
-  module _ (next : List ℕ) (all j : ℕ) (I : Keeping next all j) (h : W ≤ j) where
+  module _ (next left : List ℕ) (all j : ℕ) (I : Taking next left all j) (h : W ≤ j) where
     whole : j ≡ W
     whole = omega (arith, I.within)
 
-    next_whole : next ≡ overwrite (encode_row W new) next₀
-    next_whole = I.next_is ∙ ap (λ (n : ℕ). overwrite (encode_row n new) next₀) whole
-
-    -- whether one is left
-    pub keep_end : unseen (not (eqb all 0)) next ≡ unseen_of W seen next₀
-    unfolding unseen_of
-    keep_end = ap₂ unseen (go (cases_lt 0 all)) next_whole
+    -- whether one is taken
+    pub take_end : taken (not (eqb all 0)) next left ≡ take_of W next₀ left₀
+    unfolding take_of
+    take_end =
+        rw (
+          go (cases_lt 0 all),
+          I.next_is ∙ ap (λ (n : ℕ). overwrite (encode_row n new) next₀) whole,
+          I.left_is ∙ ap (λ (n : ℕ). overwrite (encode_row n staying) left₀) whole,
+        )
       where
         under : (v : ℕ) → v < 64 * W → v < 64 * j
         under v n = omega arith
@@ -118,51 +143,31 @@ module _ (W : ℕ) (seen next₀ : List ℕ) where
             rw (eq-eqb all 0 e) (sym (any_none new (range (64 * W)) (λ v n. I.none e v (under v (range_out (64 * W) n)))))
 
 -- the start and the end of the walk
-pub ruleset keeping = (keep-start, keep_end)
+pub ruleset taking = (take_start, take_end)
 
 -- ---- next passed on
 
-module _ (W : ℕ) (next other₀ seen₀ : List ℕ) where
-  -- the first j words stand in the other row, and are seen
-  pub record Passing (other seen : List ℕ) (j : ℕ) : Type 0 where
+module _ (W : ℕ) (next other₀ : List ℕ) where
+  -- the first j words stand in the other row
+  pub record Passing (other : List ℕ) (j : ℕ) : Type 0 where
     pub within : j ≤ W
-    pub other_same : length other ≡ length other₀
-    pub seen_same : length seen ≡ length seen₀
+    pub same : length other ≡ length other₀
     pub other_is : other ≡ overwrite (encode_row j (row_bit W next)) other₀
-    pub seen_is : seen ≡ overwrite (encode_row j (λ v. row_bit W seen₀ v || row_bit W next v)) seen₀
 
-  pub pass_start : Passing other₀ seen₀ 0
-  pass_start = record {
+  pub pass_start : Passing other₀ 0
+  pass_start = record { within = omega arith; same = refl; other_is = turn_none (row_bit W next) other₀ }
+
+  pub pass_next : (other : List ℕ) (j : ℕ) → Passing other j → j < W → j < length other₀ → get_or next j 0 < 2 ^ 64 → Passing (set other j (get_or next j 0)) (j + 1)
+  pass_next other j I h l a = record {
     within = omega arith;
-    other_same = refl;
-    seen_same = refl;
-    other_is = turn_none (row_bit W next) other₀;
-    seen_is = turn_none (λ v. row_bit W seen₀ v || row_bit W next v) seen₀;
+    same = length-set other j (get_or next j 0) ∙ I.same;
+    other_is = turn_copy W next other₀ other j I.other_is l h a;
   }
 
-  -- `turn_union` speaks of a row of a table, here row 0
-  as_table : (j : ℕ) → encode_row j (λ v. row_bit W seen₀ v || row_bit W next v) ≡ encode_row j (λ v. row_bit W seen₀ v || table_bit W next 0 v)
-  as_table j = encode_row_ext j (λ v. row_bit W seen₀ v || row_bit W next v) (λ v. row_bit W seen₀ v || table_bit W next 0 v) (λ v m. ap (λ (b : Bool). row_bit W seen₀ v || b) (sym (table_zero W next v)))
-
-  pub pass_next : (other seen : List ℕ) (j : ℕ) → Passing other seen j → j < W → j < length other₀ → j < length seen₀ → get_or next j 0 < 2 ^ 64 → get_or seen j 0 < 2 ^ 64
-      → Passing (set other j (get_or next j 0)) (set seen j (bit_or (get_or seen j 0) (get_or next j 0))) (j + 1)
-  pass_next other seen j I h lo ls a b =
-      let q : W * 0 + j ≡ j = omega arith in
-      record {
-        within = omega arith;
-        other_same = length-set other j (get_or next j 0) ∙ I.other_same;
-        seen_same = length-set seen j (bit_or (get_or seen j 0) (get_or next j 0)) ∙ I.seen_same;
-        other_is = turn_copy W next other₀ other j I.other_is lo h a;
-        seen_is =
-            subst (λ (i : ℕ). set seen j (bit_or (get_or seen j 0) (get_or next i 0)) ≡ overwrite (encode_row (j + 1) (λ v. row_bit W seen₀ v || table_bit W next 0 v)) seen₀) q
-            (turn_union W next 0 seen₀ seen j (omega arith) (I.seen_is ∙ ap (λ (r : List ℕ). overwrite r seen₀) (as_table j)) ls h b (subst (λ (i : ℕ). get_or next i 0 < 2 ^ 64) (sym q) a))
-            ∙ ap (λ (r : List ℕ). overwrite r seen₀) (sym (as_table (j + 1)));
-      }
-
-  pub pass_end : (other seen : List ℕ) (j : ℕ) → Passing other seen j → W ≤ j → passed other seen ≡ pass_on W next (passed other₀ seen₀)
-  unfolding pass_on
-  pass_end other seen j I h =
+  pub pass_end : (other : List ℕ) (j : ℕ) → Passing other j → W ≤ j → other ≡ overwrite (encode_row W (row_bit W next)) other₀
+  pass_end other j I h =
       let e : j ≡ W = omega (arith, I.within) in
-      ap₂ passed
-      (I.other_is ∙ ap (λ (n : ℕ). overwrite (encode_row n (row_bit W next)) other₀) e)
-      (I.seen_is ∙ ap (λ (n : ℕ). overwrite (encode_row n (λ v. row_bit W seen₀ v || row_bit W next v)) seen₀) e)
+      I.other_is ∙ ap (λ (n : ℕ). overwrite (encode_row n (row_bit W next)) other₀) e
+
+-- the start and the end of the copy
+pub ruleset passing = (pass_start, pass_end)

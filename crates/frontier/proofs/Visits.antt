@@ -1,29 +1,28 @@
 -- The loops of a visit: over the set bits of a word, the words of a layer, and the fours of a row. Assumes nothing.
 use mathlib.Core.Path.{◌≡◌, refl, sym, ap, ap₂, ◌∙◌}
 use mathlib.Core.Logic.{◌≢◌, ◌⊎◌, inl, inr}
-use mathlib.Core.Bool.{Bool, true, false, cond, not, ◌&&◌, ◌||◌, or-false, or_self, and-not_self}
+use mathlib.Core.Bool.{Bool, true, false, cond, not, ◌&&◌, ◌||◌, or_self, and-not_self}
 use mathlib.Core.List.{List}
-use Prim.Native.Nat.{ℕ, ◌+◌, ◌*◌, ◌/◌, ◌%◌, ◌≤◌, ◌<◌}
+use Prim.Native.Nat.{ℕ, ◌+◌, ◌*◌, ◌≤◌, ◌<◌}
 use native.Mathlib.Nat.{lt_irrefl}
 use native.Mathlib.Omega.{arith}
 use lib.Dec.{eqb, ltb}
 use lib.ListN.{length, get_or, set}
-use borrow.Author.Tests.{eqb-true, eqb-false, eq-eqb, ne_eqb, lt-ltb, le-ltb}
-use Rattle.std.proofs.lemmas.Bool.{cases_Bool, and_parts, cases_lt, cases_eq}
+use borrow.Author.Tests.{lt-ltb, le-ltb}
+use Rattle.std.proofs.lemmas.Bool.{cases_lt, cases_eq}
 use Rattle.lists.specs.Lists.{range, mapl, overwrite}
-use Rattle.lists.proofs.Tests.{clash}
 use Rattle.lists.proofs.Fills.{fill_more}
 use Rattle.words.specs.Bits.{bit, word_of}
 use Rattle.words.specs.Least.{IsLeast, WithoutLeast}
-use Rattle.words.proofs.Bits.{bit_of_zero, bit-word_of, word_of_ext}
+use Rattle.words.proofs.Bits.{bit_of_zero, word_of_ext}
 use Rattle.rows.specs.Rows.{row_bit, encode_row, in_word}
-use Rattle.rows.proofs.Written.{row_in}
 use Rattle.rows.proofs.Turns.{turn_none}
 use Rattle.frontier.specs.declared.Four.{Four}
 use Rattle.frontier.specs.declared.Visit.{Visit}
 use Rattle.frontier.specs.Steps.{reaches, hop_set, link_word, Reached, reached, reach_set, AreWords, no_words, put_word, visited, visit_of}
 use Rattle.frontier.specs.Visits.{IsSameVisit, Goes}
 use Rattle.frontier.proofs.Links.{put_here, put_past, linked_to, hop_ext, hop_both}
+use Rattle.frontier.proofs.Members.{bits_inside, bits_one, bits_all, words_one}
 use Rattle.frontier.proofs.Goes.{same_visit, same_after, goes_none, goes_ext, goes_both, goes_fits, goes_as}
 
 module _ (j : ℕ) where
@@ -43,63 +42,18 @@ module _ (j : ℕ) where
 
     -- the least bit is visited, and leaves
     module _ (x y b : ℕ) (l : IsLeast x b) (d : WithoutLeast x y) where
-      left : (c : ℕ) → c < 64 → bit y c ≡ (bit x c && not (eqb c b))
-      left c m = ap (λ (r : ℕ). bit r c) (d.rest b l) ∙ bit-word_of 64 (λ c. bit x c && not (eqb c b)) c m
-
-      same_member : (u : ℕ) → eqb (u / 64) w ≡ true → eqb u (64 * w + b) ≡ eqb (u % 64) b
-      same_member u e = go (eqb-true (u / 64) w e) (cases_eq (u % 64) b)
-        where
-          go : u / 64 ≡ w → (u % 64 ≡ b) ⊎ (u % 64 ≢ b) → eqb u (64 * w + b) ≡ eqb (u % 64) b
-          go h (inl q) = eq-eqb u (64 * w + b) (omega arith) ∙ sym (eq-eqb (u % 64) b q)
-          go h (inr q) = ne_eqb u (64 * w + b) (λ p. q (omega arith)) ∙ sym (ne_eqb (u % 64) b q)
-
-      other_word : (u : ℕ) → eqb (u / 64) w ≡ false → eqb u (64 * w + b) ≡ false
-      other_word u e = ne_eqb u (64 * w + b) (λ p. eqb-false (u / 64) w e (omega (arith, l.below)))
-
-      bits_one : ((c : ℕ) → c < 64 → bit x c ≡ true → bit word c ≡ true) → (u : ℕ)
-          → ((in_word w word u && not (in_word w x u)) || eqb u (64 * w + b)) ≡ (in_word w word u && not (in_word w y u))
-      unfolding in_word
-      bits_one inside u = go (cases_Bool (eqb (u / 64) w))
-        where
-          small : u % 64 < 64
-          small = omega arith
-
-          tests : (a p e : Bool) → (p ≡ true → a ≡ true) → (e ≡ true → p ≡ true) → ((a && not p) || e) ≡ (a && not (p && not e))
-          tests true true true f g = refl
-          tests true true false f g = refl
-          tests true false true f g = refl
-          tests true false false f g = refl
-          tests false true e f g = absurd (clash refl (sym (f refl)))
-          tests false false true f g = sym (g refl)
-          tests false false false f g = refl
-
-          go : (eqb (u / 64) w ≡ true) ⊎ (eqb (u / 64) w ≡ false)
-              → ((in_word w word u && not (in_word w x u)) || eqb u (64 * w + b)) ≡ (in_word w word u && not (in_word w y u))
-          go (inl e) =
-              rw (e, same_member u e, left (u % 64) small)
-              (tests (bit word (u % 64)) (bit x (u % 64)) (eqb (u % 64) b) (inside (u % 64) small) (λ q. rw (eqb-true (u % 64) b q) l.here))
-          go (inr e) = rw (e, other_word u e)
-
       pub bits_next : {v : Visit} {from : Four} {now : Visit} {got : Four} (now' : Visit) (got' : Four) → BitsVisited v from now got x
           → Goes j (λ u. eqb u (64 * w + b)) now got now' got' → BitsVisited v from now' got' y
       bits_next now' got' I e = record {
-        inside = λ c n t. I.inside c n (and_parts (bit x c) (not (eqb c b)) (sym (left c n) ∙ t)).0;
+        inside = bits_inside w word x y b l d I.inside;
         went =
             goes_ext j (λ u. (in_word w word u && not (in_word w x u)) || eqb u (64 * w + b)) (λ u. in_word w word u && not (in_word w y u))
-            (goes_both j (λ u. in_word w word u && not (in_word w x u)) (λ u. eqb u (64 * w + b)) I.went e) (λ u n. bits_one I.inside u);
+            (goes_both j (λ u. in_word w word u && not (in_word w x u)) (λ u. eqb u (64 * w + b)) I.went e) (λ u n. bits_one w word x y b l d I.inside u);
       }
 
     -- no bit is left
     pub bits_end : {v : Visit} {from : Four} {now : Visit} {got : Four} (x : ℕ) → BitsVisited v from now got x → x ≡ 0 → Goes j (in_word w word) v from now got
-    unfolding in_word
-    bits_end x I z =
-        goes_ext j (λ u. in_word w word u && not (in_word w x u)) (in_word w word) I.went
-        (λ u h. all (in_word w word u) (eqb (u / 64) w) (bit x (u % 64)) (rw z (bit_of_zero (u % 64))))
-      where
-        all : (a p q : Bool) → q ≡ false → (a && not (p && q)) ≡ a
-        all true true q e = rw e
-        all true false q e = refl
-        all false p q e = refl
+    bits_end x I z = goes_ext j (λ u. in_word w word u && not (in_word w x u)) (in_word w word) I.went (λ u h. bits_all w word x z u)
 
   -- ---- the words of a layer
 
@@ -118,20 +72,6 @@ module _ (j : ℕ) where
           (λ u h. rw (le-ltb u (64 * 0) (omega arith)));
     }
 
-    -- one word more
-    words_one : (W w : ℕ) → w < W → (u : ℕ) → u < 64 * W → ((ltb u (64 * w) && row_bit W layer u) || in_word w (get_or layer w 0) u) ≡ (ltb u (64 * (w + 1)) && row_bit W layer u)
-    unfolding in_word
-    words_one W w h u l = go (cases_lt u (64 * w)) (cases_lt u (64 * (w + 1)))
-      where
-        go : (u < 64 * w) ⊎ (64 * w ≤ u) → (u < 64 * (w + 1)) ⊎ (64 * (w + 1) ≤ u)
-            → ((ltb u (64 * w) && row_bit W layer u) || in_word w (get_or layer w 0) u) ≡ (ltb u (64 * (w + 1)) && row_bit W layer u)
-        go (inl a) c = rw (lt-ltb u (64 * w) a, lt-ltb u (64 * (w + 1)) (omega arith), ne_eqb (u / 64) w (λ q. lt_irrefl u (omega arith))) (or-false (row_bit W layer u))
-        go (inr a) (inl c) =
-            let q : u / 64 ≡ w = omega arith in
-            rw (le-ltb u (64 * w) a, lt-ltb u (64 * (w + 1)) c, eq-eqb (u / 64) w q)
-            (sym (row_in W layer u l ∙ ap (λ (i : ℕ). bit (get_or layer i 0) (u % 64)) q))
-        go (inr a) (inr c) = rw (le-ltb u (64 * w) a, le-ltb u (64 * (w + 1)) c, ne_eqb (u / 64) w (λ q. lt_irrefl u (omega arith)))
-
     pub words_fit : {v now : Visit} (got : Four) (w : ℕ) → WordsVisited v now got w → AreWords got
     words_fit {v} got w I = goes_fits j (λ u. ltb u (64 * w) && row_bit v.words layer u) I.went
 
@@ -141,7 +81,7 @@ module _ (j : ℕ) where
       within = omega arith;
       went =
           goes_ext j (λ u. (ltb u (64 * w) && row_bit v.words layer u) || in_word w (get_or layer w 0) u) (λ u. ltb u (64 * (w + 1)) && row_bit v.words layer u)
-          (goes_both j (λ u. ltb u (64 * w) && row_bit v.words layer u) (in_word w (get_or layer w 0)) I.went e) (words_one v.words w h);
+          (goes_both j (λ u. ltb u (64 * w) && row_bit v.words layer u) (in_word w (get_or layer w 0)) I.went e) (words_one layer v.words w h);
     }
 
     -- no word is left

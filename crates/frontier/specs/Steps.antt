@@ -1,6 +1,6 @@
 -- ONE STEP OF A SEARCH, over lists of words. Nobody has to believe these: `search_leaves` (crate `layers`) is proved of the whole.
 -- Assumes nothing.
-use Rattle.std.specs.Prelude.{Bool, cond, not, ◌&&◌, ◌||◌, List, [], ◌∷◌, ℕ, ◌+◌, ◌*◌, ◌^◌, ◌≤◌, ◌<◌, ltb, length, get_or, set}
+use Rattle.std.specs.Prelude.{Bool, cond, not, ◌&&◌, ◌||◌, List, [], ◌∷◌, ℕ, ◌+◌, ◌*◌, ◌%◌, ◌^◌, ◌≤◌, ◌<◌, eqb, ltb, length, get_or, set}
 use Rattle.std.specs.Int.Bits.{bit_or}
 use Rattle.lists.specs.Lists.{range, mapl, anyb, overwrite}
 use Rattle.words.specs.Bits.{bit, word_of}
@@ -11,9 +11,9 @@ use Rattle.frontier.specs.declared.Four.{Four}
 unfoldable pub reaches : ℕ → List ℕ → List ℕ → ℕ → Bool
 reaches W links layer v = anyb (λ u. row_bit W layer u && table_bit W links u v) (range (64 * W))
 
--- the codes that a member of the layer is linked to and that were not seen yet
+-- the codes that a member of the layer is linked to and that are left to reach
 unfoldable pub fresh : ℕ → List ℕ → List ℕ → List ℕ → ℕ → Bool
-fresh W links layer seen v = reaches W links layer v && not (row_bit W seen v)
+fresh W links layer left v = reaches W links layer v && row_bit W left v
 
 -- next and the hop table, as a visit changes them
 pub record Visited : Type 0 where
@@ -79,57 +79,68 @@ visit_of W links layer k B = record {
   hops = overwrite (mapl (λ v. cond (row_bit W layer v) k (get_or B.hops v 0)) (range (64 * W))) B.hops;
 }
 
--- the codes of next that are not seen
-unfoldable pub is_unseen : ℕ → List ℕ → List ℕ → ℕ → Bool
-is_unseen W seen next v = row_bit W next v && not (row_bit W seen v)
+-- the codes of next that are left
+unfoldable pub is_taken : ℕ → List ℕ → List ℕ → ℕ → Bool
+is_taken W next left v = row_bit W next v && row_bit W left v
 
--- next with these alone; `some`: there is one
-pub record Unseen : Type 0 where
+-- next with these alone, and the row left without them; `some`: there is one
+pub record Taken : Type 0 where
   pub some : Bool
   pub next : List ℕ
+  pub left : List ℕ
 
-abbrev pub unseen : Bool → List ℕ → Unseen
-unseen b n = record { some = b; next = n }
+abbrev pub taken : Bool → List ℕ → List ℕ → Taken
+taken b n l = record { some = b; next = n; left = l }
 
-unfoldable pub unseen_of : ℕ → List ℕ → List ℕ → Unseen
-unseen_of W seen next =
-    let new = is_unseen W seen next in
-    unseen (anyb new (range (64 * W))) (overwrite (encode_row W new) next)
-
--- next made the other row's, and seen
-pub record Passed : Type 0 where
-  pub other : List ℕ
-  pub seen : List ℕ
-
-abbrev pub passed : List ℕ → List ℕ → Passed
-passed o s = record { other = o; seen = s }
-
-unfoldable pub pass_on : ℕ → List ℕ → Passed → Passed
-pass_on W next B = record {
-  other = overwrite (encode_row W (row_bit W next)) B.other;
-  seen = overwrite (encode_row W (λ v. row_bit W B.seen v || row_bit W next v)) B.seen;
-}
+unfoldable pub take_of : ℕ → List ℕ → List ℕ → Taken
+take_of W next left =
+    let new = is_taken W next left in
+    taken
+    (anyb new (range (64 * W)))
+    (overwrite (encode_row W new) next)
+    (overwrite (encode_row W (λ v. row_bit W left v && not (new v))) left)
 
 -- one step from the layer at distance k to the next one, which goes into the other row; `more`: there is a next layer
 pub record Stepped : Type 0 where
   pub more : Bool
   pub hops : List ℕ
   pub other : List ℕ
-  pub seen : List ℕ
 
-abbrev pub stepped : Bool → List ℕ → List ℕ → List ℕ → Stepped
-stepped b h o s = record { more = b; hops = h; other = o; seen = s }
+abbrev pub stepped : Bool → List ℕ → List ℕ → Stepped
+stepped b h o = record { more = b; hops = h; other = o }
 
 unfoldable pub step_of : ℕ → List ℕ → List ℕ → ℕ → List ℕ → List ℕ → List ℕ → Stepped
-step_of W links layer k hops other seen =
-    let new = fresh W links layer seen in
+step_of W links layer k hops other left =
+    let new = fresh W links layer left in
     let more = anyb new (range (64 * W)) in
     record {
       more = more;
       hops = overwrite (mapl (λ v. cond (row_bit W layer v) k (get_or hops v 0)) (range (64 * W))) hops;
       other = cond more (overwrite (encode_row W new) other) other;
-      seen = cond more (overwrite (encode_row W (λ v. row_bit W seen v || new v)) seen) seen;
     }
+
+-- the codes left after it, where there is a next layer
+unfoldable pub left_after : ℕ → List ℕ → List ℕ → List ℕ → List ℕ
+left_after W links layer left = overwrite (encode_row W (λ v. row_bit W left v && not (fresh W links layer left v))) left
+
+-- of two rows, the one that holds layer k: the layers at even distance pass through the first
+unfoldable pub row_of : ℕ → List ℕ → List ℕ → List ℕ
+row_of k even odd = cond (eqb (k % 2) 0) even odd
+
+-- a step by turns: from the row that holds layer k into the other one
+pub record Turned : Type 0 where
+  pub more : Bool
+  pub hops : List ℕ
+  pub even : List ℕ
+  pub odd : List ℕ
+
+abbrev pub turned : Bool → List ℕ → List ℕ → List ℕ → Turned
+turned b h e o = record { more = b; hops = h; even = e; odd = o }
+
+unfoldable pub turn_of : ℕ → List ℕ → ℕ → List ℕ → List ℕ → List ℕ → List ℕ → Turned
+turn_of W links k hops even odd left =
+    let S = step_of W links (row_of k even odd) k hops (row_of k odd even) left in
+    turned S.more S.hops (row_of k even S.other) (row_of k S.other odd)
 
 -- the sizes that the inner functions ask: W words in each row, a row of links and a hop for each code
 pub record SearchRoom (W : ℕ) (links hops : List ℕ) : Type 0 where

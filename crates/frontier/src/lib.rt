@@ -3,12 +3,12 @@
 
 #![tactic(auto)]
 
-ghost use Rattle.std.specs.Prelude.{◌≡◌, not, ◌||◌, ◌+◌, ◌*◌, ◌<◌, ◌≤◌, eqb, length};
+ghost use Rattle.std.specs.Prelude.{◌≡◌, true, not, ◌||◌, ◌+◌, ◌*◌, ◌<◌, ◌≤◌, eqb, length};
 ghost use Rattle.lists.specs.Lists.{overwrite};
 ghost use Rattle.words.specs.Bits.{bit, word_of};
 ghost use Rattle.rows.specs.Rows.{row_bit, table_bit, encode_row, in_word};
-ghost use Rattle.frontier.specs.Steps.{SearchRoom, AreWords, no_words, put_word, visited, visit_of, unseen, unseen_of, passed};
-ghost use Rattle.frontier.specs.Steps.{pass_on, stepped, step_of, four_list, union_of};
+ghost use Rattle.frontier.specs.Steps.{SearchRoom, AreWords, no_words, put_word, hop_set, visited, visit_of, taken, take_of};
+ghost use Rattle.frontier.specs.Steps.{stepped, step_of, left_after, row_of, turned, turn_of, four_list, union_of};
 
 // Four words side by side. They are passed by value, so that a walk keeps them in registers whatever tables lie beside them.
 #[derive(Clone, Copy)]
@@ -30,62 +30,51 @@ fn put_word(row: &mut [u64], words: usize, j: usize, x: u64)
     }
 }
 
-// Takes the codes that are seen out of next, and answers whether one is left: the or of all words tells by one test at the end.
-#[tactic(auto, using(crate::proofs::Passes::keeping))]
-fn keep_unseen(seen: &[u64], next: &mut [u64], words: usize) -> bool
-    requires { (words ≤ length next.old) × (words ≤ length seen.now) }
-    ensures { unseen result next.new ≡ unseen_of words seen.now next.old }
+// Takes the codes that are not left out of next, and those of next out of those left. Answers whether next has one: the or of all its words tells by
+// one test at the end.
+#[tactic(auto, using(crate::proofs::Passes::taking))]
+fn take_left(left: &mut [u64], next: &mut [u64], words: usize) -> bool
+    requires { (words ≤ length left.old) × (words ≤ length next.old) }
+    ensures { taken result next.new left.new ≡ take_of words next.old left.old }
 {
     let mut all: u64 = 0;
     for j in 0..words {
-        let x = next[j] & !seen[j];
+        let x = next[j] & left[j];
         next[j] = x;
+        left[j] &= !x;
         all |= x;
     }
     all != 0
 }
 
-// Puts next into the other row, and its codes among those seen.
-#[tactic(auto, using(crate::proofs::Passes::pass_end))]
-fn pass_on(other: &mut [u64], seen: &mut [u64], next: &[u64], words: usize)
-    requires { (words ≤ length other.old) × (words ≤ length seen.old) × (words ≤ length next.now) }
-    ensures { passed other.new seen.new ≡ pass_on words next.now (passed other.old seen.old) }
+// Puts next into the other row.
+#[tactic(auto, using(crate::proofs::Passes::passing))]
+fn pass_on(other: &mut [u64], next: &[u64], words: usize)
+    requires { (words ≤ length other.old) × (words ≤ length next.now) }
+    ensures { other.new ≡ overwrite (encode_row words (row_bit words next.now)) other.old }
 {
     for j in 0..words {
-        let x = next[j];
-        other[j] = x;
-        seen[j] |= x;
+        other[j] = next[j];
     }
 }
 
 // ---- rows of four words
 
-// The codes of got that are not among the first four words seen.
-#[tactic(auto, using(crate::proofs::Straight::four_kept))]
-fn keep_four(seen: &[u64], got: Four) -> Four
-    requires { (4 ≤ length seen.now) × AreWords got }
-    ensures { unseen (not (eqb (union_of result) 0)) (four_list result) ≡ unseen_of 4 seen.now (four_list got) }
+// The codes of got that are left in the first four words of a row, which are taken out of it.
+#[tactic(auto, using(crate::proofs::Straight::four_taken))]
+fn take_four(left: &mut [u64], got: Four) -> Four
+    requires { (4 ≤ length left.old) × AreWords got }
+    ensures { taken (not (eqb (union_of result) 0)) (four_list result) left.new ≡ take_of 4 (four_list got) left.old }
 {
-    Four {
-        a: got.a & !seen[0],
-        b: got.b & !seen[1],
-        c: got.c & !seen[2],
-        d: got.d & !seen[3],
-    }
-}
-
-// The first four words of a row, and the codes of next besides.
-#[tactic(auto, using(crate::proofs::Straight::four_both))]
-fn with_four(row: &[u64], next: Four) -> Four
-    requires { (4 ≤ length row.now) × AreWords next }
-    ensures { four_list result ≡ encode_row 4 (λ v. row_bit 4 row.now v || row_bit 4 (four_list next) v) }
-{
-    Four {
-        a: row[0] | next.a,
-        b: row[1] | next.b,
-        c: row[2] | next.c,
-        d: row[3] | next.d,
-    }
+    let a = got.a & left[0];
+    left[0] &= !a;
+    let b = got.b & left[1];
+    left[1] &= !b;
+    let c = got.c & left[2];
+    left[2] &= !c;
+    let d = got.d & left[3];
+    left[3] &= !d;
+    Four { a, b, c, d }
 }
 
 // Makes the first four words of a row these.
@@ -98,6 +87,16 @@ fn put_four(row: &mut [u64], next: Four)
     row[1] = next.b;
     row[2] = next.c;
     row[3] = next.d;
+}
+
+// ---- two rows by turns
+
+// Of two rows, the one that holds layer k: the layers at even distance pass through the first.
+#[tactic(auto, unfolding(crate::specs::Steps::row_of))]
+fn row_of<'a>(even: &'a [u64], odd: &'a [u64], k: u16) -> &'a [u64]
+    ensures { result.now ≡ row_of k even.now odd.now }
+{
+    if k % 2 == 0 { even } else { odd }
 }
 
 // ---- a visit
@@ -208,75 +207,117 @@ impl Visit<'_> {
         }
     }
 
+    // Gives the members that word w of a layer holds the hop k.
+    #[tactic(auto, using(crate::proofs::Marks::marks_start))]
+    fn mark_word(&mut self, w: usize, word: u64)
+        requires { w < self.old.words }
+        ensures same { IsSameVisit self.old self.new }
+        ensures marked { self.new.hops.now ≡ hop_set self.old.words self.old.k (in_word w word) self.old.hops.now }
+    {
+        let mut x = word;
+        while x != 0 {
+            self.hops[64 * w + words::least(x)] = self.k;
+            x = words::drop_least(x);
+        }
+    }
+
+    // Gives the members of a layer the hop k. It is the last one, so that no row of links is read: on the worst maps that is half of all rows.
+    #[tactic(auto, using(crate::proofs::Marks::layer_start))]
+    fn mark_layer(&mut self, layer: &[u64])
+        requires { self.old.words ≤ length layer.now }
+        ensures same { IsSameVisit self.old self.new }
+        ensures marked { let W = self.old.words in
+            self.new.hops.now ≡ hop_set W self.old.k (row_bit W layer.now) self.old.hops.now }
+    {
+        for w in 0..self.words {
+            self.mark_word(w, layer[w]);
+        }
+    }
+
     // The step for rows of any width: what is next goes through the row that is lent for it.
     fn step_wide(
         &mut self,
         layer: &[u64],
         other: &mut [u64],
-        seen: &mut [u64],
+        left: &mut [u64],
         next: &mut [u64],
     ) -> bool
         requires { (self.old.words ≤ length layer.now)
             × (self.old.words ≤ length other.old)
-            × (self.old.words ≤ length seen.old)
+            × (self.old.words ≤ length left.old)
             × (self.old.words ≤ length next.old) }
         ensures same { IsSameVisit self.old self.new }
-        ensures stepped { stepped result self.new.hops.now other.new seen.new
-            ≡ step_of self.old.words self.old.links.now layer.now self.old.k self.old.hops.now other.old seen.old }
+        ensures stepped { stepped result self.new.hops.now other.new
+            ≡ step_of self.old.words self.old.links.now layer.now self.old.k self.old.hops.now other.old left.old }
+        ensures left { result ≡ true → left.new ≡ left_after self.old.words self.old.links.now layer.now left.old }
     {
         let words = self.words;
-        self.reach_next(layer, next);
-        if !keep_unseen(&*seen, next, words) {
+        if rows::is_empty(&*left, words) {
+            self.mark_layer(layer);
             return false;
         }
-        pass_on(other, seen, &*next, words);
+        self.reach_next(layer, next);
+        if !take_left(left, next, words) {
+            return false;
+        }
+        pass_on(other, &*next, words);
         true
     }
 
     // The step for rows of four words: what is next stays in registers, and is looked at once.
-    #[tactic(auto, using(crate::proofs::Straight::straight_none, crate::proofs::Straight::straight_fits))]
-    fn step_four(&mut self, layer: &[u64], other: &mut [u64], seen: &mut [u64]) -> bool
+    fn step_four(&mut self, even: &mut [u64], odd: &mut [u64], left: &mut [u64]) -> bool
         requires { (self.old.words ≡ 4)
-            × (4 ≤ length layer.now)
-            × (4 ≤ length other.old)
-            × (4 ≤ length seen.old) }
+            × (4 ≤ length even.old)
+            × (4 ≤ length odd.old)
+            × (4 ≤ length left.old) }
         ensures same { IsSameVisit self.old self.new }
-        ensures stepped { stepped result self.new.hops.now other.new seen.new
-            ≡ step_of self.old.words self.old.links.now layer.now self.old.k self.old.hops.now other.old seen.old }
+        ensures turned { turned result self.new.hops.now even.new odd.new
+            ≡ turn_of self.old.words self.old.links.now self.old.k self.old.hops.now even.old odd.old left.old }
+        ensures left { let layer = row_of self.old.k even.old odd.old in
+            result ≡ true → left.new ≡ left_after self.old.words self.old.links.now layer left.old }
     {
-        let got = self.reach_layer(layer, 0);
-        let next = keep_four(&*seen, got);
+        let k = self.k;
+        if rows::is_empty(&*left, 4) {
+            self.mark_layer(row_of(&*even, &*odd, k));
+            return false;
+        }
+        let got = self.reach_layer(row_of(&*even, &*odd, k), 0);
+        let next = take_four(left, got);
         if next.a | next.b | next.c | next.d == 0 {
             return false;
         }
-        put_four(other, next);
-        let all = with_four(&*seen, next);
-        put_four(seen, all);
+        if k % 2 == 0 {
+            put_four(odd, next);
+            return true;
+        }
+        put_four(even, next);
         true
     }
 }
 
 // ---- the step
 
-// One step of a search, from the layer at distance k to the next one, which goes into the other row and is seen.
-// Answers whether there is a next layer. What stands in next afterwards is free.
+// One step of a search, from the layer at distance k to the next one: the row of k's parity holds the layer, and the other one takes the next, whose codes
+// leave `left`. Answers whether there is a next layer. Where there is none, what stands in left afterwards is free, and in next it always is.
 pub fn step(
     links: &[u64],
     hops: &mut [u16],
-    layer: &[u64],
-    other: &mut [u64],
-    seen: &mut [u64],
+    even: &mut [u64],
+    odd: &mut [u64],
+    left: &mut [u64],
     next: &mut [u64],
     words: usize,
     k: u16,
 ) -> bool
     requires { SearchRoom words links.now hops.old
-        × (words ≤ length layer.now)
-        × (words ≤ length other.old)
-        × (words ≤ length seen.old)
+        × (words ≤ length even.old)
+        × (words ≤ length odd.old)
+        × (words ≤ length left.old)
         × (words ≤ length next.old) }
-    ensures { stepped result hops.new other.new seen.new
-        ≡ step_of words links.now layer.now k hops.old other.old seen.old }
+    ensures turned { turned result hops.new even.new odd.new
+        ≡ turn_of words links.now k hops.old even.old odd.old left.old }
+    ensures left { let layer = row_of k even.old odd.old in
+        result ≡ true → left.new ≡ left_after words links.now layer left.old }
 {
     let mut visit = Visit {
         links,
@@ -285,7 +326,10 @@ pub fn step(
         k,
     };
     if words == 4 {
-        return visit.step_four(layer, other, seen);
+        return visit.step_four(even, odd, left);
     }
-    visit.step_wide(layer, other, seen, next)
+    if k % 2 == 0 {
+        return visit.step_wide(&*even, odd, left, next);
+    }
+    visit.step_wide(&*odd, even, left, next)
 }

@@ -92,7 +92,7 @@ fn shrink(
         ≡ ran_by base (plan_network base.words plan.entry) (rounds M (length M.depots) (round M a (start way))) (lent_in room.old) }
 {
     let mut ranks = [0u16; map::PLACES];
-    let mut seen = [0u64; map::WORDS];
+    let mut left = [0u64; map::WORDS];
     let mut next = [0u64; map::WORDS];
     let pairs = &mut *room.pairs;
     let hops = &mut *room.hops;
@@ -131,12 +131,13 @@ fn shrink(
         Some(limit),
     );
     let mut desk = Desk {
-        seen: &mut seen,
+        left: &mut left,
         next: &mut next,
         partners: &mut *partners,
         ranks: &mut ranks,
     };
     rounds::run_rounds(
+        plan.members,
         plan.targets,
         plan.links,
         room,
@@ -236,7 +237,7 @@ pub fn refigure(plan: Plan<'_>, room: &mut Room<'_>, a: usize, stored: Farthest)
         even: &mut *even,
         odd: &mut *odd,
     };
-    let depth = search::search_sound(plan.links, &mut scratch, a);
+    let depth = search::search_sound(plan.members, plan.links, &mut scratch, a);
     let span = rounds::reach_by(
         plan.targets,
         &*hops,

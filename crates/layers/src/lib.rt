@@ -2,69 +2,80 @@
 
 #![tactic(auto)]
 
-ghost use Rattle.std.specs.Prelude.{◌≡◌, ◌*◌, ◌<◌, ◌≤◌, length};
+ghost use Rattle.std.specs.Prelude.{◌≡◌, not, ◌&&◌, ◌*◌, ◌<◌, ◌≤◌, length};
+ghost use Rattle.lists.specs.Lists.{overwrite};
+ghost use Rattle.rows.specs.Rows.{row_bit, encode_row};
 ghost use Rattle.layers.specs.Layers.{searched, search_table};
 ghost use Rattle.map.specs.Slices.{tables_in, IsSameScratch};
 ghost use Rattle.frontier.specs.Steps.{SearchRoom};
-ghost use Rattle.layers.specs.Begin.{search_begun, search_begin_of};
+ghost use Rattle.layers.specs.Begin.{HoldsEnds, search_begun, search_begin_of};
 
 use map::Scratch;
 
-// The start of a search: no hop, the start alone in the even row and seen.
+// Makes left the members that the row first does not have.
+#[tactic(auto, using(crate::proofs::Leaving::leaving))]
+fn leave_others(left: &mut [u64], members: &[u64], first: &[u64], words: usize)
+    requires { (words ≤ length left.old) × (words ≤ length members.now) × (words ≤ length first.now) }
+    ensures { left.new ≡ overwrite (encode_row words (λ v. row_bit words members.now v && not (row_bit words first.now v))) left.old }
+{
+    for j in 0..words {
+        left[j] = members[j] & !first[j];
+    }
+}
+
+// The start of a search: no hop, the start alone in the even row, all other members left.
 #[tactic(auto, using(crate::proofs::Searching::alone, crate::proofs::Searching::begin_is))]
-fn begin(scratch: &mut Scratch<'_>, seen: &mut [u64], words: usize, start: usize)
+fn begin(members: &[u64], scratch: &mut Scratch<'_>, left: &mut [u64], words: usize, start: usize)
     requires { (0 < words)
         × (words < 513)
+        × (words ≤ length members.now)
         × (64 * words ≤ length scratch.old.hops.now)
         × (words ≤ length scratch.old.even.now)
         × (words ≤ length scratch.old.odd.now)
-        × (words ≤ length seen.old)
+        × (words ≤ length left.old)
         × (start < 64 * words) }
     ensures same { IsSameScratch scratch.old scratch.new }
-    ensures begun { search_begun (tables_in scratch.new) seen.new ≡ search_begin_of words start (tables_in scratch.old) seen.old }
+    ensures begun { search_begun (tables_in scratch.new) left.new
+        ≡ search_begin_of words members.now start (tables_in scratch.old) left.old }
 {
     rows::fill(scratch.hops, 64 * words, map::UNREACHED);
-    rows::clear(scratch.even, words);
     rows::clear(scratch.odd, words);
-    rows::clear(seen, words);
-    rows::row_set(scratch.even, words, 0, start);
-    rows::row_set(seen, words, 0, start);
+    let even = &mut *scratch.even;
+    rows::clear(even, words);
+    rows::row_set(even, words, 0, start);
+    leave_others(left, members, &*even, words);
 }
 
-// A search from start over any table of links: hop table and layer rows, and the distance of the last layer.
-// What stands in seen and next afterwards is free.
+// A search from start over any table of links, whose bits all stand for members: hop table and layer rows, and the distance of the last layer. The members
+// that are not reached yet are left; where none is, the layer just made is the last one. What stands in left and next afterwards is free.
 pub fn search_table(
+    members: &[u64],
     links: &[u64],
     scratch: &mut Scratch<'_>,
-    seen: &mut [u64],
+    left: &mut [u64],
     next: &mut [u64],
     words: usize,
     start: usize,
 ) -> u16
     requires { SearchRoom words links.now scratch.old.hops.now
+        × HoldsEnds words members.now links.now
         × (words ≤ length scratch.old.even.now)
         × (words ≤ length scratch.old.odd.now)
-        × (words ≤ length seen.old)
+        × (words ≤ length left.old)
         × (words ≤ length next.old)
         × (start < 64 * words) }
     ensures same { IsSameScratch scratch.old scratch.new }
     ensures left { searched result (tables_in scratch.new) ≡ search_table words links.now start (tables_in scratch.old) }
 {
-    begin(scratch, seen, words, start);
+    begin(members, scratch, left, words, start);
     let hops = &mut *scratch.hops;
     let even = &mut *scratch.even;
     let odd = &mut *scratch.odd;
-    // The row of k's parity holds layer k, and the other row takes the next one. The layers end where a step reaches nothing new, so that no range counts them.
+    // The layers end where a step reaches nothing new, so that no range counts them. One call serves both parities, so that the step is compiled into
+    // this loop.
     let mut k: u16 = 0;
-    loop {
-        let more = if k % 2 == 0 {
-            frontier::step(links, hops, &*even, odd, seen, next, words, k)
-        } else {
-            frontier::step(links, hops, &*odd, even, seen, next, words, k)
-        };
-        if !more {
-            return k;
-        }
+    while frontier::step(links, hops, even, odd, left, next, words, k) {
         k += 1;
     }
+    k
 }

@@ -42,12 +42,12 @@ fn all_reached(members: &[u64], hops: &[u16], words: usize) -> bool
 
 // Whether the depots are connected: a search from the lowest open code, in the memory lent for it, reaches every one.
 // What stands in that memory afterwards is free.
-#[tactic(auto, using(crate::proofs::Connects::none_open))]
+#[tactic(auto, using(crate::proofs::Connects::none_open, layers::proofs::Ends::holds_ends))]
 pub fn is_connected(
     members: &[u64],
     links: &[u64],
     scratch: &mut Scratch<'_>,
-    seen: &mut [u64],
+    left: &mut [u64],
     next: &mut [u64],
     words: usize,
 ) -> bool
@@ -55,7 +55,7 @@ pub fn is_connected(
         × (64 * words ≤ length scratch.old.hops.now)
         × (words ≤ length scratch.old.even.now)
         × (words ≤ length scratch.old.odd.now)
-        × (words ≤ length seen.old)
+        × (words ≤ length left.old)
         × (words ≤ length next.old)
         × IsSound (network_of words members.now links.now) }
     ensures same { IsSameScratch scratch.old scratch.new }
@@ -65,7 +65,7 @@ pub fn is_connected(
     let Some(start) = lowest else {
         return true;
     };
-    layers::search_table(links, scratch, seen, next, words, start);
+    layers::search_table(members, links, scratch, left, next, words, start);
     all_reached(members, &*scratch.hops, words)
 }
 
@@ -77,7 +77,7 @@ pub fn map_is_connected(members: &[u64], links: &[u64]) -> bool
     let mut hops = [0u16; map::PLACES];
     let mut even = [0u64; map::WORDS];
     let mut odd = [0u64; map::WORDS];
-    let mut seen = [0u64; map::WORDS];
+    let mut left = [0u64; map::WORDS];
     let mut next = [0u64; map::WORDS];
     let mut scratch = Scratch {
         hops: &mut hops,
@@ -88,7 +88,7 @@ pub fn map_is_connected(members: &[u64], links: &[u64]) -> bool
         members,
         links,
         &mut scratch,
-        &mut seen,
+        &mut left,
         &mut next,
         map::WORDS,
     )

@@ -71,8 +71,8 @@ pub fn within(
         scratch.odd.len(),
         code,
     )?;
-    search::search_sound(links, scratch, code as usize);
     let members = rec.members;
+    search::search_sound(&members, links, scratch, code as usize);
     Ok(list_within(&members, &*scratch, codes, k))
 }
 
@@ -155,7 +155,7 @@ pub fn nearest(
     )?;
     let members = rec.members;
     let first = first_listed(&members, listed).ok_or(Refusal::Nobody)?;
-    search::search_sound(links, scratch, code as usize);
+    search::search_sound(&members, links, scratch, code as usize);
     let found = nearest_listed(&members, &*scratch, listed, first);
     let distance = scratch.hops[found];
     Ok(NearestDepot {

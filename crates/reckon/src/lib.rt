@@ -43,7 +43,7 @@ fn reckon_map(plan: Plan<'_>, room: &mut Room<'_>) -> RoundFigures
         ran (lent_in room.new) result.candidate result.count result.searches ≡ ran_by base G (reckon (chart G)) (lent_in room.old) }
 {
     let mut ranks = [0u16; map::PLACES];
-    let mut seen = [0u64; map::WORDS];
+    let mut left = [0u64; map::WORDS];
     let mut next = [0u64; map::WORDS];
     let mut partners = [0u64; map::WORDS];
     let pairs = &mut *room.pairs;
@@ -61,7 +61,7 @@ fn reckon_map(plan: Plan<'_>, room: &mut Room<'_>) -> RoundFigures
         map::OTHER,
     );
     let mut desk = Desk {
-        seen: &mut seen,
+        left: &mut left,
         next: &mut next,
         partners: &mut partners,
         ranks: &mut ranks,
@@ -72,6 +72,7 @@ fn reckon_map(plan: Plan<'_>, room: &mut Room<'_>) -> RoundFigures
         searches: 0,
     };
     rounds::run_rounds(
+        plan.members,
         plan.targets,
         plan.links,
         room,

@@ -184,7 +184,7 @@ fn shrink(
         ≡ ran_by base G (rounds M (length M.depots) (first_two M low.entry.code high.code way)) (lent_in room.old) }
 {
     let mut ranks = [0u16; map::PLACES];
-    let mut seen = [0u64; map::WORDS];
+    let mut left = [0u64; map::WORDS];
     let mut next = [0u64; map::WORDS];
     let pairs = &mut *room.pairs;
     let hops = &mut *room.hops;
@@ -195,12 +195,13 @@ fn shrink(
     };
     let before = take_both(plan, pairs, &mut marks, low, &*hops, high, &*fars, way);
     let mut desk = Desk {
-        seen: &mut seen,
+        left: &mut left,
         next: &mut next,
         partners: &mut *fars,
         ranks: &mut ranks,
     };
     rounds::run_rounds(
+        plan.members,
         plan.targets,
         plan.links,
         room,
@@ -286,7 +287,7 @@ pub fn relink(plan: Plan<'_>, room: &mut Room<'_>, low: usize, high: usize, chai
         even: &mut evens,
         odd: &mut odds,
     };
-    let d = search::search_sound(plan.links, &mut own, low);
+    let d = search::search_sound(plan.members, plan.links, &mut own, low);
     let e = rounds::reach_by(
         plan.targets,
         &near,
@@ -305,7 +306,7 @@ pub fn relink(plan: Plan<'_>, room: &mut Room<'_>, low: usize, high: usize, chai
         even: &mut *even,
         odd: &mut *odd,
     };
-    let b = search::search_sound(plan.links, &mut lent, high);
+    let b = search::search_sound(plan.members, plan.links, &mut lent, high);
     let f = rounds::reach_by(
         plan.targets,
         &*hops,

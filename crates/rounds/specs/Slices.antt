@@ -35,13 +35,13 @@ abbrev pub MarksFitIn : ℕ → Room → Desk → Type 0
 MarksFitIn W r d = Fits W r.bounds.now r.skips.now d.ranks.now
 
 -- and the rest of it has
-abbrev pub RoomFits : ℕ → List ℕ → List ℕ → Room → Desk → Type 0
-RoomFits W targets links r d =
-    RoundRoom W targets links r.hops.now r.even.now r.odd.now d.seen.now d.next.now d.partners.now
+abbrev pub RoomFits : ℕ → List ℕ → List ℕ → List ℕ → Room → Desk → Type 0
+RoomFits W members targets links r d =
+    RoundRoom W members targets links r.hops.now r.even.now r.odd.now d.left.now d.next.now d.partners.now
 
 -- each field lends the buffer that it lent
 pub record IsSameDesk (d e : Desk) : Type 0 where
-  pub seen : IsSameSlice d.seen e.seen
+  pub left : IsSameSlice d.left e.left
   pub next : IsSameSlice d.next e.next
   pub partners : IsSameSlice d.partners e.partners
   pub ranks : IsSameSlice d.ranks e.ranks

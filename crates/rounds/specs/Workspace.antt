@@ -7,6 +7,7 @@ use Rattle.lists.specs.Lists.{range, mapl, overwrite}
 use Rattle.graph.specs.Distance.{unreached}
 use Rattle.rows.specs.Rows.{row_bit, encode_row, encode_table}
 use Rattle.map.specs.Room.{Tables}
+use Rattle.layers.specs.Begin.{HoldsEnds}
 use Rattle.layers.specs.Layers.{search_table}
 use Rattle.targets.specs.Reach.{Reached, reach_of}
 use Rattle.pairs.specs.Pairs.{Tally, settle_of}
@@ -100,13 +101,14 @@ rounds_begin_of W other members B =
 
 -- ---- what the functions ask
 
--- a row of targets, a link table, a search's memory and a row for partners, of W words a row
-pub record RoundRoom (W : ℕ) (targets links hops even odd seen next partners : List ℕ) : Type 0 where
+-- the open set and a row of targets, a link table whose bits stand for open codes, a search's memory and a row for partners, of W words a row
+pub record RoundRoom (W : ℕ) (members targets links hops even odd left next partners : List ℕ) : Type 0 where
+  pub ends : HoldsEnds W members links
   pub target_row : W ≤ length targets
   pub table : W * (64 * W) ≤ length links
   pub hop_places : 64 * W ≤ length hops
   pub even_row : W ≤ length even
   pub odd_row : W ≤ length odd
-  pub seen_row : W ≤ length seen
+  pub left_row : W ≤ length left
   pub next_row : W ≤ length next
   pub partner_row : W ≤ length partners

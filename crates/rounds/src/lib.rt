@@ -25,10 +25,10 @@ use targets::{Span, TargetHops, TargetSearch};
 
 // ---- what a round is told and lent
 
-// What rounds keep beside the lent room: the codes seen and the next layer of a search, a row for partners, and the ranks of the depots that remain.
+// What rounds keep beside the lent room: the codes left and the next layer of a search, a row for partners, and the ranks of the depots that remain.
 #[derive(Drop)]
 pub struct Desk<'a> {
-    pub seen: &'a mut [u64],
+    pub left: &'a mut [u64],
     pub next: &'a mut [u64],
     pub partners: &'a mut [u64],
     pub ranks: &'a mut [u16],
@@ -203,10 +203,11 @@ struct Turn {
     level: Option<u16>,
 }
 
-// One round: a search from r, taken in. What stands in seen, next and partners afterwards is free.
-// It takes targets and links apart, as `run_rounds` does, and `begin` members and links: a `Plan` says that its targets are those of the base's width, and
-// rounds go by any.
+// One round: a search from r, taken in. What stands in left, next and partners afterwards is free.
+// It takes members, targets and links apart, as `run_rounds` does, and `begin` members and links: a `Plan` says that its targets are those of the base's
+// width, and rounds go by any.
 fn round(
+    members: &[u64],
     targets: &[u64],
     links: &[u64],
     room: &mut Room<'_>,
@@ -216,7 +217,7 @@ fn round(
     r: usize,
     before: Turn,
 ) -> Turn
-    requires { RoomFits words targets.now links.now room.old desk.old
+    requires { RoomFits words members.now targets.now links.now room.old desk.old
         × Counted words room.old.pairs.now before.figures.count
         × MarksFitIn words room.old desk.old
         × (r < 64 * words)
@@ -244,7 +245,7 @@ fn round(
         skips: &mut *room.skips,
         ranks: &mut *desk.ranks,
     };
-    let depth = layers::search_table(links, &mut scratch, desk.seen, desk.next, words, r);
+    let depth = layers::search_table(members, links, &mut scratch, desk.left, desk.next, words, r);
     let span = reach_by(targets, &*hops, &*even, &*odd, partners, words, r, depth);
     let limit = raised(before.figures.candidate, span.own);
     let known = Farthest {
@@ -282,6 +283,7 @@ fn pick_next(desk: &Desk<'_>, words: usize) -> Option<usize>
 
 // Rounds until no depot remains, after up to two searches. What stands on the desk afterwards is free where the caller does not look.
 pub fn run_rounds(
+    members: &[u64],
     targets: &[u64],
     links: &[u64],
     room: &mut Room<'_>,
@@ -290,7 +292,7 @@ pub fn run_rounds(
     mark: u16,
     before: RoundFigures,
 ) -> RoundFigures
-    requires { RoomFits words targets.now links.now room.old desk.old
+    requires { RoomFits words members.now targets.now links.now room.old desk.old
         × Counted words room.old.pairs.now before.count
         × MarksFitIn words room.old desk.old
         × AreRanks words links.now desk.old.ranks.now
@@ -307,7 +309,7 @@ pub fn run_rounds(
         level,
     };
     while let Some(r) = pick_next(&*desk, words) {
-        now = round(targets, links, room, desk, words, mark, r, now);
+        now = round(members, targets, links, room, desk, words, mark, r, now);
     }
     now.figures
 }

@@ -1,17 +1,17 @@
 -- A loop that stores a word of a row a turn: after j turns the buffer is `overwrite (encode_row j f) old`. Assumes nothing.
 use mathlib.Core.Path.{◌≡◌, sym, ap, ap₂, ◌∙◌}
-use mathlib.Core.Bool.{Bool, not, ◌&&◌, ◌||◌}
+use mathlib.Core.Bool.{Bool, not, ◌&&◌}
 use mathlib.Core.List.{List}
 use Prim.Native.Nat.{ℕ, ◌+◌, ◌-◌, ◌*◌, ◌^◌, ◌<◌}
 use native.Mathlib.Omega.{arith}
-use lib.Bits.{bit_and, bit_or}
+use lib.Bits.{bit_and}
 use lib.ListN.{length, get_or, set}
 use Rattle.lists.specs.Lists.{overwrite}
 use Rattle.lists.proofs.Fills.{fill_none, fill_more, fill_rest}
 use Rattle.words.specs.Bits.{bit, word_of}
-use Rattle.words.proofs.Bits.{word_or, word_minus, word_of_ext}
-use Rattle.rows.specs.Rows.{row_bit, table_bit, encode_row}
-use Rattle.rows.proofs.Written.{row_word, table_word}
+use Rattle.words.proofs.Bits.{word_minus, word_of_ext}
+use Rattle.rows.specs.Rows.{row_bit, encode_row}
+use Rattle.rows.proofs.Written.{row_word}
 use Rattle.rows.proofs.Wholes.{row_word_is}
 
 -- the start, and any turn that stores the word of f
@@ -25,28 +25,16 @@ unfolding encode_row
 turn_more f l₀ l j w e h p = ap₂ (λ (s : List ℕ) (x : ℕ). set s j x) e p ∙ fill_more (λ w. word_of 64 (λ b. f (64 * w + b))) l₀ j h
 
 -- the next word, which no turn has touched
-turn_next : (f : ℕ → Bool) (l₀ l : List ℕ) (j : ℕ) → l ≡ overwrite (encode_row j f) l₀ → get_or l j 0 ≡ get_or l₀ j 0
+pub turn_next : (f : ℕ → Bool) (l₀ l : List ℕ) (j : ℕ) → l ≡ overwrite (encode_row j f) l₀ → get_or l j 0 ≡ get_or l₀ j 0
 unfolding encode_row
 turn_next f l₀ l j e = ap (λ (s : List ℕ). get_or s j 0) e ∙ fill_rest (λ w. word_of 64 (λ b. f (64 * w + b))) l₀ j j 0 (omega arith)
 
--- ---- the three turns
+-- ---- the two turns
 
 pub turn_copy : (W : ℕ) (s l₀ l : List ℕ) (j : ℕ) → l ≡ overwrite (encode_row j (row_bit W s)) l₀ → j < length l₀ → j < W → get_or s j 0 < 2 ^ 64
     → set l j (get_or s j 0) ≡ overwrite (encode_row (j + 1) (row_bit W s)) l₀
 turn_copy W s l₀ l j e h n m =
     turn_more (row_bit W s) l₀ l j (get_or s j 0) e h (row_word_is W s j n m)
-
-pub turn_union : (W : ℕ) (t : List ℕ) (u : ℕ) (l₀ l : List ℕ) (j : ℕ) → u < 64 * W → l ≡ overwrite (encode_row j (λ v. row_bit W l₀ v || table_bit W t u v)) l₀
-    → j < length l₀ → j < W → get_or l j 0 < 2 ^ 64 → get_or t (W * u + j) 0 < 2 ^ 64
-    → set l j (bit_or (get_or l j 0) (get_or t (W * u + j) 0)) ≡ overwrite (encode_row (j + 1) (λ v. row_bit W l₀ v || table_bit W t u v)) l₀
-turn_union W t u l₀ l j d e h n a b =
-    turn_more f l₀ l j (bit_or (get_or l j 0) (get_or t (W * u + j) 0)) e h
-    (word_or 64 (get_or l j 0) (get_or t (W * u + j) 0) a b
-    ∙ word_of_ext 64 (λ k. bit (get_or l j 0) k || bit (get_or t (W * u + j) 0) k) (λ k. f (64 * j + k))
-    (λ k m. ap₂ (λ (x y : Bool). x || y) (ap (λ (w : ℕ). bit w k) (turn_next f l₀ l j e) ∙ sym (row_word W l₀ j k n m)) (sym (table_word W t u j k d n m))))
-  where
-    f : ℕ → Bool
-    f v = row_bit W l₀ v || table_bit W t u v
 
 pub turn_minus : (W : ℕ) (s l₀ l : List ℕ) (j : ℕ) → l ≡ overwrite (encode_row j (λ v. row_bit W l₀ v && not (row_bit W s v))) l₀
     → j < length l₀ → j < W → get_or l j 0 < 2 ^ 64 → get_or s j 0 < 2 ^ 64

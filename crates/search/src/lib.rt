@@ -5,6 +5,7 @@
 ghost use Rattle.std.specs.Prelude.{◌≡◌, [], ◌<◌, ◌≤◌, length, get_or};
 ghost use Rattle.lists.specs.Lists.{max_of};
 ghost use Rattle.graph.specs.Distance.{vertices, unreached, dist};
+ghost use Rattle.layers.specs.Begin.{HoldsEnds};
 ghost use Rattle.layers.specs.Layers.{searched, search_table};
 ghost use Rattle.outcome.specs.Refusals.{refused_by};
 ghost use Rattle.map.specs.Room.{AreLong};
@@ -19,15 +20,25 @@ use targets::{TargetHops, TargetSearch};
 
 // ---- the search itself
 
-// The search on a table that nothing refuses, on local memory for the codes seen and the next layer.
-pub fn search_sound(links: &[u64], scratch: &mut Scratch<'_>, start: usize) -> u16
-    requires { AreLong base (scratch_sizes (length links.now) scratch.old) × (start < places base) }
+// The search on a table that nothing refuses, on local memory for the codes left and the next layer.
+pub fn search_sound(members: &[u64], links: &[u64], scratch: &mut Scratch<'_>, start: usize) -> u16
+    requires { AreLong base (scratch_sizes (length links.now) scratch.old)
+        × HoldsEnds base.words members.now links.now
+        × (start < places base) }
     ensures same { IsSameScratch scratch.old scratch.new }
     ensures left { searched result (tables_in scratch.new) ≡ search_table base.words links.now start (tables_in scratch.old) }
 {
-    let mut seen = [0u64; map::WORDS];
+    let mut left = [0u64; map::WORDS];
     let mut next = [0u64; map::WORDS];
-    layers::search_table(links, scratch, &mut seen, &mut next, map::WORDS, start)
+    layers::search_table(
+        members,
+        links,
+        scratch,
+        &mut left,
+        &mut next,
+        map::WORDS,
+        start,
+    )
 }
 
 // What a search found: the eccentricity, which is to targets, the depots that deliver, and the distance of the last layer, which is of all open depots.
@@ -59,11 +70,18 @@ fn greatest(targets: &[u64], scratch: &Scratch<'_>, depth: u16) -> u16
 
 // The same search, with its eccentricity to the targets, a row of the depots that count. All of them must be reached.
 #[tactic(auto, using(crate::proofs::Reaches::last_is, crate::proofs::Reaches::ecc_is))]
-pub fn search_to(targets: &[u64], links: &[u64], scratch: &mut Scratch<'_>, start: usize) -> Reach
+pub fn search_to(
+    members: &[u64],
+    targets: &[u64],
+    links: &[u64],
+    scratch: &mut Scratch<'_>,
+    start: usize,
+) -> Reach
     requires { let N = table_network base.words links.now in
         let depots = vertices (network_of base.words targets.now []) in
         (base.words ≤ length targets.now)
         × AreLong base (scratch_sizes (length links.now) scratch.old)
+        × HoldsEnds base.words members.now links.now
         × (start < places base)
         × (max_of (dist N start) depots < unreached) }
     ensures same { IsSameScratch scratch.old scratch.new }
@@ -71,7 +89,7 @@ pub fn search_to(targets: &[u64], links: &[u64], scratch: &mut Scratch<'_>, star
     ensures ecc { let N = table_network base.words links.now in
         result.ecc ≡ max_of (dist N start) (vertices (network_of base.words targets.now [])) }
 {
-    let depth = search_sound(links, scratch, start);
+    let depth = search_sound(members, links, scratch, start);
     let ecc = greatest(targets, &*scratch, depth);
     Reach { ecc, depth }
 }
@@ -124,10 +142,11 @@ pub fn search_from(
         scratch.odd.len(),
         code,
     )?;
+    let members = rec.members;
     let mut delivering = rec.members;
     let yards = rec.yards;
     map::keep_delivering(&mut delivering, &yards, map::WORDS);
-    Ok(search_to(&delivering, links, scratch, code as usize))
+    Ok(search_to(&members, &delivering, links, scratch, code as usize))
 }
 
 // The last layer of a search to this depth: a part of whichever lent row holds it. The eccentricity does not tell the row: where the last layer holds

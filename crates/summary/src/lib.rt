@@ -10,6 +10,7 @@ ghost use Rattle.outcome.specs.Refusals.{refused_by};
 ghost use Rattle.map.specs.Room.{AreLong};
 ghost use Rattle.map.specs.Slices.{tables_in, scratch_sizes, IsSameScratch};
 ghost use Rattle.map.specs.Memory.{base, places, network_of, table_network};
+ghost use Rattle.layers.specs.Begin.{HoldsEnds};
 ghost use Rattle.layers.specs.Layers.{search_leaves};
 ghost use Rattle.summary.specs.Steps.{tally_of, count_one, AreNear, totalled, total_over};
 ghost use Rattle.summary.specs.SummaryCall.{summary_refusal, summing_of, summary_left, summary_call};
@@ -45,6 +46,7 @@ fn sum_later(targets: &[u64; map::WORDS], scratch: &Scratch<'_>, u: usize) -> La
 
 // Searches from u, tallies the targets, and counts one destination of its eccentricity.
 fn search_target(
+    members: &[u64; map::WORDS],
     targets: &[u64; map::WORDS],
     links: &[u64],
     scratch: &mut Scratch<'_>,
@@ -54,6 +56,7 @@ fn search_target(
     requires { let depots = vertices (network_of base.words targets.now []) in
         let ecc = max_of (dist (table_network base.words links.now) u) depots in
         AreLong base (scratch_sizes (length links.now) scratch.old)
+        × HoldsEnds base.words members.now links.now
         × (ecc < length counts.old)
         × (ecc < unreached)
         × (get_or counts.old ecc 0 ≤ places base)
@@ -65,7 +68,7 @@ fn search_target(
         × (tables_in scratch.new ≡ search_leaves base.words N u (tables_in scratch.old))
         × (counts.new ≡ count_one (max_of (dist N u) depots) counts.old) }
 {
-    let found = search::search_to(targets, links, scratch, u);
+    let found = search::search_to(members, targets, links, scratch, u);
     let later = sum_later(targets, &*scratch, u);
     let e = found.ecc as usize;
     counts[e] += 1;
@@ -81,6 +84,7 @@ fn search_target(
 // Searches from every target in rising code, adds the tallies up, and counts the eccentricities afresh. Its answer holds those above of every target: the
 // sum of the distances, and the number of pairs.
 fn total_over(
+    members: &[u64; map::WORDS],
     targets: &[u64; map::WORDS],
     links: &[u64],
     scratch: &mut Scratch<'_>,
@@ -88,7 +92,8 @@ fn total_over(
 ) -> Later
     requires { AreLong base (scratch_sizes (length links.now) scratch.old)
         × (places base ≤ length counts.old)
-        × AreNear base.words targets.now links.now }
+        × AreNear base.words targets.now links.now
+        × HoldsEnds base.words members.now links.now }
     ensures same { IsSameScratch scratch.old scratch.new }
     ensures left { totalled result.sum result.pairs (tables_in scratch.new) counts.new
         ≡ total_over base.words targets.now links.now (tables_in scratch.old) counts.old }
@@ -97,7 +102,7 @@ fn total_over(
     let mut sum: u64 = 0;
     let mut pairs: u64 = 0;
     for u in map::open_depots(targets) {
-        let t = search_target(targets, links, scratch, counts, u);
+        let t = search_target(members, targets, links, scratch, counts, u);
         sum += t.sum;
         pairs += t.pairs;
     }
@@ -152,10 +157,11 @@ pub fn summarise(
         summary_left (summing_of result) (tables_in scratch.new) counts.new ≡ call }
 {
     summary_refusal(rec, links, &*scratch, counts.len())?;
+    let members = rec.members;
     let mut targets = rec.members;
     let yards = rec.yards;
     map::keep_delivering(&mut targets, &yards, map::WORDS);
-    let t = total_over(&targets, links, scratch, counts);
+    let t = total_over(&members, &targets, links, scratch, counts);
     Ok(Summary {
         sum: t.sum,
         pairs: t.pairs,

@@ -4,8 +4,14 @@ use Rattle.rounds.proofs.Turns.{same_tables}
 use Rattle.insertion.proofs.Cases.{search_stands, figured_first, grew_is}
 use Rattle.map.specs.Memory.{base}
 use Rattle.map.proofs.Theorems.{base_shape}
+use Rattle.layers.proofs.Ends.{yards_hold_ends}
 use borrow.Author.Rules.{rules}
 use Rattle.insertion.proofs.refigure.Goals as goal
+
+pub search_sound-depth-requires : goal.search_sound-depth-requires
+search_sound-depth-requires c =
+    let pre = c.requires.1 in
+    (search rules, yards_hold_ends 4 _ _ pre.are.member_row _ pre.net.sound, c.requires.2)
 
 pub returns-then-stored-span-clause-left : goal.returns-then-stored-span-clause-left
 returns-then-stored-span-clause-left c =

@@ -2,6 +2,8 @@
 use native.Mathlib.Omega.{arith}
 use Rattle.map.specs.Memory.{base}
 use Rattle.map.proofs.Theorems.{base_shape}
+use Rattle.layers.proofs.Ends.{yards_hold_ends}
+use Rattle.ranks.proofs.Ranks.{thinned_ranks}
 use Rattle.rounds.proofs.Turns.{begun_counted, same_marks, absorbing_is}
 use Rattle.insertion.proofs.Shrinking.{shrink_is}
 use borrow.Author.Rules.{rules}
@@ -15,6 +17,16 @@ absorb-first-requires c =
       search rules,
       search rules,
       search rules,
+      omega arith,
+    )
+
+pub run_rounds-requires : goal.run_rounds-requires
+run_rounds-requires c =
+    let ends = yards_hold_ends 4 _ _ c.args.plan.are.member_row _ c.requires.2.net.sound in (
+      search (ends, rules),
+      search rules,
+      search rules,
+      search (thinned_ranks, rules),
       omega arith,
     )
 

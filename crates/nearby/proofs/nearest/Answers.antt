@@ -10,6 +10,7 @@ use Rattle.lists.specs.Lists.{filterb}
 use Rattle.rows.specs.Rows.{row_bit}
 use Rattle.map.specs.Memory.{base, network_of}
 use Rattle.map.proofs.Theorems.{base_shape}
+use Rattle.layers.proofs.Ends.{yards_hold_ends}
 use Rattle.search.proofs.Accepts.{granted}
 use Rattle.nearby.specs.Steps.{FirstListed}
 use Rattle.nearby.proofs.Accepts.{listed_below, nobody_listed, nearest_as_search, nearest_nobody, nearest_refused, nearest_accepted}
@@ -31,7 +32,7 @@ returns-in_err-first-clause-left c =
 pub search_sound-distance-requires : goal.search_sound-distance-requires
 search_sound-distance-requires c =
     let g = granted base _ _ _ _ _ _ base_shape (sym c.in_ok-search_refusal.ensures) in
-    (g.long, omega (arith, c.ranges.code.fits))
+    (g.long, yards_hold_ends 4 _ _ (omega arith) _ g.net.sound, omega (arith, c.ranges.code.fits))
 
 -- the first listed code that is open
 is-first : (c : In_ok-first) → (rest : List ℕ) × (filterb (row_bit 4 c.args.rec.members) c.args.listed.now ≡ c.in_ok-first.first ∷ rest)

@@ -5,6 +5,7 @@ use Rattle.std.proofs.lemmas.Result.{err_from_is_err_and}
 use Rattle.outcome.proofs.Numbering.{refuses}
 use Rattle.map.specs.Memory.{base}
 use Rattle.map.proofs.Theorems.{base_shape}
+use Rattle.layers.proofs.Ends.{yards_hold_ends}
 use Rattle.search.proofs.Accepts.{granted}
 use Rattle.nearby.proofs.Accepts.{within_short, within_as_search, within_refused, within_accepted}
 use Rattle.nearby.proofs.within.Goals as goal
@@ -22,7 +23,7 @@ returns-in_err-search_refusal-clause-left c =
 pub search_sound-requires : goal.search_sound-requires
 search_sound-requires c =
     let g = granted base _ _ _ _ _ _ base_shape (sym c.in_ok-search_refusal.ensures) in
-    (g.long, omega (arith, c.ranges.code.fits))
+    (g.long, yards_hold_ends 4 _ _ (omega arith) _ g.net.sound, omega (arith, c.ranges.code.fits))
 
 pub list_within-requires : goal.list_within-requires
 list_within-requires c =

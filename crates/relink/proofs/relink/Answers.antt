@@ -1,10 +1,21 @@
 -- `relink::relink` meets its contract: the two searches are the network's, and `settle` goes on from them.
 use Rattle.map.specs.Memory.{base}
 use Rattle.map.proofs.Theorems.{base_shape}
+use Rattle.layers.proofs.Ends.{yards_hold_ends}
 use Rattle.rounds.proofs.Turns.{same_tables}
 use Rattle.relink.proofs.Cases.{both_stand, relinked_first}
 use borrow.Author.Rules.{rules}
 use Rattle.relink.proofs.relink.Goals as goal
+
+pub search_sound-d-requires : goal.search_sound-d-requires
+search_sound-d-requires c =
+    let pre = c.requires.1 in
+    (search rules, yards_hold_ends 4 _ _ pre.are.member_row _ pre.net.sound, c.requires.2)
+
+pub search_sound-b-requires : goal.search_sound-b-requires
+search_sound-b-requires c =
+    let pre = c.requires.1 in
+    (search rules, yards_hold_ends 4 _ _ pre.are.member_row _ pre.net.sound, c.requires.3)
 
 pub settle-requires : goal.settle-requires
 settle-requires c =

@@ -2,10 +2,22 @@
 use native.Mathlib.Omega.{arith}
 use Rattle.map.specs.Memory.{base}
 use Rattle.map.proofs.Theorems.{base_shape}
+use Rattle.layers.proofs.Ends.{yards_hold_ends}
+use Rattle.ranks.proofs.Ranks.{thinned_ranks}
 use Rattle.rounds.proofs.Turns.{same_marks}
 use Rattle.relink.proofs.Taking.{shrink_is}
 use borrow.Author.Rules.{rules}
 use Rattle.relink.proofs.shrink.Goals as goal
+
+pub run_rounds-requires : goal.run_rounds-requires
+run_rounds-requires c =
+    let ends = yards_hold_ends 4 _ _ c.args.plan.are.member_row _ c.requires.2.higher.net.sound in (
+      search (ends, rules),
+      search rules,
+      search rules,
+      search (thinned_ranks, rules),
+      omega arith,
+    )
 
 pub returns-clause-left : goal.returns-clause-left
 returns-clause-left c =

@@ -4,6 +4,7 @@ use mathlib.Core.Path.{sym}
 use native.Mathlib.Omega.{arith}
 use Rattle.map.specs.Memory.{base}
 use Rattle.map.proofs.Theorems.{base_shape}
+use Rattle.layers.proofs.Ends.{yards_hold_ends}
 use Rattle.search.proofs.Accepts.{granted, refused_call, granted_reached, accepted_call}
 use Rattle.std.proofs.lemmas.Result.{err_from_is_err_and}
 use Rattle.outcome.proofs.Numbering.{refuses}
@@ -14,6 +15,7 @@ search_to-requires c =
     let g = granted base _ _ _ _ _ _ base_shape (sym c.in_ok-search_refusal.ensures) in (
       omega arith,
       g.long,
+      yards_hold_ends 4 _ _ (omega arith) _ g.net.sound,
       omega (arith, c.ranges.code.fits),
       granted_reached base base_shape g c.keep_delivering.ensures,
     )

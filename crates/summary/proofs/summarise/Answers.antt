@@ -6,6 +6,7 @@ use Rattle.std.proofs.lemmas.Result.{err_from_is_err_and}
 use Rattle.outcome.proofs.Numbering.{refuses}
 use Rattle.map.specs.Memory.{base}
 use Rattle.map.proofs.Theorems.{base_shape}
+use Rattle.layers.proofs.Ends.{yards_hold_ends}
 use Rattle.summary.proofs.Leaving.{are_near}
 use Rattle.summary.proofs.Accepts.{granted, some_pair, summary_refused, summary_accepted}
 use Rattle.summary.proofs.summarise.Goals as goal
@@ -22,6 +23,7 @@ total_over-t-requires c =
       g.long,
       g.room,
       are_near 4 _ _ _ c.keep_delivering.ensures base_shape.most g.net,
+      yards_hold_ends 4 _ _ (omega arith) _ g.net.sound,
     )
 
 -- there is a pair

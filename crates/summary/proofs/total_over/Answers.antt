@@ -35,6 +35,7 @@ search_target-t-requires c =
     let w = c.loop-u.invariant in
     let place = ecc_small 4 _ _ c.requires.2 _ (depot_in c.loop-u.yielded _ w.1 c.in-Some.ensures.steps) in (
       search rules,
+      c.requires.3,
       omega (arith, w.3, c.fill.auto, c.requires.1, place),
       omega (arith, place),
       totalling_room _ 4 _ _ _ _ w.0 c.in-Some.ensures.steps _ place,
