@@ -92,6 +92,7 @@ fn shrink(
         ≡ ran_by base (plan_network base.words plan.entry) (rounds M (length M.depots) (round M a (start way))) (lent_in room.old) }
 {
     let mut ranks = [0u16; map::PLACES];
+    let mut order = [0u16; ranks::NODES];
     let mut left = [0u64; map::WORDS];
     let mut next = [0u64; map::WORDS];
     let pairs = &mut *room.pairs;
@@ -142,6 +143,7 @@ fn shrink(
         plan.links,
         room,
         &mut desk,
+        &mut order,
         map::WORDS,
         map::SEARCHED,
         first,

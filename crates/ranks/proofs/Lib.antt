@@ -2,3 +2,5 @@
 pub mod Ranks
 -- The pick of rule 5.4 is the first depot of the greatest rank.
 pub mod Picking
+-- The chains of the order, and how picks go on along them.
+pub mod Order

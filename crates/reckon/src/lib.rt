@@ -43,6 +43,7 @@ fn reckon_map(plan: Plan<'_>, room: &mut Room<'_>) -> RoundFigures
         ran (lent_in room.new) result.candidate result.count result.searches ≡ ran_by base G (reckon (chart G)) (lent_in room.old) }
 {
     let mut ranks = [0u16; map::PLACES];
+    let mut order = [0u16; ranks::NODES];
     let mut left = [0u64; map::WORDS];
     let mut next = [0u64; map::WORDS];
     let mut partners = [0u64; map::WORDS];
@@ -77,6 +78,7 @@ fn reckon_map(plan: Plan<'_>, room: &mut Room<'_>) -> RoundFigures
         plan.links,
         room,
         &mut desk,
+        &mut order,
         map::WORDS,
         map::SEARCHED,
         none,

@@ -184,6 +184,7 @@ fn shrink(
         ≡ ran_by base G (rounds M (length M.depots) (first_two M low.entry.code high.code way)) (lent_in room.old) }
 {
     let mut ranks = [0u16; map::PLACES];
+    let mut order = [0u16; ranks::NODES];
     let mut left = [0u64; map::WORDS];
     let mut next = [0u64; map::WORDS];
     let pairs = &mut *room.pairs;
@@ -206,6 +207,7 @@ fn shrink(
         plan.links,
         room,
         &mut desk,
+        &mut order,
         map::WORDS,
         map::SEARCHED,
         before,

@@ -1,4 +1,4 @@
-// Reference rounds over lent tables (rules 5.1 to 5.4), a round at a time. Rows of 1 to 512 words. A row's width comes beside it, as crate `rows` says.
+// Reference rounds over lent tables (rules 5.1 to 5.4), a round at a time. Rows of 1 to 511 words: so many codes and heads of the order of picks can be told by 16 bits. A row's width comes beside it, as crate `rows` says.
 // `words`, `mark` and `other` stay apart: `begin` has no use for `mark` and `absorb` none for `other`. So width and one mark go together, which are two, and
 // all else that they call takes the width alone.
 
@@ -8,6 +8,7 @@ ghost use Rattle.std.specs.Prelude.{◌≡◌, true, cond, ◌+◌, ◌*◌, ◌
 ghost use Rattle.pairs.specs.Pairs.{tally, Counted};
 ghost use Rattle.bounds.specs.Bounds.{leave_of, relax_of};
 ghost use Rattle.ranks.specs.Ranks.{AreRanks, AreThinned, PickIs};
+ghost use Rattle.ranks.specs.Order.{AreLow, GoesOn, GoesOnBehind};
 ghost use Rattle.targets.specs.Reach.{reached};
 ghost use Rattle.rounds.specs.Workspace.{reach_in, absorbed, taking, round_of, run_of, rounds_begun, rounds_begin_of};
 ghost use Rattle.map.specs.Room.{tables};
@@ -273,21 +274,38 @@ fn round(
 
 // ---- rounds until none remains
 
-// The next reference, by the ranks on the desk.
-fn pick_next(desk: &Desk<'_>, words: usize) -> Option<usize>
-    requires { (words < 513) × (64 * words ≤ length desk.now.ranks.now) }
-    ensures { PickIs words desk.now.ranks.now result }
+// Orders the codes by the ranks on the desk.
+fn order_all(order: &mut [u16], desk: &Desk<'_>, words: usize) -> usize
+    requires { (words < 512)
+        × (128 * words + 2 ≤ length order.old)
+        × (64 * words ≤ length desk.now.ranks.now)
+        × AreLow words desk.now.ranks.now }
+    ensures { GoesOn words desk.now.ranks.now order.new result }
 {
-    ranks::pick_next(&*desk.ranks, words)
+    ranks::order_all(order, &*desk.ranks, words)
 }
 
-// Rounds until no depot remains, after up to two searches. What stands on the desk afterwards is free where the caller does not look.
+// The next reference, by the ranks on the desk.
+fn pick_next(order: &[u16], desk: &Desk<'_>, words: usize, last: usize) -> Option<usize>
+    requires { (words < 512)
+        × (128 * words + 2 ≤ length order.now)
+        × (64 * words ≤ length desk.now.ranks.now)
+        × GoesOn words desk.now.ranks.now order.now last }
+    ensures picked { PickIs words desk.now.ranks.now result }
+    ensures place { GoesOnBehind words desk.now.ranks.now order.now result }
+{
+    ranks::pick_next(order, &*desk.ranks, words, last)
+}
+
+// Rounds until no depot remains, after up to two searches. What stands on the desk and in the order afterwards is free where the caller does not look.
+// The order is lent beside the desk: a round has no use for it.
 pub fn run_rounds(
     members: &[u64],
     targets: &[u64],
     links: &[u64],
     room: &mut Room<'_>,
     desk: &mut Desk<'_>,
+    order: &mut [u16],
     words: usize,
     mark: u16,
     before: RoundFigures,
@@ -296,7 +314,9 @@ pub fn run_rounds(
         × Counted words room.old.pairs.now before.count
         × MarksFitIn words room.old desk.old
         × AreRanks words links.now desk.old.ranks.now
-        × (before.searches < 3) }
+        × (before.searches < 3)
+        × (words < 512)
+        × (128 * words + 2 ≤ length order.old) }
     ensures same_room { IsSameRoom room.old room.new }
     ensures same_desk { IsSameDesk desk.old desk.new }
     ensures left { let entry = workspace_in words room.old desk.old before in
@@ -308,8 +328,10 @@ pub fn run_rounds(
         figures: before,
         level,
     };
-    while let Some(r) = pick_next(&*desk, words) {
+    let mut last = order_all(order, &*desk, words);
+    while let Some(r) = pick_next(&*order, &*desk, words, last) {
         now = round(members, targets, links, room, desk, words, mark, r, now);
+        last = r;
     }
     now.figures
 }

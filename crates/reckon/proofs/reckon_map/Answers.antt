@@ -17,6 +17,8 @@ run_rounds-requires c =
       search rules,
       search rules,
       omega arith,
+      omega arith,
+      search rules,
     )
 
 pub returns-clause-left : goal.returns-clause-left

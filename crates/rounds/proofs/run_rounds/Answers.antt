@@ -4,7 +4,9 @@ use mathlib.Core.Path.{◌≡◌, subst}
 use mathlib.Core.Option.{some}
 use Rattle.ranks.specs.Ranks.{pick_in, waiting_of, PickIs}
 use Rattle.ranks.proofs.Ranks.{waiting_fits, thinned_ranks}
+use Rattle.ranks.specs.Order.{GoesOnBehind}
 use Rattle.ranks.proofs.Picking.{ranked_pick, ranked_none}
+use Rattle.ranks.proofs.Order.{ranks_low, goes_on_thinned}
 use Rattle.rounds.proofs.Turns.{at_start_lem, at_next, going_end, picked_in, fewer_remain, room_left}
 use borrow.Author.Rules.{rules}
 use Rattle.rounds.proofs.run_rounds.Goals as goal
@@ -13,12 +15,12 @@ use Rattle.rounds.proofs.run_rounds.Goals.{In-Some}
 -- the depot picked
 picked : (c : In-Some) → pick_in c.args.words c.args.links.now (waiting_of c.args.words c.loop-r.desk.ranks.now) ≡ some c.in-Some.r
 picked c =
-    ranked_pick _ _ _ c.loop-r.invariant.3 _ (subst (PickIs _ _) c.in-Some.is c.pick_next.ensures)
+    ranked_pick _ _ _ c.loop-r.invariant.3 _ (subst (PickIs _ _) c.in-Some.is c.pick_next.ensures.picked)
 
 pub returns-clause-left : goal.returns-clause-left
 returns-clause-left c =
     going_end _ _ _ _ _ _ c.loop-r.invariant.0.going
-    (ranked_none _ _ _ c.loop-r.invariant.3 (subst (PickIs _ _) c.in_default.is c.pick_next.ensures))
+    (ranked_none _ _ _ c.loop-r.invariant.3 (subst (PickIs _ _) c.in_default.is c.pick_next.ensures.picked))
 
 pub round-now-requires : goal.round-now-requires
 round-now-requires c =
@@ -43,7 +45,11 @@ loop-r-preserved c =
       search rules,
       search (thinned_ranks, rules),
       c.round-now.ensures.level,
+      goes_on_thinned _ _ _ _ _ c.round-now.ensures.thinned (subst (GoesOnBehind _ _ _) c.in-Some.is c.pick_next.ensures.place),
     )
 
 pub loop-r-init : goal.loop-r-init
 loop-r-init c = search (at_start_lem, rules)
+
+pub order_all-last-requires : goal.order_all-last-requires
+order_all-last-requires c = search (ranks_low, rules)

@@ -5,6 +5,7 @@ use Rattle.lists.specs.Lists.{range, countb}
 use Rattle.rows.specs.Rows.{row_bit}
 use Rattle.map.specs.Slices.{IsSameRoom}
 use Rattle.ranks.specs.Ranks.{waiting_of, AreRanks}
+use Rattle.ranks.specs.Order.{GoesOn}
 use Rattle.rounds.specs.Slices.{marks_of, workspace_in, IsSameDesk, AreLevel}
 use Rattle.rounds.proofs.Turns.{AtRound}
 use Rattle.rounds.proofs.run_rounds.Given as goal
@@ -17,6 +18,7 @@ invariant-loop-r l =
     × IsSameDesk l.initial.desk l.desk
     × AreRanks l.words l.links l.desk.ranks.now
     × AreLevel l.words l.now.level (marks_of l.words l.room l.desk)
+    × GoesOn l.words l.desk.ranks.now l.order l.last
 
 abbrev pub decreases-loop-r : goal.decreases-loop-r
 decreases-loop-r l =
