@@ -1,4 +1,5 @@
-// Reference rounds over lent tables (rules 5.1 to 5.4), a round at a time. Rows of 1 to 511 words: so many codes and heads of the order of picks can be told by 16 bits. A row's width comes beside it, as crate `rows` says.
+// Reference rounds over lent tables (rules 5.1 to 5.4), a round at a time. Rows of 1 to 511 words, as the order of picks has them (crate `ranks`). A row's
+// width comes beside it, as crate `rows` says.
 // `words`, `mark` and `other` stay apart: `begin` has no use for `mark` and `absorb` none for `other`. So width and one mark go together, which are two, and
 // all else that they call takes the width alone.
 
