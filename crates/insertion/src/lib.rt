@@ -19,7 +19,7 @@ ghost use Rattle.bounds.specs.Once.{marking};
 ghost use Rattle.insertion.specs.Steps.{joined, join_of, HoldsSearch, AreOpen};
 
 use bounds::Marks;
-use map::{Room, Scratch};
+use map::{Room, Scratch, TABLE};
 use outcome::Change;
 use pairs::Farthest;
 use rounds::{Desk, Finished, Plan, RoundFigures};
@@ -175,7 +175,7 @@ fn settle_low(
 {
     let pairs = &mut *room.pairs;
     let hops = &mut *room.hops;
-    let left = stale_pairs::drop_stale(pairs, &*hops, map::WORDS, stored);
+    let left = stale_pairs::drop_stale::<TABLE>(pairs, &*hops, map::WORDS, stored);
     let chain = stored.chain;
     if span.own == chain {
         let found = Finished {

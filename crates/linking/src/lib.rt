@@ -21,6 +21,7 @@ use admission::Link;
 use insertion::Figures;
 use map::{Record, Room};
 use outcome::Outcome;
+use pairs::Farthest;
 use rounds::Plan;
 use update::{Report, Returned};
 
@@ -38,7 +39,7 @@ fn keep_targets(targets: &mut [u64], yards: &[u64])
 }
 
 // The figures after the link of two codes, the lower one's search first.
-fn relink_codes(plan: Plan<'_>, room: &mut Room<'_>, link: Link, chain: u16) -> Figures
+fn relink_codes(plan: Plan<'_>, room: &mut Room<'_>, link: Link, stored: Farthest) -> Figures
     requires { let low = min link.first link.second in
         let high = max link.first link.second in
         AreLong base (room_sizes (length plan.links.now) room.old)
@@ -48,11 +49,11 @@ fn relink_codes(plan: Plan<'_>, room: &mut Room<'_>, link: Link, chain: u16) -> 
         let low = min link.first link.second in
         let high = max link.first link.second in
         figured result.change (ran (lent_in room.new) result.chain result.count result.searches)
-        ≡ relinked_by base G low high chain (lent_in room.old) }
+        ≡ relinked_by base G low high stored.chain (lent_in room.old) }
 {
     let low = link.first.min(link.second);
     let high = link.first.max(link.second);
-    relink::relink(plan, room, low as usize, high as usize, chain)
+    relink::relink(plan, room, low as usize, high as usize, stored)
 }
 
 // A link that nothing refuses: put in place, then the figures, the lower code's search first.
@@ -73,7 +74,11 @@ fn link_map(rec: Record, links: &mut [u64], room: &mut Room<'_>, link: Link) -> 
         targets: &targets,
         links: &*links,
     };
-    let got = relink_codes(plan, room, link, rec.chain);
+    let stored = Farthest {
+        chain: rec.chain,
+        count: rec.count,
+    };
+    let got = relink_codes(plan, room, link, stored);
     let mut after = rec;
     after.chain = got.chain;
     after.count = got.count;

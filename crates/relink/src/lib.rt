@@ -23,8 +23,9 @@ ghost use Rattle.relink.specs.Steps.{low_taken, both_taken, StandBoth};
 
 use bounds::Marks;
 use insertion::Figures;
-use map::{Room, Scratch};
+use map::{Room, Scratch, TABLE};
 use outcome::Change;
+use pairs::Farthest;
 use rounds::{Desk, Finished, Plan, RoundFigures};
 use targets::Span;
 
@@ -223,7 +224,7 @@ fn settle(
     low: Low<'_>,
     high: High,
     fars: &mut [u64],
-    chain: u16,
+    stored: Farthest,
 ) -> Figures
     requires { let G = plan_network base.words plan in
         let Q = reached high.span.ecc high.span.own fars.old in
@@ -234,11 +235,12 @@ fn settle(
     ensures same { IsSameRoom room.old room.new }
     ensures left { let G = plan_network base.words plan.entry in
         figured result.change (ran (lent_in room.new) result.chain result.count result.searches)
-        ≡ relinked_by base G low.entry.code high.code chain (lent_in room.old) }
+        ≡ relinked_by base G low.entry.code high.code stored.chain (lent_in room.old) }
 {
     let pairs = &mut *room.pairs;
     let hops = &mut *room.hops;
-    let left = stale_pairs::drop_stale_either(pairs, low.hops, &*hops, map::WORDS, chain);
+    let left = stale_pairs::drop_stale_either::<TABLE>(pairs, low.hops, &*hops, map::WORDS, stored);
+    let chain = stored.chain;
     if is_kept(left.count, chain) {
         bounds::mark_twice(
             room.bounds,
@@ -267,9 +269,15 @@ fn settle(
     }
 }
 
-// The figures after the link of low and high is in place, by the stored chain: the search from low on local tables and the one from high on the lent
+// The figures after the link of low and high is in place, by the stored figures: the search from low on local tables and the one from high on the lent
 // ones, what each says of its end, then the pairs, the marks and, if the chain shrank, the rounds. The targets are the depots that deliver.
-pub fn relink(plan: Plan<'_>, room: &mut Room<'_>, low: usize, high: usize, chain: u16) -> Figures
+pub fn relink(
+    plan: Plan<'_>,
+    room: &mut Room<'_>,
+    low: usize,
+    high: usize,
+    stored: Farthest,
+) -> Figures
     requires { AreLong base (room_sizes (length plan.links.now) room.old)
         × IsRelinkable base plan.members.now plan.targets.now plan.links.now (lent_in room.old) low high
         × (low < places base)
@@ -277,7 +285,7 @@ pub fn relink(plan: Plan<'_>, room: &mut Room<'_>, low: usize, high: usize, chai
     ensures same { IsSameRoom room.old room.new }
     ensures left { let G = plan_network base.words plan.entry in
         figured result.change (ran (lent_in room.new) result.chain result.count result.searches)
-        ≡ relinked_by base G low high chain (lent_in room.old) }
+        ≡ relinked_by base G low high stored.chain (lent_in room.old) }
 {
     let mut near = [0u16; map::PLACES];
     let mut evens = [0u64; map::WORDS];
@@ -332,5 +340,5 @@ pub fn relink(plan: Plan<'_>, room: &mut Room<'_>, low: usize, high: usize, chai
         code: high,
         span: f,
     };
-    settle(plan, room, lower, higher, &mut fars, chain)
+    settle(plan, room, lower, higher, &mut fars, stored)
 }

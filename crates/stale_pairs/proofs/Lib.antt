@@ -1,5 +1,9 @@
 -- The loop of `sift`: the stale members of one word, a member at a time.
 pub mod Sifting
+-- The same of a whole word at once, and the loop of `greatest_way`.
+pub mod Wholes
+-- Balls, made row by row and read.
+pub mod Balls
 -- The loop of `drop_row`: the stale pairs of one row, a word at a time.
 pub mod StaleRow
 -- Rows without a pair: groups of 8, one row, or none.

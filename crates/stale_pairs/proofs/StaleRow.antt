@@ -23,14 +23,9 @@ use Rattle.rows.proofs.Written.{table_at, table_word}
 use Rattle.rows.proofs.Wholes.{table_whole, encode_table_ext}
 use Rattle.rows.proofs.WordPuts.{put_word_lem}
 use Rattle.pairs.specs.Pairs.{tally}
-use Rattle.stale_pairs.specs.Stale.{Tells, TellsWord, dropped, rows_dropped, stale_pairs, pairs_after, row_gone, row_stays, row_way, staying_bit, stale_bit, greatest_bit, WordSifted, sifted, sift_of, drop_row_of}
+use Rattle.stale_pairs.specs.Stale.{dropped, rows_dropped, stale_pairs, pairs_after, row_gone, row_stays, row_way, staying_bit, stale_bit, greatest_bit, WordSifted, sifted, sift_of, drop_row_of}
 use Rattle.lists.proofs.Ranges.{count_nothing, max-nothing, max_none, max_same, max-split}
 use Rattle.graph.specs.Opening.{staying_pairs}
-
--- what is told of all codes is told of one word of a row
-pub told_word : (n D : ℕ) (answers : ℕ → ℕ → ℕ → Type 0) (way : ℕ → ℕ → ℕ) → Tells n D answers way
-    → (u first : ℕ) → u < n → first + 64 ≤ n → TellsWord u first D answers way
-told_word n D answers way t u first l m = λ b r k. t u (first + b) r l (omega arith)
 
 -- a pair goes or stays
 pub count_parted : (far : ℕ → ℕ → ℕ) (D : ℕ) (P : Pairs) (u : ℕ) (vs : List ℕ)

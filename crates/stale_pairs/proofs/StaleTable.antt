@@ -58,8 +58,8 @@ pub below_all : (W : ℕ) (t : List ℕ) → count_pairs (range (64 * W)) (table
 unfolding count_pairs pairs_below
 below_all W t = refl
 
-pub below_few : (W : ℕ) (t : List ℕ) → W < 513 → pairs_below W (64 * W) t ≤ 4294967295
-unfolding pairs_below
+pub below_few : (W : ℕ) (t : List ℕ) → W < 513 → count_pairs (range (64 * W)) (table_bit W t) ≤ 4294967295
+unfolding count_pairs
 below_few W t z =
     let few = sum_few (λ u. countb (table_bit W t u) (range (64 * W))) 32768 (64 * W) (λ u l. omega (arith, count_le_length (table_bit W t u) (range (64 * W)), length-range (64 * W))) in
     omega (arith, few)

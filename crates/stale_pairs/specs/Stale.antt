@@ -1,12 +1,13 @@
 -- STALE PAIRS, over lists of words, for any number of words per row: which stored pairs stay after a search, and what the code's steps do to the
 -- table. Assumes nothing.
-use Rattle.std.specs.Prelude.{◌≡◌, Bool, false, cond, not, ◌&&◌, List, ℕ, ◌+◌, ◌*◌, ◌≤◌, ◌<◌, min, eqb, ltb, length, get_or}
+use Rattle.std.specs.Prelude.{◌≡◌, Bool, false, cond, not, ◌&&◌, List, ℕ, ◌+◌, ◌*◌, ◌^◌, ◌≤◌, ◌<◌, min, eqb, ltb, length, get_or}
 use Rattle.lists.specs.Lists.{range, countb, sum_of, max_of, overwrite}
 use Rattle.words.specs.Bits.{bit, word_of}
 use Rattle.graph.specs.Chart.{Pairs, count_pairs}
 use Rattle.graph.specs.Opening.{staying_pairs, shrunk_candidate}
 use Rattle.rows.specs.Rows.{table_bit, encode_table}
 use Rattle.pairs.specs.Pairs.{Tally, tally, tally_of}
+use Rattle.stale_pairs.specs.declared.Sifted.{Sifted}
 
 -- the way by the hops of a search: from u to where it began, and on to v
 abbrev pub way_by : List ℕ → ℕ → ℕ → ℕ
@@ -16,11 +17,7 @@ way_by hops u v = get_or hops u 0 + get_or hops v 0
 abbrev pub way_by_either : List ℕ → List ℕ → ℕ → ℕ → ℕ
 way_by_either near far u v = min (way_by near u v) (way_by far u v)
 
--- what is answered for codes below n is the way from one to the other, and no more than D
-abbrev pub Tells : ℕ → ℕ → (ℕ → ℕ → ℕ → Type 0) → (ℕ → ℕ → ℕ) → Type 0
-Tells n D answers way = (u v r : ℕ) → u < n → v < n → answers u v r → r ≡ min D (way u v)
-
--- the same for one word of a row, whose bit b stands for the pair of u and first + b
+-- what is answered for each bit b of one word of a row, which stands for the pair of u and first + b, is the way from one to the other, and no more than D
 abbrev pub TellsWord : ℕ → ℕ → ℕ → (ℕ → ℕ → ℕ → Type 0) → (ℕ → ℕ → ℕ) → Type 0
 TellsWord u first D answers way = (b r : ℕ) → b < 64 → answers u (first + b) r → r ≡ min D (way u (first + b))
 
@@ -108,6 +105,11 @@ sifted y g k w = record { word = y; gone = g; kept = k; way = w }
 unfoldable pub sift_of : (ℕ → ℕ → ℕ) → ℕ → ℕ → ℕ → ℕ → WordSifted
 sift_of way D u first x =
     sifted (word_of 64 (staying_bit way D u first x)) (countb (stale_bit way D u first x) (range 64)) (countb (staying_bit way D u first x) (range 64)) (greatest_bit way D u first x)
+
+-- what is answered for a word of a row is what sifting it leaves
+abbrev pub Sifts : ℕ → ℕ → (ℕ → ℕ → ℕ → Sifted → Type 0) → (ℕ → ℕ → ℕ) → Type 0
+Sifts W D answers way =
+    (x u j : ℕ) (r : Sifted) → x < 2 ^ 64 → u < 64 * W → j < W → answers x u j r → sifted r.word r.gone r.kept r.way ≡ sift_of way D u (64 * j) x
 
 -- the rows from u to p have no pair, and stand among the first n
 pub record Bare (W n : ℕ) (pairs : List ℕ) (u p : ℕ) : Type 0 where

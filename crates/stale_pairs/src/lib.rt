@@ -1,14 +1,16 @@
 // Stale pairs dropped from the pair table itself: those that a search, or either of two, shows to be nearer than the chain. A row of words may be up to
 // 512 long.
-// Rows are done one after the other, each in its place: there is no second pair table.
+// Rows are done one after the other, each in its place: there is no second pair table. Where there are few pairs each is looked at. Where there are many, a
+// row loses whole words: the codes that a search finds near enough, its balls, which are made first.
 // What a function ensures of table, counts and way is one equation, so that callers rewrite by it. A row's width comes beside it, as crate `rows` says.
 
 #![tactic(auto)]
 
-ghost use Rattle.std.specs.Prelude.{ℕ, ◌≡◌, ◌+◌, ◌*◌, ◌^◌, ◌<◌, ◌≤◌, min, max, length};
+ghost use Rattle.std.specs.Prelude.{ℕ, IsTrue, ◌≡◌, false, ◌&&◌, ◌||◌, ◌+◌, ◌*◌, ◌^◌, ◌<◌, ◌≤◌, eqb, min, length};
 ghost use Rattle.pairs.specs.Pairs.{tally};
-ghost use Rattle.stale_pairs.specs.Stale.{HasHops, Bare, Tells, TellsWord, way_by, way_by_either, sifted, sift_of};
-ghost use Rattle.stale_pairs.specs.Stale.{dropped, rows_dropped, drop_row_of, drop_rows_of, drop_of, pairs_below};
+ghost use Rattle.stale_pairs.specs.Stale.{HasHops, Bare, TellsWord, way_by, way_by_either, sifted, sift_of, Sifts};
+ghost use Rattle.stale_pairs.specs.Stale.{dropped, rows_dropped, drop_row_of, drop_rows_of, drop_of, pairs_below, greatest_bit};
+ghost use Rattle.stale_pairs.specs.Balls.{TakesWord, nearer, ring, AreBalls, BallsFit};
 ghost use Rattle.lists.specs.Lists.{range};
 ghost use Rattle.graph.specs.Chart.{count_pairs};
 ghost use Rattle.rows.specs.Rows.{table_bit};
@@ -17,6 +19,12 @@ use pairs::Farthest;
 
 // as many pairs as a count can tell: no table has more
 const MOST: u32 = u32::MAX;
+
+// From so many pairs on they are dropped by whole words: on a star that is quicker from some 90 on.
+const MANY: u32 = 100;
+
+// words that the balls of a short chain fit into: 64 rows of four words
+const SHORT: usize = 256;
 
 // How many pairs stay, and the greatest way of those that were there.
 #[derive(Clone, Copy)]
@@ -103,19 +111,18 @@ fn sift<F: Fn(usize, usize) -> u16>(tell: &F, x: u64, u: usize, first: usize, ch
 
 // Drops the stale pairs of row u, a word at a time. Words without a pair are passed: most of a row has none.
 #[tactic(auto, using(crate::proofs::StaleRow::row_end))]
-fn drop_row<F: Fn(usize, usize) -> u16>(
+fn drop_row<F: Fn(u64, usize, usize) -> Sifted>(
     pairs: &mut [u64],
-    tell: &F,
+    sifter: &F,
     words: usize,
     u: usize,
-    chain: u16,
 ) -> RowsDropping
     requires room { (words < 513) × (words * (64 * words) ≤ length pairs.old) × (u < 64 * words) }
-    requires asked { (u v : ℕ) → u < 64 * words → v < 64 * words → F.pre tell.now u v }
-    requires told { (way : ℕ → ℕ → ℕ) × Tells (64 * words) chain (F.post tell.now) way }
-    ensures { (way : ℕ → ℕ → ℕ)
-        → Tells (64 * words) chain (F.post tell.now) way
-        → rows_dropped pairs.new result.gone result.count result.way ≡ drop_row_of words way chain u pairs.old }
+    requires asked { (x p j : ℕ) → x < 2 ^ 64 → p < 64 * words → j < words → F.pre sifter.now x p j }
+    requires told { (way : ℕ → ℕ → ℕ) × (D : ℕ) × Sifts words D (F.post sifter.now) way }
+    ensures { (way : ℕ → ℕ → ℕ) (D : ℕ)
+        → Sifts words D (F.post sifter.now) way
+        → rows_dropped pairs.new result.gone result.count result.way ≡ drop_row_of words way D u pairs.old }
 {
     let base = words * u;
     let mut gone: u32 = 0;
@@ -125,7 +132,7 @@ fn drop_row<F: Fn(usize, usize) -> u16>(
         let i = base + j;
         let old = pairs[i];
         if old != 0 {
-            let left = sift(tell, old, u, 64 * j, chain);
+            let left = sifter(old, u, j);
             pairs[i] = left.word;
             gone += left.gone;
             count += left.kept;
@@ -156,12 +163,20 @@ fn bare_groups(pairs: &[u64], words: usize, rows: usize, u: usize) -> usize
     p
 }
 
-// The next row from u on that has a pair, all rows where none has: most have none, and so most are passed 8 at a time.
+// The next row from u on that has a pair, all rows where none has. In a dense table it is mostly u itself, which is looked at first; in others most rows
+// have none, and so most are passed 8 at a time.
 #[tactic(auto, using(crate::proofs::BareRows::row_inside))]
-fn next_row(pairs: &[u64], words: usize, rows: usize, u: usize) -> usize
+fn next_row(pairs: &[u64], words: usize, rows: usize, u: usize, is_dense: bool) -> usize
     requires { (words < 513) × (words * (64 * words) ≤ length pairs.now) × (rows ≤ 64 * words) × (u ≤ rows) }
     ensures { Bare words rows pairs.now u result }
 {
+    if is_dense {
+        if u < rows {
+            if !rows::all_zero(&pairs[words * u..words * u + words]) {
+                return u;
+            }
+        }
+    }
     for p in bare_groups(pairs, words, rows, u)..rows {
         if !rows::all_zero(&pairs[words * p..words * p + words]) {
             return p;
@@ -171,66 +186,109 @@ fn next_row(pairs: &[u64], words: usize, rows: usize, u: usize) -> usize
 }
 
 // Drops the stale pairs of the first rows in place, a row after the other: those rows have their pairs that stay, the others are as they were, and
-// the pairs gone so far are counted. No more than `total` pairs stand in them, so that no row is looked at behind the last of these.
+// the pairs gone so far are counted. No more than `total` pairs stand in them, so that no row is looked at behind the last of these. How a word is sifted
+// is told, member by member or whole, by one search or by two, and the compiler writes it into the loop; so it does whether most rows have pairs.
 #[tactic(auto, using(crate::proofs::StaleTable::rows_end))]
-pub fn drop_rows<F: Fn(usize, usize) -> u16>(
+pub fn drop_rows<F: Fn(u64, usize, usize) -> Sifted>(
     pairs: &mut [u64],
-    tell: &F,
+    sifter: &F,
     words: usize,
     rows: usize,
-    chain: u16,
     total: u32,
+    is_dense: bool,
 ) -> RowsDropping
     requires room { (words < 513)
         × (words * (64 * words) ≤ length pairs.old)
         × (rows ≤ 64 * words)
         × (pairs_below words rows pairs.old ≤ total) }
-    requires asked { (u v : ℕ) → u < 64 * words → v < 64 * words → F.pre tell.now u v }
-    requires told { (way : ℕ → ℕ → ℕ) × Tells (64 * words) chain (F.post tell.now) way }
-    ensures { (way : ℕ → ℕ → ℕ)
-        → Tells (64 * words) chain (F.post tell.now) way
-        → rows_dropped pairs.new result.gone result.count result.way ≡ drop_rows_of words way chain rows pairs.old }
+    requires asked { (x p j : ℕ) → x < 2 ^ 64 → p < 64 * words → j < words → F.pre sifter.now x p j }
+    requires told { (way : ℕ → ℕ → ℕ) × (D : ℕ) × Sifts words D (F.post sifter.now) way }
+    ensures { (way : ℕ → ℕ → ℕ) (D : ℕ)
+        → Sifts words D (F.post sifter.now) way
+        → rows_dropped pairs.new result.gone result.count result.way ≡ drop_rows_of words way D rows pairs.old }
 {
     let mut gone: u32 = 0;
     let mut count: u32 = 0;
     let mut way: u16 = 0;
     // A row is jumped to, so that no range counts the rows.
-    let mut u = next_row(&*pairs, words, rows, 0);
+    let mut u = next_row(&*pairs, words, rows, 0, is_dense);
     while u < rows {
-        let row = drop_row(pairs, tell, words, u, chain);
+        let row = drop_row(pairs, sifter, words, u);
         gone += row.gone;
         count += row.count;
         way = way.max(row.way);
         if gone + count == total {
             u = rows;
         } else {
-            u = next_row(&*pairs, words, rows, u + 1);
+            u = next_row(&*pairs, words, rows, u + 1, is_dense);
         }
     }
     RowsDropping { gone, count, way }
 }
 
-// Drops the stale pairs of the table in place, of which it has no more than the stored count, and answers what is left of them and the greatest way that
-// was there.
+// All rows: what is left of the table's pairs, of which it has no more than `total`, and the greatest way that was there.
 #[tactic(auto, using(crate::proofs::StaleTable::below_all, crate::proofs::StaleTable::all_rows))]
-pub fn drop_stale(pairs: &mut [u64], hops: &[u16], words: usize, stored: Farthest) -> Dropping
-    requires { HasHops words pairs.old hops.now
-        × (count_pairs (range (64 * words)) (table_bit words pairs.old) ≤ stored.count) }
-    ensures { dropped (tally pairs.new result.count) result.way ≡ drop_of words (way_by hops.now) stored.chain pairs.old }
+fn drop_all<F: Fn(u64, usize, usize) -> Sifted>(
+    pairs: &mut [u64],
+    sifter: &F,
+    words: usize,
+    total: u32,
+    is_dense: bool,
+) -> Dropping
+    requires room { (words < 513)
+        × (words * (64 * words) ≤ length pairs.old)
+        × (count_pairs (range (64 * words)) (table_bit words pairs.old) ≤ total) }
+    requires asked { (x p j : ℕ) → x < 2 ^ 64 → p < 64 * words → j < words → F.pre sifter.now x p j }
+    requires told { (way : ℕ → ℕ → ℕ) × (D : ℕ) × Sifts words D (F.post sifter.now) way }
+    ensures { (way : ℕ → ℕ → ℕ) (D : ℕ)
+        → Sifts words D (F.post sifter.now) way
+        → dropped (tally pairs.new result.count) result.way ≡ drop_of words way D pairs.old }
 {
-    let chain = stored.chain;
-    let tell = |u: usize, v: usize| way_by(hops, u, v, chain);
-    let done = drop_rows(pairs, &tell, words, 64 * words, chain, stored.count);
+    let done = drop_rows(pairs, sifter, words, 64 * words, total, is_dense);
     Dropping {
         count: done.count,
         way: done.way,
     }
 }
 
-// `drop_stale` by two searches: a pair is stale that either shows to be nearer than the chain. Each of the two tells `drop_rows` its own way, so that no
-// caller needs a closure.
-#[tactic(auto, using(crate::proofs::StaleTable::below_few, crate::proofs::StaleTable::all_rows))]
-pub fn drop_stale_either(
+// ---- few pairs: member by member
+
+// A word sifted by one search.
+fn sift_by(hops: &[u16], x: u64, u: usize, j: usize, chain: u16) -> Sifted
+    requires { (u < length hops.now) × (64 * j + 64 ≤ length hops.now) }
+    ensures { sifted result.word result.gone result.kept result.way ≡ sift_of (way_by hops.now) chain u (64 * j) x }
+{
+    let tell = |u: usize, v: usize| way_by(hops, u, v, chain);
+    sift(&tell, x, u, 64 * j, chain)
+}
+
+// A word sifted by two.
+fn sift_by_either(near: &[u16], far: &[u16], x: u64, u: usize, j: usize, chain: u16) -> Sifted
+    requires { (u < length near.now)
+        × (64 * j + 64 ≤ length near.now)
+        × (u < length far.now)
+        × (64 * j + 64 ≤ length far.now) }
+    ensures { let way = way_by_either near.now far.now in
+        sifted result.word result.gone result.kept result.way ≡ sift_of way chain u (64 * j) x }
+{
+    let tell = |u: usize, v: usize| way_by_either(near, far, u, v, chain);
+    sift(&tell, x, u, 64 * j, chain)
+}
+
+// Drops the stale pairs member by member.
+fn drop_few(pairs: &mut [u64], hops: &[u16], words: usize, stored: Farthest) -> Dropping
+    requires { HasHops words pairs.old hops.now
+        × (count_pairs (range (64 * words)) (table_bit words pairs.old) ≤ stored.count) }
+    ensures { dropped (tally pairs.new result.count) result.way ≡ drop_of words (way_by hops.now) stored.chain pairs.old }
+{
+    let chain = stored.chain;
+    let sifter = |x: u64, u: usize, j: usize| sift_by(hops, x, u, j, chain);
+    drop_all(pairs, &sifter, words, stored.count, false)
+}
+
+// The same by two searches.
+#[tactic(auto, using(crate::proofs::StaleTable::below_few))]
+fn drop_few_either(
     pairs: &mut [u64],
     near: &[u16],
     far: &[u16],
@@ -241,10 +299,306 @@ pub fn drop_stale_either(
     ensures { let way = way_by_either near.now far.now in
         dropped (tally pairs.new result.count) result.way ≡ drop_of words way chain pairs.old }
 {
-    let tell = |u: usize, v: usize| way_by_either(near, far, u, v, chain);
-    let done = drop_rows(pairs, &tell, words, 64 * words, chain, MOST);
-    Dropping {
-        count: done.count,
-        way: done.way,
+    let sifter = |x: u64, u: usize, j: usize| sift_by_either(near, far, x, u, j, chain);
+    drop_all(pairs, &sifter, words, MOST, false)
+}
+
+// ---- many pairs: whole words. Row k of a table of balls has the codes whose hop is below k.
+
+// Row k of a table that is all 0 gets the codes whose hop is k - 1, for each k up to `most`.
+#[tactic(auto, using(crate::proofs::Balls::ring_end))]
+fn put_rings(balls: &mut [u64], hops: &[u16], words: usize, most: usize)
+    requires { (words < 513)
+        × (words * most + words ≤ length balls.old)
+        × (64 * words ≤ length hops.now)
+        × (most < 64 * words)
+        × ((k v : ℕ) → table_bit words balls.old k v ≡ false) }
+    ensures { (k v : ℕ) → v < 64 * words → table_bit words balls.new k v ≡ ring hops.now most k v }
+{
+    for v in 0..64 * words {
+        let h = hops[v] as usize;
+        if h < most {
+            rows::row_set(balls, words, h + 1, v);
+        }
     }
+}
+
+// Adds the members of row k to the row behind it.
+fn add_row(balls: &mut [u64], words: usize, k: usize)
+    requires { (words < 513) × (words * (k + 1) + words ≤ length balls.old) × (k + 1 < 64 * words) }
+    ensures { let P = table_bit words balls.old in
+        (p v : ℕ) → v < 64 * words → table_bit words balls.new p v ≡ (P p v || (eqb p (k + 1) && P k v)) }
+{
+    let from = words * k;
+    let to = words * (k + 1);
+    for j in 0..words {
+        balls[to + j] |= balls[from + j];
+    }
+}
+
+// Makes the balls of a search, up to the row `most`, in a table that is all 0.
+#[tactic(auto, using(crate::proofs::Balls::ball_end))]
+fn put_balls(balls: &mut [u64], hops: &[u16], words: usize, most: usize)
+    requires { (words < 513)
+        × (words * most + words ≤ length balls.old)
+        × (64 * words ≤ length hops.now)
+        × (most < 64 * words)
+        × ((k v : ℕ) → table_bit words balls.old k v ≡ false) }
+    ensures { AreBalls words most hops.now balls.new }
+{
+    put_rings(balls, hops, words, most);
+    for k in 0..most {
+        add_row(balls, words, k);
+    }
+}
+
+// Word j of the codes to which the way from u is below d: a row of the balls.
+#[tactic(auto, using(crate::proofs::Balls::ball_fits, crate::proofs::Balls::ball_word_lem))]
+fn ball_word(balls: &[u64], hops: &[u16], words: usize, u: usize, d: u16, j: usize) -> u64
+    requires { (words < 513) × AreBalls words d hops.now balls.now × (u < length hops.now) × (j < words) }
+    ensures { result ≡ nearer (way_by hops.now) u d j }
+{
+    let k = d.saturating_sub(hops[u]) as usize;
+    balls[words * k + j]
+}
+
+// The greatest way of the members of x, word j of row u, and no more than chain: that from which on down some member is farther.
+fn greatest_way<F: Fn(usize, u16, usize) -> u64>(
+    take: &F,
+    x: u64,
+    u: usize,
+    j: usize,
+    chain: u16,
+) -> u16
+    requires asked { (d : ℕ) → d ≤ chain → F.pre take.now u d j }
+    requires told { (way : ℕ → ℕ → ℕ) × TakesWord u j chain (F.post take.now) way }
+    ensures { (way : ℕ → ℕ → ℕ)
+        → TakesWord u j chain (F.post take.now) way
+        → result ≡ greatest_bit way chain u (64 * j) x }
+{
+    let mut d = chain;
+    while d > 0 {
+        if x & !take(u, d, j) != 0 {
+            return d;
+        }
+        d -= 1;
+    }
+    0
+}
+
+// `sift` by whole words: what takes a member out is that it is nearer than the chain. Where one stays, the greatest way is the chain.
+fn sift_whole<F: Fn(usize, u16, usize) -> u64>(
+    take: &F,
+    x: u64,
+    u: usize,
+    j: usize,
+    chain: u16,
+) -> Sifted
+    requires asked { (d : ℕ) → d ≤ chain → F.pre take.now u d j }
+    requires told { (way : ℕ → ℕ → ℕ) × TakesWord u j chain (F.post take.now) way }
+    ensures { (way : ℕ → ℕ → ℕ)
+        → TakesWord u j chain (F.post take.now) way
+        → sifted result.word result.gone result.kept result.way ≡ sift_of way chain u (64 * j) x }
+{
+    let near = take(u, chain, j);
+    let word = x & !near;
+    let mut way = chain;
+    if word == 0 {
+        way = greatest_way(take, x, u, j, chain);
+    }
+    Sifted {
+        word,
+        gone: words::count(x & near),
+        kept: words::count(word),
+        way,
+    }
+}
+
+// A word sifted whole by one search.
+#[tactic(auto, using(crate::proofs::Balls::fewer_balls))]
+fn sift_whole_by(
+    balls: &[u64],
+    hops: &[u16],
+    words: usize,
+    x: u64,
+    u: usize,
+    j: usize,
+    chain: u16,
+) -> Sifted
+    requires { (words < 513) × AreBalls words chain hops.now balls.now × (u < length hops.now) × (j < words) }
+    ensures { sifted result.word result.gone result.kept result.way ≡ sift_of (way_by hops.now) chain u (64 * j) x }
+{
+    let take = |u: usize, d: u16, j: usize| ball_word(balls, hops, words, u, d, j);
+    sift_whole(&take, x, u, j, chain)
+}
+
+// What is nearer than d by either of two searches.
+#[tactic(auto, using(crate::proofs::Balls::nearer_either))]
+fn ball_word_either(
+    near_balls: &[u64],
+    near: &[u16],
+    far_balls: &[u64],
+    far: &[u16],
+    words: usize,
+    u: usize,
+    d: u16,
+    j: usize,
+) -> u64
+    requires { (words < 513)
+        × AreBalls words d near.now near_balls.now
+        × AreBalls words d far.now far_balls.now
+        × (u < length near.now)
+        × (u < length far.now)
+        × (j < words) }
+    ensures { result ≡ nearer (way_by_either near.now far.now) u d j }
+{
+    ball_word(near_balls, near, words, u, d, j) | ball_word(far_balls, far, words, u, d, j)
+}
+
+// A word sifted whole by two searches.
+#[tactic(auto, using(crate::proofs::Balls::fewer_balls))]
+fn sift_whole_by_either(
+    near_balls: &[u64],
+    near: &[u16],
+    far_balls: &[u64],
+    far: &[u16],
+    words: usize,
+    x: u64,
+    u: usize,
+    j: usize,
+    chain: u16,
+) -> Sifted
+    requires { (words < 513)
+        × AreBalls words chain near.now near_balls.now
+        × AreBalls words chain far.now far_balls.now
+        × (u < length near.now)
+        × (u < length far.now)
+        × (j < words) }
+    ensures { let way = way_by_either near.now far.now in
+        sifted result.word result.gone result.kept result.way ≡ sift_of way chain u (64 * j) x }
+{
+    let take = |u: usize, d: u16, j: usize| ball_word_either(
+        near_balls, near, far_balls, far, words, u, d, j,
+    );
+    sift_whole(&take, x, u, j, chain)
+}
+
+// Drops the stale pairs by whole words. The balls stand in local memory, which a call that drops few does not pay for. It is kept apart, so that what such
+// a call runs through stays short enough to be written into its callers.
+#[inline(never)]
+fn drop_many<const N: usize>(
+    pairs: &mut [u64],
+    hops: &[u16],
+    words: usize,
+    stored: Farthest,
+) -> Dropping
+    requires { HasHops words pairs.old hops.now
+        × (count_pairs (range (64 * words)) (table_bit words pairs.old) ≤ stored.count)
+        × BallsFit words stored.chain N }
+    ensures { dropped (tally pairs.new result.count) result.way ≡ drop_of words (way_by hops.now) stored.chain pairs.old }
+{
+    let chain = stored.chain;
+    let mut balls = [0u64; N];
+    put_balls(&mut balls, hops, words, chain as usize);
+    let sifter = |x: u64, u: usize, j: usize| -> Sifted
+        requires { (words < 513) × AreBalls words chain hops.now balls × (u < length hops.now) × (j < words) }
+        ensures { sifted result.word result.gone result.kept result.way ≡ sift_of (way_by hops.entry.now) chain u (64 * j) x }
+    { sift_whole_by(&balls, hops, words, x, u, j, chain) };
+    drop_all(pairs, &sifter, words, stored.count, true)
+}
+
+// The same by two searches.
+#[tactic(auto, using(crate::proofs::StaleTable::below_few))]
+#[inline(never)]
+fn drop_many_either<const N: usize>(
+    pairs: &mut [u64],
+    near: &[u16],
+    far: &[u16],
+    words: usize,
+    chain: u16,
+) -> Dropping
+    requires { HasHops words pairs.old near.now
+        × HasHops words pairs.old far.now
+        × BallsFit words chain N }
+    ensures { let way = way_by_either near.now far.now in
+        dropped (tally pairs.new result.count) result.way ≡ drop_of words way chain pairs.old }
+{
+    let mut near_balls = [0u64; N];
+    let mut far_balls = [0u64; N];
+    put_balls(&mut near_balls, near, words, chain as usize);
+    put_balls(&mut far_balls, far, words, chain as usize);
+    let sifter = |x: u64, u: usize, j: usize| -> Sifted
+        requires { (words < 513)
+            × AreBalls words chain near.now near_balls
+            × AreBalls words chain far.now far_balls
+            × (u < length near.now)
+            × (u < length far.now)
+            × (j < words) }
+        ensures { let way = way_by_either near.entry.now far.entry.now in
+            sifted result.word result.gone result.kept result.way ≡ sift_of way chain u (64 * j) x }
+    { sift_whole_by_either(&near_balls, near, &far_balls, far, words, x, u, j, chain) };
+    drop_all(pairs, &sifter, words, MOST, true)
+}
+
+// ---- few or many
+
+// Whether n words hold the balls up to the row `most`.
+fn balls_fit(words: usize, most: u16, n: usize) -> bool
+    requires { (words < 513) × (n < 2 ^ 60) }
+    ensures { IsTrue result → BallsFit words most n }
+{
+    let rows = most as usize;
+    if 64 * words <= rows {
+        return false;
+    }
+    words * rows + words <= n
+}
+
+// Drops the stale pairs of the table in place, of which it has no more than the stored count, and answers what is left of them and the greatest way that
+// was there. Many go by whole words, if the balls fit into N words: to make these costs less than to go over the pairs. For a short chain a few rows do.
+pub fn drop_stale<const N: usize>(
+    pairs: &mut [u64],
+    hops: &[u16],
+    words: usize,
+    stored: Farthest,
+) -> Dropping
+    requires { HasHops words pairs.old hops.now
+        × (count_pairs (range (64 * words)) (table_bit words pairs.old) ≤ stored.count)
+        × (N < 2 ^ 60) }
+    ensures { dropped (tally pairs.new result.count) result.way ≡ drop_of words (way_by hops.now) stored.chain pairs.old }
+{
+    if MANY <= stored.count {
+        if balls_fit(words, stored.chain, SHORT) {
+            return drop_many::<SHORT>(pairs, hops, words, stored);
+        }
+        if balls_fit(words, stored.chain, N) {
+            return drop_many::<N>(pairs, hops, words, stored);
+        }
+    }
+    drop_few(pairs, hops, words, stored)
+}
+
+// `drop_stale` by two searches: a pair is stale that either shows to be nearer than the chain. The stored count only says which way is quicker: there are two
+// tables of balls to make.
+pub fn drop_stale_either<const N: usize>(
+    pairs: &mut [u64],
+    near: &[u16],
+    far: &[u16],
+    words: usize,
+    stored: Farthest,
+) -> Dropping
+    requires { HasHops words pairs.old near.now × HasHops words pairs.old far.now × (N < 2 ^ 60) }
+    ensures { let way = way_by_either near.now far.now in
+        dropped (tally pairs.new result.count) result.way ≡ drop_of words way stored.chain pairs.old }
+{
+    let chain = stored.chain;
+    if 2 * MANY <= stored.count {
+        if balls_fit(words, chain, SHORT) {
+            return drop_many_either::<SHORT>(pairs, near, far, words, chain);
+        }
+        if balls_fit(words, chain, N) {
+            return drop_many_either::<N>(pairs, near, far, words, chain);
+        }
+    }
+    drop_few_either(pairs, near, far, words, chain)
 }
