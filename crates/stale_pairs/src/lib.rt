@@ -187,7 +187,8 @@ fn next_row(pairs: &[u64], words: usize, rows: usize, u: usize, is_dense: bool) 
 
 // Drops the stale pairs of the first rows in place, a row after the other: those rows have their pairs that stay, the others are as they were, and
 // the pairs gone so far are counted. No more than `total` pairs stand in them, so that no row is looked at behind the last of these. How a word is sifted
-// is told, member by member or whole, by one search or by two, and the compiler writes it into the loop; so it does whether most rows have pairs.
+// is told, member by member or whole, by one search or by two, and the compiler writes it into the loop. `is_dense` only says where a row with pairs is
+// looked for first.
 #[tactic(auto, using(crate::proofs::StaleTable::rows_end))]
 pub fn drop_rows<F: Fn(u64, usize, usize) -> Sifted>(
     pairs: &mut [u64],
@@ -484,7 +485,8 @@ fn sift_whole_by_either(
 }
 
 // Drops the stale pairs by whole words. The balls stand in local memory, which a call that drops few does not pay for. It is kept apart, so that what such
-// a call runs through stays short enough to be written into its callers.
+// a call runs through stays short enough to be written into its callers. What sifts is told the array and no slice of it, so that it is another function for
+// each N: one that had two callers would not be written into its loop.
 #[inline(never)]
 fn drop_many<const N: usize>(
     pairs: &mut [u64],
