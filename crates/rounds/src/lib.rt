@@ -1,4 +1,4 @@
-// Reference rounds over lent tables (rules 5.1 to 5.4), a round at a time. Rows of 1 to 511 words, as the order of picks has them (crate `ranks`). A row's
+// Reference rounds over lent tables (rules 5.1 to 5.4), a round at a time. Rows of 1 to 512 words, of 1 to 511 where rounds run until none remains. A row's
 // width comes beside it, as crate `rows` says.
 // `words`, `mark` and `other` stay apart: `begin` has no use for `mark` and `absorb` none for `other`. So width and one mark go together, which are two, and
 // all else that they call takes the width alone.
@@ -9,7 +9,7 @@ ghost use Rattle.std.specs.Prelude.{◌≡◌, true, cond, ◌+◌, ◌*◌, ◌
 ghost use Rattle.pairs.specs.Pairs.{tally, Counted};
 ghost use Rattle.bounds.specs.Bounds.{leave_of, relax_of};
 ghost use Rattle.ranks.specs.Ranks.{AreRanks, AreThinned, PickIs};
-ghost use Rattle.ranks.specs.Order.{AreLow, GoesOn, GoesOnBehind};
+ghost use Rattle.ranks.specs.Order.{OrderFits, AreLow, GoesOn, GoesOnBehind};
 ghost use Rattle.targets.specs.Reach.{reached};
 ghost use Rattle.rounds.specs.Workspace.{reach_in, absorbed, taking, round_of, run_of, rounds_begun, rounds_begin_of};
 ghost use Rattle.map.specs.Room.{tables};
@@ -277,10 +277,7 @@ fn round(
 
 // Orders the codes by the ranks on the desk.
 fn order_all(order: &mut [u16], desk: &Desk<'_>, words: usize) -> usize
-    requires { (words < 512)
-        × (128 * words + 2 ≤ length order.old)
-        × (64 * words ≤ length desk.now.ranks.now)
-        × AreLow words desk.now.ranks.now }
+    requires { OrderFits words order.old desk.now.ranks.now × AreLow words desk.now.ranks.now }
     ensures { GoesOn words desk.now.ranks.now order.new result }
 {
     ranks::order_all(order, &*desk.ranks, words)
@@ -288,10 +285,7 @@ fn order_all(order: &mut [u16], desk: &Desk<'_>, words: usize) -> usize
 
 // The next reference, by the ranks on the desk.
 fn pick_next(order: &[u16], desk: &Desk<'_>, words: usize, last: usize) -> Option<usize>
-    requires { (words < 512)
-        × (128 * words + 2 ≤ length order.now)
-        × (64 * words ≤ length desk.now.ranks.now)
-        × GoesOn words desk.now.ranks.now order.now last }
+    requires { OrderFits words order.now desk.now.ranks.now × GoesOn words desk.now.ranks.now order.now last }
     ensures picked { PickIs words desk.now.ranks.now result }
     ensures place { GoesOnBehind words desk.now.ranks.now order.now result }
 {
@@ -316,8 +310,7 @@ pub fn run_rounds(
         × MarksFitIn words room.old desk.old
         × AreRanks words links.now desk.old.ranks.now
         × (before.searches < 3)
-        × (words < 512)
-        × (128 * words + 2 ≤ length order.old) }
+        × OrderFits words order.old desk.old.ranks.now }
     ensures same_room { IsSameRoom room.old room.new }
     ensures same_desk { IsSameDesk desk.old desk.new }
     ensures left { let entry = workspace_in words room.old desk.old before in

@@ -17,7 +17,6 @@ run_rounds-requires c =
       search rules,
       search rules,
       omega arith,
-      omega arith,
       search rules,
     )
 
