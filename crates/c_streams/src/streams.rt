@@ -67,7 +67,15 @@ pub extern "C" fn zorpedi_feed(
         lines: *lines,
         held: *held,
     };
-    let fed = stream::feed(progress, links, &mut room, line, out, piece, &mut Reports::new());
+    let fed = stream::feed(
+        progress,
+        links,
+        &mut room,
+        line,
+        out,
+        piece,
+        &mut Reports::new(),
+    );
     let now = fed.progress;
     c_values::put_record(words, now.rec);
     *lines = now.lines;

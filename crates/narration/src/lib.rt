@@ -36,7 +36,13 @@ impl Tells for Sentences {
     }
 
     #[tactic(auto, unfolding(crate::specs::Narration::sentence_text))]
-    fn put(&mut self, out: &mut [u8], at: usize, read: Option<&[u8]>, report: ReportFields) -> usize {
+    fn put(
+        &mut self,
+        out: &mut [u8],
+        at: usize,
+        read: Option<&[u8]>,
+        report: ReportFields,
+    ) -> usize {
         match read {
             Some(frame) => put_sentence(out, at, said_on(event_in(frame), report)),
             None => self.reports.put(out, at, None, report),

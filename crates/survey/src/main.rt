@@ -39,7 +39,15 @@ fn follow_file(
     let files::Opened { mut file, named } = opened;
     let unwanted = |_: &[u8]| true;
     let ended = feeding::answer_all(
-        progress, links, room, line, out, input, &mut file, &mut Reports::new(), &unwanted,
+        progress,
+        links,
+        room,
+        line,
+        out,
+        input,
+        &mut file,
+        &mut Reports::new(),
+        &unwanted,
     );
     if let Ending::Failed(why) = ended.ending {
         files::say(rt, &name[..named], why);

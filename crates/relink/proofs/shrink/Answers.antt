@@ -17,6 +17,7 @@ run_rounds-requires c =
       search rules,
       search (thinned_ranks, rules),
       omega arith,
+      search rules,
     )
 
 pub returns-clause-left : goal.returns-clause-left
