@@ -56,7 +56,8 @@ fn relink_codes(plan: Plan<'_>, room: &mut Room<'_>, link: Link, stored: Farthes
     relink::relink(plan, room, low as usize, high as usize, stored)
 }
 
-// A link that nothing refuses: put in place, then the figures, the lower code's search first.
+// A link that nothing refuses: put in place, then the figures, the lower code's search first. It is kept apart, as the opening of a notice is.
+#[inline(never)]
 fn link_map(rec: Record, links: &mut [u64], room: &mut Room<'_>, link: Link) -> Returned
     requires { let long = room_sizes (length links.old) room.old in
         update_refusal base rec links.old room.old.pairs.now long (joins link.first link.second) ≡ 0 }

@@ -51,8 +51,10 @@ fn put_yard(yards: &mut [u64], yard: bool, code: u8)
 }
 
 // The opening of a notice that nothing refuses: its links in place, then the figures. It takes the notice apart (a `Notice` was tried): that the neighbours are
-// bytes is known of an argument at each place below, and of a struct's field only as long as it is used.
+// bytes is known of an argument at each place below, and of a struct's field only as long as it is used. It is kept apart, so that a notice that is refused
+// sets up none of the memory that it works in.
 #[tactic(auto, using(crate::proofs::Placed::room_for_one))]
+#[inline(never)]
 fn open_map(
     rec: Record,
     links: &mut [u64],
