@@ -41,8 +41,9 @@ fn all_inputs() -> Vec<Vec<u8>> {
         let size = 1 + dice.below(if seed % 10 == 0 { 256 } else { 40 });
         some_input(&mut dice, size)
     });
-    let fixed = [bench_inputs::regional(), bench_inputs::yards(), bench_inputs::links(), bench_inputs::ring(), bench_inputs::alternate()];
-    by_chance.chain(fixed).collect()
+    let growths = [bench_inputs::regional(), bench_inputs::yards(), bench_inputs::links(), bench_inputs::ring(), bench_inputs::alternate()];
+    let many_pairs = [bench_inputs::star(), bench_inputs::complete(), bench_inputs::dense()];
+    by_chance.chain(growths).chain(many_pairs).collect()
 }
 
 fn output_of(program: &Path, file: &Path) -> String {

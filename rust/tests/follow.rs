@@ -287,6 +287,31 @@ fn links_of_256_depots() {
     }
 }
 
+/// Two bunches of depots at the ends of a path, long or short: thousands of farthest pairs, of which openings and links make some nearer, and then all.
+#[test]
+fn bunches_on_a_path() {
+    for (seed, length) in [6, 20, 40, 61, 62, 63, 64, 80].into_iter().enumerate() {
+        let mut dice = Dice::new(35_000_000 + seed as u64);
+        let mut input = notice_line(0, &[]);
+        input.extend((1..length).flat_map(|code| notice_line(code, &[code as u8 - 1])));
+        for code in length..220 {
+            let end = if dice.once_in(2) { 0 } else { length - 1 };
+            input.extend(notice_line(code, &[end as u8]));
+        }
+        for code in 220..256 {
+            let mut near = [dice.below(code) as u8, dice.below(length) as u8];
+            near.sort();
+            input.extend(notice_line(code, &near[usize::from(near[0] == near[1])..]));
+            input.extend(link_line(dice.below(code) as u8, dice.below(length) as u8));
+            input.extend(link_line(dice.below(length) as u8, dice.below(length) as u8));
+        }
+        let expected = output(&input);
+        let most = |field: usize| expected.lines().map(|line| line.split(' ').nth(field).expect("a field").parse::<usize>().expect("a number")).max();
+        assert_eq!((most(3), most(4) > Some(3000), expected.contains(" S ")), (Some(length + 1), true, true));
+        assert_same(&run(&input), &expected);
+    }
+}
+
 /// The program on a pipe that stays open, and its reports line by line as they come.
 struct Talk {
     child: Child,
