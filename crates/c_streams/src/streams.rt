@@ -60,6 +60,7 @@ pub extern "C" fn zorpedi_feed(
         skips,
         even,
         odd,
+        likely: [0u64; map::WORDS],
     };
     let rec = c_values::record_of(&*words);
     let progress = Progress {
@@ -135,6 +136,7 @@ pub extern "C" fn zorpedi_finish(
         skips,
         even,
         odd,
+        likely: [0u64; map::WORDS],
     };
     let rec = c_values::record_of(&*words);
     let progress = Progress {

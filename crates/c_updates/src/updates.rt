@@ -83,6 +83,7 @@ pub extern "C" fn zorpedi_open(
         skips,
         even,
         odd,
+        likely: [0u64; map::WORDS],
     };
     let notice = Notice {
         yard: false,
@@ -121,6 +122,7 @@ pub extern "C" fn zorpedi_open_yard(
         skips,
         even,
         odd,
+        likely: [0u64; map::WORDS],
     };
     let notice = Notice {
         yard: true,
@@ -158,6 +160,7 @@ pub extern "C" fn zorpedi_link(
         skips,
         even,
         odd,
+        likely: [0u64; map::WORDS],
     };
     let link = Link { first, second };
     change(words, links, &mut room, searches, Asked::Link(link))

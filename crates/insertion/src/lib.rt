@@ -34,6 +34,22 @@ pub struct Figures {
     pub searches: u16,
 }
 
+// ---- the rows that are thought to have a pair (`Room`)
+
+// Adds those of a's own pairs: its own row, and those of its partners below it. Nothing is promised of what is thought.
+fn note_own(likely: &mut [u64], partners: &[u64], a: usize)
+    requires { (base.words ≤ length likely.old)
+        × (base.words ≤ length partners.now)
+        × (a < places base) }
+{
+    let last = a / 64;
+    for j in 0..last {
+        likely[j] |= partners[j];
+    }
+    let w = likely[last] | words::below(partners[last], a % 64);
+    likely[last] = words::with_bit(w, a % 64);
+}
+
 // ---- a call that searched from a alone
 
 // The pairs and marks after it, answering the number of pairs. It takes slices: of a whole room it would have to say besides that hops and rows stay.
@@ -175,7 +191,13 @@ fn settle_low(
 {
     let pairs = &mut *room.pairs;
     let hops = &mut *room.hops;
-    let left = stale_pairs::drop_stale::<TABLE>(pairs, &*hops, map::WORDS, stored);
+    let left = stale_pairs::drop_stale::<TABLE>(
+        pairs,
+        &mut room.likely,
+        &*hops,
+        map::WORDS,
+        stored,
+    );
     let chain = stored.chain;
     if span.own == chain {
         let found = Finished {
@@ -187,6 +209,7 @@ fn settle_low(
             count: left.count,
         };
         let sum = join(room.pairs, room.bounds, room.skips, a, found, staying);
+        note_own(&mut room.likely, &*partners, a);
         return Figures {
             change: Change::Kept,
             chain,
@@ -211,6 +234,7 @@ fn settle_low(
             searches: 1,
         };
     }
+    rows::clear(&mut room.likely, map::WORDS);
     let got = shrink(plan, room, partners, a, span, left.way);
     Figures {
         change: Change::Shrank,
@@ -256,6 +280,8 @@ pub fn refigure(plan: Plan<'_>, room: &mut Room<'_>, a: usize, stored: Farthest)
             partners: &partners,
         };
         let own = join(room.pairs, room.bounds, room.skips, a, found, stored);
+        rows::clear(&mut room.likely, map::WORDS);
+        note_own(&mut room.likely, &partners, a);
         return Figures {
             change: Change::Grew,
             chain: span.own,

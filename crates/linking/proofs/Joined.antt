@@ -9,10 +9,10 @@ use native.Mathlib.Decide.{dec_le}
 use native.Mathlib.Omega.{arith}
 use lib.Dec.{T, eqb}
 use lib.ListN.{length}
-use Rattle.lists.specs.Lists.{overwrite, first_of}
+use Rattle.lists.specs.Lists.{range, overwrite, first_of}
 use Rattle.graph.specs.Network.{Network, IsSound, delivers}
 use Rattle.graph.specs.Distance.{vertices}
-use Rattle.graph.specs.Chart.{chart}
+use Rattle.graph.specs.Chart.{chart, count_pairs}
 use Rattle.graph.specs.Linking.{add_link, linking, linking_codes, link_faults}
 use Rattle.graph.specs.Correct.{IsNet}
 use Rattle.graph.specs.Updates.{joins, update_faults, applied, steps}
@@ -97,6 +97,10 @@ module _ (K : Shape) (shape : IsShape K) (rec : Record) (links p h b s x y : Lis
   added : H ≡ add_link G a d
   unfolding network_after applied
   added = refl
+
+  -- as many pairs are stored as the record says
+  pub stored_few : count_pairs (range (places K)) (table_bit K.words p) ≤ rec.count
+  stored_few = let f = granted_figures K shape rec links p z (joins a d) ok in omega (arith, f.counted)
 
   -- the number open stays
   number_stays : rec.number ≡ length (vertices H)

@@ -3,12 +3,13 @@
 #![tactic(auto)]
 
 ghost use Rattle.std.specs.Prelude.{[], ◌≡◌, ◌≤◌, max, min, length};
-ghost use Rattle.lists.specs.Lists.{overwrite};
-ghost use Rattle.rows.specs.Rows.{row_bit, encode_row};
+ghost use Rattle.lists.specs.Lists.{range, overwrite};
+ghost use Rattle.rows.specs.Rows.{row_bit, table_bit, encode_row};
 ghost use Rattle.graph.specs.Network.{delivers};
+ghost use Rattle.graph.specs.Chart.{count_pairs};
 ghost use Rattle.graph.specs.Updates.{joins};
 ghost use Rattle.map.specs.Room.{AreLong};
-ghost use Rattle.map.specs.Memory.{base, yard_network};
+ghost use Rattle.map.specs.Memory.{base, places, yard_network};
 ghost use Rattle.map.specs.Slices.{lent_in, room_sizes, IsSameRoom};
 ghost use Rattle.rounds.specs.Leaves.{ran};
 ghost use Rattle.rounds.specs.Slices.{plan_network};
@@ -43,7 +44,8 @@ fn relink_codes(plan: Plan<'_>, room: &mut Room<'_>, link: Link, stored: Farthes
     requires { let low = min link.first link.second in
         let high = max link.first link.second in
         AreLong base (room_sizes (length plan.links.now) room.old)
-        × IsRelinkable base plan.members.now plan.targets.now plan.links.now (lent_in room.old) low high }
+        × IsRelinkable base plan.members.now plan.targets.now plan.links.now (lent_in room.old) low high
+        × (count_pairs (range (places base)) (table_bit base.words room.old.pairs.now) ≤ stored.count) }
     ensures same { IsSameRoom room.old room.new }
     ensures left { let G = plan_network base.words plan.entry in
         let low = min link.first link.second in

@@ -3,7 +3,9 @@
 #![tactic(auto)]
 
 ghost use Rattle.std.specs.Prelude.{◌≡◌, not, ◌||◌, ◌<◌, ◌≤◌, eqb, length};
-ghost use Rattle.graph.specs.Chart.{chart};
+ghost use Rattle.lists.specs.Lists.{range};
+ghost use Rattle.graph.specs.Chart.{chart, count_pairs};
+ghost use Rattle.rows.specs.Rows.{table_bit};
 ghost use Rattle.graph.specs.Rounds.{rounds};
 ghost use Rattle.graph.specs.Linking.{first_two};
 ghost use Rattle.map.specs.Room.{AreLong};
@@ -231,15 +233,24 @@ fn settle(
         AreLong base (room_sizes (length plan.links.now) room.old)
         × AreOpen base G room.old.pairs.now
         × (base.words ≤ length fars.old)
-        × StandBoth base G low.hops.now (lent_in room.old).searched low.code (said_of low.found) high.code Q }
+        × StandBoth base G low.hops.now (lent_in room.old).searched low.code (said_of low.found) high.code Q
+        × (count_pairs (range (places base)) (table_bit base.words room.old.pairs.now) ≤ stored.count) }
     ensures same { IsSameRoom room.old room.new }
     ensures left { let G = plan_network base.words plan.entry in
         figured result.change (ran (lent_in room.new) result.chain result.count result.searches)
         ≡ relinked_by base G low.entry.code high.code stored.chain (lent_in room.old) }
 {
     let pairs = &mut *room.pairs;
+    let likely = &mut room.likely;
     let hops = &mut *room.hops;
-    let left = stale_pairs::drop_stale_either::<TABLE>(pairs, low.hops, &*hops, map::WORDS, stored);
+    let left = stale_pairs::drop_stale_either::<TABLE>(
+        pairs,
+        likely,
+        low.hops,
+        &*hops,
+        map::WORDS,
+        stored,
+    );
     let chain = stored.chain;
     if is_kept(left.count, chain) {
         bounds::mark_twice(
@@ -260,6 +271,7 @@ fn settle(
             searches: 2,
         };
     }
+    rows::clear(&mut room.likely, map::WORDS);
     let got = shrink(plan, room, low, high, fars, left.way);
     Figures {
         change: Change::Shrank,
@@ -269,8 +281,9 @@ fn settle(
     }
 }
 
-// The figures after the link of low and high is in place, by the stored figures: the search from low on local tables and the one from high on the lent
-// ones, what each says of its end, then the pairs, the marks and, if the chain shrank, the rounds. The targets are the depots that deliver.
+// The figures after the link of low and high is in place, by the stored chain and the count of the stored pairs: the search from low on local tables and the
+// one from high on the lent ones, what each says of its end, then the pairs, the marks and, if the chain shrank, the rounds. The targets are the depots that
+// deliver.
 pub fn relink(
     plan: Plan<'_>,
     room: &mut Room<'_>,
@@ -281,7 +294,8 @@ pub fn relink(
     requires { AreLong base (room_sizes (length plan.links.now) room.old)
         × IsRelinkable base plan.members.now plan.targets.now plan.links.now (lent_in room.old) low high
         × (low < places base)
-        × (high < places base) }
+        × (high < places base)
+        × (count_pairs (range (places base)) (table_bit base.words room.old.pairs.now) ≤ stored.count) }
     ensures same { IsSameRoom room.old room.new }
     ensures left { let G = plan_network base.words plan.entry in
         figured result.change (ran (lent_in room.new) result.chain result.count result.searches)

@@ -11,7 +11,7 @@ use lib.ListN.{length, get_or, set, length-set}
 use lib.Seq.{set-get_or}
 use borrow.Author.Tests.{eq-eqb, ne_eqb, lt-ltb, le-ltb}
 use Rattle.std.proofs.lemmas.Bool.{cases_eq, cases_lt}
-use Rattle.lists.specs.Lists.{range, countb, max_of, overwrite}
+use Rattle.lists.specs.Lists.{range, countb, sum_of, max_of, overwrite}
 use Rattle.lists.proofs.Members.{length-range}
 use Rattle.lists.proofs.Counts.{count_le_length, count_ext, count-or, count_none}
 use Rattle.lists.proofs.RangeCounts.{count_same, count_split}
@@ -23,8 +23,8 @@ use Rattle.rows.proofs.Written.{table_at, table_word}
 use Rattle.rows.proofs.Wholes.{table_whole, encode_table_ext}
 use Rattle.rows.proofs.WordPuts.{put_word_lem}
 use Rattle.pairs.specs.Pairs.{tally}
-use Rattle.stale_pairs.specs.Stale.{dropped, rows_dropped, stale_pairs, pairs_after, row_gone, row_stays, row_way, staying_bit, stale_bit, greatest_bit, WordSifted, sifted, sift_of, drop_row_of}
-use Rattle.lists.proofs.Ranges.{count_nothing, max-nothing, max_none, max_same, max-split}
+use Rattle.stale_pairs.specs.Stale.{dropped, rows_dropped, stale_pairs, pairs_after, row_gone, row_stays, row_way, staying_bit, stale_bit, greatest_bit, WordSifted, sifted, sift_of, where_done, drop_set_of, drop_row_of}
+use Rattle.lists.proofs.Ranges.{sum_nothing, sum_but, sum_skip, count_nothing, max-nothing, max_put, max_none, max_same, max-split}
 use Rattle.graph.specs.Opening.{staying_pairs}
 
 -- a pair goes or stays
@@ -48,6 +48,30 @@ count_parted far D P u vs =
 -- what is said of rows done, part by part
 pub same_rows : {t t' : List ℕ} {g g' n n' w w' : ℕ} → t ≡ t' → g ≡ g' → n ≡ n' → w ≡ w' → rows_dropped t g n w ≡ rows_dropped t' g' n' w'
 same_rows a b c d = ap₂ (λ x (g : ℕ). record { left = x; gone = g }) (ap₂ dropped (ap₂ tally a c) d) b
+
+-- of one row alone a sum has what the row has, and so has the greatest number
+module _ (f : ℕ → ℕ) (n u : ℕ) (l : u < n) where
+  abbrev alone : ℕ → ℕ
+  alone = where_done (λ p. eqb p u) f
+
+  alone_here : alone u ≡ f u
+  alone_here = rw (eq-eqb u u refl)
+
+  alone_else : (p : ℕ) → p ≢ u → alone p ≡ 0
+  alone_else p ne = rw (ne_eqb p u ne)
+
+  sum_one : sum_of alone (range n) ≡ f u
+  sum_one =
+      omega (
+        arith,
+        sum_but alone (λ p. 0) n u l (λ p m ne. alone_else p ne),
+        sum_skip (λ p. 0) 0 n (omega arith) (λ p a b. refl),
+        sum_nothing (λ p. 0),
+        alone_here,
+      )
+
+  max_one : max_of alone (range n) ≡ f u
+  max_one = omega (arith, max_put (λ p. 0) alone n u l (λ p m ne. sym (alone_else p ne)) refl, max_none (λ p. 0) n (λ p m. refl), alone_here)
 
 module _ (W : ℕ) (far : ℕ → ℕ → ℕ) (D u : ℕ) (t₀ : List ℕ) where
   -- the way of a pair of the row, 0 where there is none
@@ -209,14 +233,14 @@ module _ (W : ℕ) (far : ℕ → ℕ → ℕ) (D u : ℕ) (t₀ : List ℕ) whe
         }
 
   -- no word is left
-  pub row_end : {t : List ℕ} {g n w at : ℕ} → RowDropping t g n w at → at ≡ 64 * W → rows_dropped t g n w ≡ drop_row_of W far D u t₀
-  unfolding drop_row_of pairs_after row_gone row_stays row_way way_at
-  row_end {at = at} i e =
+  pub row_end : {t : List ℕ} {g n w at : ℕ} → u < 64 * W → RowDropping t g n w at → at ≡ 64 * W → rows_dropped t g n w ≡ drop_row_of W far D u t₀
+  unfolding drop_row_of drop_set_of pairs_after row_gone row_stays row_way way_at
+  row_end {at = at} below i e =
       same_rows
       (i.table ∙ ap (λ (e : List ℕ). overwrite e t₀) (encode_table_ext W (left_below at) (pairs_after (λ p. eqb p u) far D (table_bit W t₀)) (λ p v l h. same p v (cases_eq p u) (omega arith))))
-      (i.gone ∙ ap (λ (k : ℕ). countb (stale_pairs far D (table_bit W t₀) u) (range k)) e)
-      (i.count ∙ ap (λ (k : ℕ). countb (staying_pairs far D (table_bit W t₀) u) (range k)) e)
-      (i.way ∙ ap (λ (k : ℕ). max_of way_at (range k)) e)
+      (i.gone ∙ ap (λ (k : ℕ). countb (stale_pairs far D (table_bit W t₀) u) (range k)) e ∙ sym (sum_one (row_gone W far D (table_bit W t₀)) (64 * W) u below))
+      (i.count ∙ ap (λ (k : ℕ). countb (staying_pairs far D (table_bit W t₀) u) (range k)) e ∙ sym (sum_one (row_stays W far D (table_bit W t₀)) (64 * W) u below))
+      (i.way ∙ ap (λ (k : ℕ). max_of way_at (range k)) e ∙ sym (max_one (row_way W far D (table_bit W t₀)) (64 * W) u below))
     where
       same : (p v : ℕ) → (p ≡ u) ⊎ (p ≢ u) → v < at → left_below at p v ≡ pairs_after (λ p. eqb p u) far D (table_bit W t₀) p v
       same p v (inr ne) l = rw (ne_eqb p u ne) (left_other at p v ne)

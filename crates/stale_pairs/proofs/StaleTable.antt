@@ -1,248 +1,213 @@
--- The loop of `drop_rows`: after each row the statement itself, `drop_rows_of`, for the rows done. Assumes nothing.
-use mathlib.Core.Path.{◌≡◌, refl, sym, ap, ap₂, ◌∙◌, subst}
+-- The loops of `drop_likely` and `drop_dense`: after each row the statement itself, `drop_set_of`, for the rows done; and what the first makes of all, called
+-- once or twice by `drop_rows`. Assumes nothing.
+use mathlib.Core.Path.{◌≡◌, refl, sym, ap, ap₂, ◌∙◌}
 use mathlib.Core.Logic.{◌≢◌, ◌⊎◌, inl, inr}
-use mathlib.Core.Bool.{Bool, false, cond, not, ◌&&◌}
+use mathlib.Core.Bool.{Bool, true, false, cond, ◌&&◌, ◌||◌}
 use mathlib.Core.List.{List}
-use Prim.Native.Nat.{ℕ, zero, suc, ◌+◌, ◌-◌, ◌*◌, ◌^◌, ◌≤◌, ◌<◌, min, max}
-use native.Mathlib.Nat.{le_of_eq}
+use Prim.Native.Nat.{ℕ, ◌+◌, ◌-◌, ◌*◌, ◌^◌, ◌≤◌, ◌<◌, max}
 use native.Mathlib.Omega.{arith}
 use lib.Dec.{eqb, ltb}
 use lib.ListN.{length, get_or}
 use borrow.Author.Tests.{eq-eqb, ne_eqb, lt-ltb, le-ltb}
 use Rattle.std.proofs.lemmas.Bool.{cases_eq, cases_lt}
-use Rattle.lists.specs.Lists.{range, countb, sum_of, max_of, overwrite}
-use Rattle.lists.proofs.Members.{length-range, range_in, range_out}
-use Rattle.lists.proofs.Counts.{count_le_length, count_none, count-zero}
-use Rattle.lists.proofs.Sums.{sum_add}
-use Rattle.lists.proofs.RangeCounts.{count_same}
-use Rattle.lists.proofs.Ranges.{sum_nothing, sum_more, sum_skip, sum_same, sum_few, max-nothing, max_more, max_skip, max_none, max_same}
+use Rattle.lists.specs.Lists.{range, overwrite}
+use Rattle.lists.proofs.Tests.{clash}
+use Rattle.lists.proofs.Sums.{sum_le}
+use Rattle.lists.proofs.Ranges.{sum_same, max_same}
 use Rattle.graph.specs.Chart.{Pairs, count_pairs}
 use Rattle.graph.specs.Opening.{staying_pairs, shrunk_candidate}
-use Rattle.rows.specs.Rows.{table_bit, encode_table}
-use Rattle.rows.proofs.Written.{table_at}
-use Rattle.rows.proofs.Wholes.{table_whole, encode_table_ext}
+use Rattle.rows.specs.Rows.{table_bit}
+use Rattle.rows.proofs.Wholes.{encode_table_ext}
 use Rattle.pairs.specs.Pairs.{tally, tally_of}
-use Rattle.pairs.proofs.Tallies.{table_over}
-use Rattle.stale_pairs.specs.Stale.{dropped, RowsDropped, rows_dropped, stale_pairs, pairs_after, row_gone, row_stays, row_way, drop_row_of, drop_rows_of, drop_of, Bare, pairs_below}
-use Rattle.stale_pairs.proofs.StaleRow.{count_parted, same_rows}
-
--- a row has at most 64 W pairs, and so no more go or stay
-few_in : (W : ℕ) (far : ℕ → ℕ → ℕ) (D : ℕ) (P : Pairs) (u : ℕ) → row_gone W far D P u + row_stays W far D P u ≤ 64 * W
-unfolding row_gone row_stays
-few_in W far D P u = omega (arith, count_parted far D P u (range (64 * W)), count_le_length (P u) (range (64 * W)), length-range (64 * W))
-
-pub row_few : (W : ℕ) (far : ℕ → ℕ → ℕ) (D u : ℕ) (t : List ℕ) {t' : List ℕ} {g k w : ℕ} → rows_dropped t' g k w ≡ drop_row_of W far D u t → g + k ≤ 64 * W
-unfolding drop_row_of
-row_few W far D u t r = omega (arith, ap (λ (x : RowsDropped). x.gone + x.left.left.count) r, few_in W far D (table_bit W t) u)
-
--- ---- pairs counted, row by row
-
--- what a sum had at m it has at every later place
-sum_grows : (f : ℕ → ℕ) (m k : ℕ) → sum_of f (range m) ≤ sum_of f (range (m + k))
-sum_grows f m zero = le_of_eq (ap (λ (n : ℕ). sum_of f (range n)) (let q : m ≡ m + 0 = omega arith in q))
-sum_grows f m (suc k) = let h = sum_grows f m k in let e = sum_more f (m + k) in let q : m + suc k ≡ m + k + 1 = omega arith in rw q (omega arith)
-
--- and if it has no more at n than at m, then nothing was added between
-sum_still : (f : ℕ → ℕ) (m n p : ℕ) → sum_of f (range n) ≤ sum_of f (range m) → m ≤ p → p < n → f p ≡ 0
-sum_still f m n p l a b =
-    let g = sum_grows f m (p - m) in
-    let h = sum_grows f (p + 1) (n - (p + 1)) in
-    let q : m + (p - m) ≡ p = omega arith in
-    let r : p + 1 + (n - (p + 1)) ≡ n = omega arith in
-    let g' : sum_of f (range m) ≤ sum_of f (range p) = subst (λ (k : ℕ). sum_of f (range m) ≤ sum_of f (range k)) q g in
-    let h' : sum_of f (range (p + 1)) ≤ sum_of f (range n) = subst (λ (k : ℕ). sum_of f (range (p + 1)) ≤ sum_of f (range k)) r h in
-    omega (arith, sum_more f p, g', h')
+use Rattle.stale_pairs.specs.Stale.{dropped, RowsDropped, rows_dropped, pairs_after, where_done, among, row_stays, row_way, drop_set_of, drop_row_of, drop_rows_of, drop_of, Bare, pairs_in, pairs_below}
+use Rattle.stale_pairs.proofs.RowSets.{pairs_of, pairs_few, known, set_none, set_same, bit_yet, set_counted, met_bare, set_union, set_again}
 
 -- all rows of a table have its pairs, and no table has more than a count can tell
 pub below_all : (W : ℕ) (t : List ℕ) → count_pairs (range (64 * W)) (table_bit W t) ≡ pairs_below W (64 * W) t
-unfolding count_pairs pairs_below
-below_all W t = refl
+unfolding count_pairs pairs_below pairs_in
+below_all W t = sum_same (pairs_of W t) (where_done (λ u. ltb u (64 * W)) (pairs_of W t)) (64 * W) (λ u l. rw (lt-ltb u (64 * W) l))
 
-pub below_few : (W : ℕ) (t : List ℕ) → W < 513 → count_pairs (range (64 * W)) (table_bit W t) ≤ 4294967295
-unfolding count_pairs
-below_few W t z =
-    let few = sum_few (λ u. countb (table_bit W t u) (range (64 * W))) 32768 (64 * W) (λ u l. omega (arith, count_le_length (table_bit W t u) (range (64 * W)), length-range (64 * W))) in
-    omega (arith, few)
+-- the pairs of those rows among the first that pass a test are no more than all of these have
+pub likely_first : (W n : ℕ) (T : ℕ → Bool) (t : List ℕ) {total : ℕ} → pairs_below W n t ≤ total → pairs_in W (among n T) t ≤ total
+unfolding pairs_below pairs_in
+likely_first W n T t few =
+    omega (arith, few, sum_le (where_done (among n T) (pairs_of W t)) (where_done (λ u. ltb u n) (pairs_of W t)) (range (64 * W)) (λ u m. go (pairs_of W t u) (ltb u n) (T u)))
+  where
+    go : (x : ℕ) (a b : Bool) → cond (a && b) x 0 ≤ cond a x 0
+    go x true true = omega arith
+    go x true false = omega arith
+    go x false b = omega arith
 
 module _ (W : ℕ) (far : ℕ → ℕ → ℕ) (D : ℕ) (t₀ : List ℕ) where
   abbrev P₀ : Pairs
   P₀ = table_bit W t₀
 
-  -- the pairs left when the rows below u are done
-  abbrev left_above : ℕ → Pairs
-  left_above u = pairs_after (λ p. ltb p u) far D P₀
-
-  -- THE INVARIANT: u of n rows are done, and the statement holds of them
-  pub record RowsDropping (n : ℕ) (t : List ℕ) (g k w u : ℕ) : Type 0 where
+  -- THE INVARIANT: of the first n rows those below u are passed, and of these the ones that pass the test are done
+  pub record RowsDropping (T : ℕ → Bool) (n : ℕ) (t : List ℕ) (g k w u : ℕ) : Type 0 where
     pub within : u ≤ n
     pub size : length t ≡ length t₀
-    pub is : rows_dropped t g k w ≡ drop_rows_of W far D u t₀
-
-  pub left_done : (u p v : ℕ) → p < u → left_above u p v ≡ staying_pairs far D P₀ p v
-  unfolding pairs_after
-  left_done u p v l = rw (lt-ltb p u l)
-
-  pub left_yet : (u p v : ℕ) → u ≤ p → left_above u p v ≡ P₀ p v
-  unfolding pairs_after
-  left_yet u p v l = rw (le-ltb p u l)
+    pub is : rows_dropped t g k w ≡ drop_set_of W far D (among u T) t₀
 
   -- no row is done
-  pub rows_start : {n : ℕ} → W * (64 * W) ≤ length t₀ → ((i : ℕ) → i < W * (64 * W) → get_or t₀ i 0 < 2 ^ 64) → RowsDropping n t₀ 0 0 0 0
-  unfolding drop_rows_of
-  rows_start l fits = record {
+  pub rows_start : {T : ℕ → Bool} {n : ℕ} → W * (64 * W) ≤ length t₀ → ((i : ℕ) → i < W * (64 * W) → get_or t₀ i 0 < 2 ^ 64) → RowsDropping T n t₀ 0 0 0 0
+  rows_start {T} l fits = record {
     within = omega arith;
     size = refl;
-    is =
-        same_rows
-        (table_whole W t₀ l fits ∙ ap (λ (e : List ℕ). overwrite e t₀) (encode_table_ext W P₀ (left_above 0) (λ p v a b. sym (left_yet 0 p v (omega arith)))))
-        (sym (sum_nothing (row_gone W far D P₀)))
-        (sym (sum_nothing (row_stays W far D P₀)))
-        (sym (max-nothing (row_way W far D P₀)));
+    is = set_none W far D t₀ (among 0 T) l fits (λ u. ap (λ (b : Bool). b && T u) (le-ltb u 0 (omega arith)));
   }
 
-  module _ {n : ℕ} {t : List ℕ} {g k w u : ℕ} (i : RowsDropping n t g k w u) where
-    -- the statement, part by part
-    done_table : t ≡ overwrite (encode_table W (left_above u)) t₀
-    unfolding drop_rows_of
-    done_table = ap (λ (x : RowsDropped). x.left.left.pairs) i.is
-
-    done_gone : g ≡ sum_of (row_gone W far D P₀) (range u)
-    unfolding drop_rows_of
-    done_gone = ap (λ (x : RowsDropped). x.gone) i.is
-
-    done_count : k ≡ sum_of (row_stays W far D P₀) (range u)
-    unfolding drop_rows_of
-    done_count = ap (λ (x : RowsDropped). x.left.left.count) i.is
-
-    done_way : w ≡ max_of (row_way W far D P₀) (range u)
-    unfolding drop_rows_of
-    done_way = ap (λ (x : RowsDropped). x.left.way) i.is
-
-    -- there are at most 32,768 for each row
-    pub rows_few : W < 513 → g + k ≤ 32768 * u
-    rows_few z =
-        let f : ℕ → ℕ = λ p. row_gone W far D P₀ p + row_stays W far D P₀ p in
-        let few = sum_few f 32768 u (λ p l. omega (arith, few_in W far D P₀ p)) in
-        omega (arith, done_gone, done_count, sum_add (row_gone W far D P₀) (row_stays W far D P₀) (range u), few)
-
-    -- those gone and those that stay are the pairs of the rows done
-    done_all : g + k ≡ pairs_below W u t₀
-    unfolding pairs_below row_gone row_stays
-    done_all =
-        ap₂ ◌+◌ done_gone done_count
-        ∙ sym (sum_add (row_gone W far D P₀) (row_stays W far D P₀) (range u))
-        ∙ sum_same _ (λ p. countb (P₀ p) (range (64 * W))) u (λ p l. sym (count_parted far D P₀ p (range (64 * W))))
-
-    -- the rows from u on are as they were
-    bit_yet : (p v : ℕ) → u ≤ p → p < 64 * W → v < 64 * W → table_bit W t p v ≡ P₀ p v
-    bit_yet p v a l h = ap (λ (s : List ℕ). table_bit W s p v) done_table ∙ table_at W (left_above u) t₀ p v l h ∙ left_yet u p v a
-
-    -- as many as there can be are met: the rows left have none
-    pub rows_met : {total : ℕ} → n ≤ 64 * W → pairs_below W n t₀ ≤ total → g + k ≡ total → Bare W n t u n
-    unfolding pairs_below
-    rows_met m few e = record {
-      after = i.within;
-      within = omega arith;
-      none = λ q v a b h.
-          bit_yet q v a (omega arith) h
-          ∙ count-zero (P₀ q) (range (64 * W)) (sum_still (λ p. countb (P₀ p) (range (64 * W))) u n q (omega (arith, few, e, done_all)) a b) (range_in (64 * W) h);
-    }
-
-    -- the rows up to q besides, which have no pair
-    pub rows_bare : {q : ℕ} → n ≤ 64 * W → Bare W n t u q → RowsDropping n t g k w q
-    unfolding drop_rows_of row_gone row_stays row_way stale_pairs staying_pairs
-    rows_bare {q} m r = record {
-      within = r.within;
+  module _ {T : ℕ → Bool} {n : ℕ} {t : List ℕ} {g k w u : ℕ} (i : RowsDropping T n t g k w u) where
+    -- the rows up to q besides, of which none passes the test
+    pub rows_left_out : {q : ℕ} → u ≤ q → q ≤ n → ((p : ℕ) → u ≤ p → p < q → T p ≡ false) → RowsDropping T n t g k w q
+    rows_left_out {q} a b h = record {
+      within = b;
       size = i.size;
-      is =
-          same_rows
-          (done_table ∙ ap (λ (e : List ℕ). overwrite e t₀) (encode_table_ext W (left_above u) (left_above q) (λ p v l h. same p v h (cases_lt p u) (cases_lt p q))))
-          (done_gone ∙ sym (sum_skip (row_gone W far D P₀) u q r.after (λ p c d. none_of (λ v a. a && ltb (far p v) D) (λ v. refl) p c d)))
-          (done_count ∙ sym (sum_skip (row_stays W far D P₀) u q r.after (λ p c d. none_of (λ v a. a && not (ltb (far p v) D)) (λ v. refl) p c d)))
-          (done_way ∙ sym (max_skip (row_way W far D P₀) u q r.after
-          (λ p c d. max_none (λ v. cond (P₀ p v) (min D (far p v)) 0) (64 * W) (λ v h. ap (λ (y : Bool). cond y (min D (far p v)) 0) (bare p v c d h)))));
+      is = i.is ∙ set_same W far D t₀ (among u T) (among q T) (λ p l. inl (same p (cases_lt p u) (cases_lt p q)));
     }
       where
-        bare : (p v : ℕ) → u ≤ p → p < q → v < 64 * W → P₀ p v ≡ false
-        bare p v c d h = sym (bit_yet p v c (omega (arith, r.within)) h) ∙ r.none p v c d h
+        same : (p : ℕ) → (p < u) ⊎ (u ≤ p) → (p < q) ⊎ (q ≤ p) → among u T p ≡ among q T p
+        same p (inl c) d = ap (λ (x : Bool). x && T p) (lt-ltb p u c ∙ sym (lt-ltb p q (omega arith)))
+        same p (inr c) (inl d) = rw (le-ltb p u c, lt-ltb p q d, h p c d) refl
+        same p (inr c) (inr d) = ap (λ (x : Bool). x && T p) (le-ltb p u c ∙ sym (le-ltb p q d))
 
-        -- a test that passes pairs alone passes none of such a row
-        none_of : (f : ℕ → Bool → Bool) → ((v : ℕ) → f v false ≡ false) → (p : ℕ) → u ≤ p → p < q → countb (λ v. f v (P₀ p v)) (range (64 * W)) ≡ 0
-        none_of f z p c d = count_none (λ v. f v (P₀ p v)) (range (64 * W)) (λ v l. ap (f v) (bare p v c d (range_out (64 * W) l)) ∙ z v)
+    -- the rows up to q besides, which have no pair
+    pub rows_bare : {q : ℕ} → Bare W n t u q → RowsDropping T n t g k w q
+    rows_bare {q} r = record {
+      within = r.within;
+      size = i.size;
+      is = i.is ∙ set_same W far D t₀ (among u T) (among q T) (λ p l. same p l (cases_lt p u) (cases_lt p q));
+    }
+      where
+        same : (p : ℕ) → p < 64 * W → (p < u) ⊎ (u ≤ p) → (p < q) ⊎ (q ≤ p) → (among u T p ≡ among q T p) ⊎ ((v : ℕ) → v < 64 * W → P₀ p v ≡ false)
+        same p l (inl c) d = inl (ap (λ (x : Bool). x && T p) (lt-ltb p u c ∙ sym (lt-ltb p q (omega (arith, r.after)))))
+        same p l (inr c) (inl d) = inr (λ v h. sym (bit_yet W far D t₀ (among u T) i.is p v (ap (λ (x : Bool). x && T p) (le-ltb p u c)) l h) ∙ r.none p v c d h)
+        same p l (inr c) (inr d) = inl (ap (λ (x : Bool). x && T p) (le-ltb p u c ∙ sym (le-ltb p q d)))
 
-        same : (p v : ℕ) → v < 64 * W → (p < u) ⊎ (u ≤ p) → (p < q) ⊎ (q ≤ p) → left_above u p v ≡ left_above q p v
-        same p v h (inl c) d = left_done u p v c ∙ sym (left_done q p v (omega (arith, r.after)))
-        same p v h (inr c) (inl d) =
-            left_yet u p v c ∙ bare p v c d h ∙ sym (left_done q p v d ∙ ap (λ (y : Bool). y && not (ltb (far p v) D)) (bare p v c d h))
-        same p v h (inr c) (inr d) = left_yet u p v c ∙ sym (left_yet q p v d)
+    -- as many as there can be are met: the rows left have none
+    pub rows_met : {total : ℕ} → n ≤ 64 * W → pairs_in W (among n T) t₀ ≤ total → g + k ≡ total → RowsDropping T n t g k w n
+    rows_met m few e = record {
+      within = omega arith;
+      size = i.size;
+      is = i.is ∙ set_same W far D t₀ (among u T) (among n T) (met_bare W far D t₀ (among u T) i.is (among n T) part few e);
+    }
+      where
+        part : (p : ℕ) → among u T p ≡ true → among n T p ≡ true
+        part p e = go (cases_lt p u)
+          where
+            go : (p < u) ⊎ (u ≤ p) → among n T p ≡ true
+            go (inl c) = ap (λ (b : Bool). b && T p) (lt-ltb p n (omega (arith, i.within)) ∙ sym (lt-ltb p u c)) ∙ e
+            go (inr c) = absurd (clash e (ap (λ (b : Bool). b && T p) (le-ltb p u c)))
 
-    -- one row more, of which `drop_row` says what it says
-    module _ (m : n ≤ 64 * W) (below : u < n) {t' : List ℕ} {g' k' d : ℕ} (r : rows_dropped t' g' k' d ≡ drop_row_of W far D u t) where
-      -- the row is as it was
-      row_yet : (v : ℕ) → v < 64 * W → table_bit W t u v ≡ P₀ u v
-      row_yet v h = bit_yet u v (omega arith) (omega arith) h
-
-      left_row : (p v : ℕ) → p < 64 * W → v < 64 * W → pairs_after (λ p. eqb p u) far D (table_bit W t) p v ≡ left_above (u + 1) p v
-      unfolding pairs_after staying_pairs
-      left_row p v l h = go (cases_eq p u) (cases_lt p u)
+    -- one row more, done if it passes the test
+    module _ {t' : List ℕ} {g' k' d : ℕ} (r : rows_dropped t' g' k' d ≡ drop_set_of W far D (λ p. eqb p u && T p) t) where
+      apart : (p : ℕ) → (eqb p u && T p) ≡ true → among u T p ≡ false
+      apart p e = go (cases_eq p u)
         where
-          was : table_bit W t p v ≡ left_above u p v
-          was = ap (λ (s : List ℕ). table_bit W s p v) done_table ∙ table_at W (left_above u) t₀ p v l h
+          go : (p ≡ u) ⊎ (p ≢ u) → among u T p ≡ false
+          go (inl q) = ap (λ (b : Bool). b && T p) (le-ltb p u (omega arith))
+          go (inr q) = absurd (clash e (ap (λ (b : Bool). b && T p) (ne_eqb p u q)))
 
-          go : (p ≡ u) ⊎ (p ≢ u) → (p < u) ⊎ (u ≤ p) → pairs_after (λ p. eqb p u) far D (table_bit W t) p v ≡ left_above (u + 1) p v
-          go (inl e) o = rw (e, eq-eqb u u refl) (ap (λ (b : Bool). b && not (ltb (far u v) D)) (row_yet v h) ∙ sym (left_done (u + 1) u v (omega arith)))
-          go (inr e) (inl c) = rw (ne_eqb p u e) (was ∙ left_done u p v c ∙ sym (left_done (u + 1) p v (omega arith)))
-          go (inr e) (inr c) = rw (ne_eqb p u e) (was ∙ left_yet u p v c ∙ sym (left_yet (u + 1) p v (omega arith)))
+      one_more : (p : ℕ) → (among u T p || (eqb p u && T p)) ≡ among (u + 1) T p
+      one_more p = go (cases_eq p u) (cases_lt p u)
+        where
+          or_none : (b : Bool) → (b || false) ≡ b
+          or_none true = refl
+          or_none false = refl
 
-      row_table : t' ≡ overwrite (encode_table W (left_above (u + 1))) t₀
-      unfolding drop_row_of
-      row_table =
-          let Q = pairs_after (λ p. eqb p u) far D (table_bit W t) in
-          ap (λ (x : RowsDropped). x.left.left.pairs) r
-          ∙ ap (λ (s : List ℕ). overwrite (encode_table W Q) s) done_table
-          ∙ table_over W Q (left_above u) t₀
-          ∙ ap (λ (e : List ℕ). overwrite e t₀) (encode_table_ext W Q (left_above (u + 1)) left_row)
+          go : (p ≡ u) ⊎ (p ≢ u) → (p < u) ⊎ (u ≤ p) → (among u T p || (eqb p u && T p)) ≡ among (u + 1) T p
+          go (inl q) c = rw (q, eq-eqb u u refl, le-ltb u u (omega arith), lt-ltb u (u + 1) (omega arith)) refl
+          go (inr q) (inl c) = rw (ne_eqb p u q, lt-ltb p u c, lt-ltb p (u + 1) (omega arith)) (or_none (T p))
+          go (inr q) (inr c) = rw (ne_eqb p u q, le-ltb p u c, le-ltb p (u + 1) (omega arith)) refl
 
-      row_gone_lem : g' ≡ row_gone W far D P₀ u
-      unfolding drop_row_of row_gone stale_pairs
-      row_gone_lem =
-          ap (λ (x : RowsDropped). x.gone) r
-          ∙ count_same (64 * W) (stale_pairs far D (table_bit W t) u) (stale_pairs far D P₀ u) (λ v h. ap (λ (b : Bool). b && ltb (far u v) D) (row_yet v h))
-
-      row_count : k' ≡ row_stays W far D P₀ u
-      unfolding drop_row_of row_stays staying_pairs
-      row_count =
-          ap (λ (x : RowsDropped). x.left.left.count) r
-          ∙ count_same (64 * W) (staying_pairs far D (table_bit W t) u) (staying_pairs far D P₀ u) (λ v h. ap (λ (b : Bool). b && not (ltb (far u v) D)) (row_yet v h))
-
-      row_way_lem : d ≡ row_way W far D P₀ u
-      unfolding drop_row_of row_way
-      row_way_lem =
-          ap (λ (x : RowsDropped). x.left.way) r
-          ∙ max_same (λ v. cond (table_bit W t u v) (min D (far u v)) 0) (λ v. cond (P₀ u v) (min D (far u v)) 0)
-          (64 * W) (λ v h. ap (λ (b : Bool). cond b (min D (far u v)) 0) (row_yet v h))
-
-      pub rows_more : {w' : ℕ} → w' ≡ max w d → length t' ≡ length t → RowsDropping n t' (g + g') (k + k') w' (u + 1)
-      unfolding drop_rows_of
-      rows_more e s = record {
+      pub rows_more : {w' : ℕ} → u < n → w' ≡ max w d → length t' ≡ length t → RowsDropping T n t' (g + g') (k + k') w' (u + 1)
+      rows_more l e s = record {
         within = omega arith;
         size = s ∙ i.size;
         is =
-            same_rows
-            row_table
-            (ap₂ ◌+◌ done_gone row_gone_lem ∙ sym (sum_more (row_gone W far D P₀) u))
-            (ap₂ ◌+◌ done_count row_count ∙ sym (sum_more (row_stays W far D P₀) u))
-            (e ∙ ap₂ max done_way row_way_lem ∙ sym (max_more (row_way W far D P₀) u));
+            rw e (set_union W far D t₀ (among u T) i.is (λ p. eqb p u && T p) apart r
+            ∙ set_same W far D t₀ (λ p. among u T p || (eqb p u && T p)) (among (u + 1) T) (λ p l. inl (one_more p)));
       }
 
+      -- at most as many as there can be
+      pub rows_few : W < 513 → g + g' + (k + k') ≤ 32768 * 32768
+      rows_few z = omega (arith, set_counted W far D t₀ (λ p. among u T p || (eqb p u && T p)) (set_union W far D t₀ (among u T) i.is (λ p. eqb p u && T p) apart r), pairs_few W t₀ (λ p. among u T p || (eqb p u && T p)) z)
+
     -- no row is left
-    pub rows_end : n ≤ u → rows_dropped t g k w ≡ drop_rows_of W far D n t₀
-    rows_end z = i.is ∙ ap (λ (j : ℕ). drop_rows_of W far D j t₀) (omega (arith, i.within))
+    pub rows_end : n ≤ u → rows_dropped t g k w ≡ drop_set_of W far D (among n T) t₀
+    rows_end z = i.is ∙ ap (λ (j : ℕ). drop_set_of W far D (among j T) t₀) (omega (arith, i.within))
+
+  -- ---- one row, done if it passes a test
+
+  pub one_done : (T : ℕ → Bool) (u : ℕ) {t : List ℕ} {g k w : ℕ} → T u ≡ true → rows_dropped t g k w ≡ drop_row_of W far D u t₀ → rows_dropped t g k w ≡ drop_set_of W far D (λ p. eqb p u && T p) t₀
+  unfolding drop_row_of
+  one_done T u e r = r ∙ set_same W far D t₀ (λ p. eqb p u) (λ p. eqb p u && T p) (λ p l. inl (go p (cases_eq p u)))
+    where
+      go : (p : ℕ) → (p ≡ u) ⊎ (p ≢ u) → eqb p u ≡ (eqb p u && T p)
+      go p (inl q) = rw (q, eq-eqb u u refl, e) refl
+      go p (inr q) = rw (ne_eqb p u q) refl
+
+  -- ---- those first that are thought to have a pair; if some are missed, all that have one
+
+  module _ (T : ℕ → Bool) (n : ℕ) {total : ℕ} (few : pairs_below W n t₀ ≤ total) {t : List ℕ} {g k w : ℕ}
+      (i : rows_dropped t g k w ≡ drop_set_of W far D (among n T) t₀) where
+    part_lem : (p : ℕ) → among n T p ≡ true → ltb p n ≡ true
+    part_lem p = go (ltb p n) (T p)
+      where
+        go : (a b : Bool) → (a && b) ≡ true → a ≡ true
+        go true b e = refl
+        go false b e = e
+
+    -- no more are met than there can be
+    pub likely_few : g + k ≤ total
+    likely_few = omega (arith, set_counted W far D t₀ (among n T) i, likely_first W n T t₀ few)
+
+    -- all are met
+    pub likely_all : g + k ≡ total → rows_dropped t g k w ≡ drop_rows_of W far D n t₀
+    unfolding drop_rows_of pairs_below
+    likely_all e = i ∙ set_same W far D t₀ (among n T) (λ p. ltb p n) (met_bare W far D t₀ (among n T) i (λ p. ltb p n) part_lem few e)
+
+    -- those gone stand no more
+    pub left_few : pairs_below W n t ≤ total - g
+    unfolding pairs_below
+    left_few =
+        let all = drop_set_of W far D (λ p. ltb p n) t in
+        omega (
+          arith,
+          few,
+          set_counted W far D t (λ p. ltb p n) {t = all.left.left.pairs} {g = all.gone} {k = all.left.left.count} {w = all.left.way} refl,
+          set_counted W far D t₀ (λ p. ltb p n) (set_again W far D t₀ (among n T) i (λ p. ltb p n) part_lem {t' = all.left.left.pairs} {g' = all.gone} {k' = all.left.left.count} {d = all.left.way} refl),
+        )
+
+    -- all that have one are done
+    pub again_all : (T' : ℕ → Bool) {t' : List ℕ} {g' k' d w' : ℕ} → ((p v : ℕ) → p < n → v < 64 * W → T' p ≡ false → table_bit W t p v ≡ false)
+        → rows_dropped t' g' k' d ≡ drop_set_of W far D (among n T') t → w' ≡ max w d → rows_dropped t' (g + g') k' w' ≡ drop_rows_of W far D n t₀
+    unfolding drop_rows_of
+    again_all T' h r e =
+        rw e
+        (set_again W far D t₀ (among n T) i (λ p. ltb p n) part_lem
+        (r ∙ set_same W far D t (among n T') (λ p. ltb p n) (λ p l. go p (cases_lt p n) (known (T' p)))))
+      where
+        go : (p : ℕ) → (p < n) ⊎ (n ≤ p) → (T' p ≡ true) ⊎ (T' p ≡ false) → (among n T' p ≡ ltb p n) ⊎ ((v : ℕ) → v < 64 * W → table_bit W t p v ≡ false)
+        go p (inl c) (inl o) = inl (rw (lt-ltb p n c, o) refl)
+        go p (inl c) (inr o) = inr (λ v l. h p v c l o)
+        go p (inr c) o = inl (rw (le-ltb p n c) refl)
 
   -- ALL ROWS are the table: `drop_stale` is `drop_rows` over 64 W
   pub all_rows : {t : List ℕ} {g k w : ℕ} → rows_dropped t g k w ≡ drop_rows_of W far D (64 * W) t₀ → dropped (tally t k) w ≡ drop_of W far D t₀
-  unfolding drop_rows_of drop_of tally_of shrunk_candidate count_pairs row_stays row_way
+  unfolding drop_rows_of drop_set_of drop_of tally_of shrunk_candidate count_pairs row_stays row_way pairs_after
   all_rows q =
       ap (λ (x : RowsDropped). x.left) q
-      ∙ ap (λ (e : List ℕ). dropped (tally (overwrite e t₀) (count_pairs (range (64 * W)) (staying_pairs far D P₀))) (shrunk_candidate (range (64 * W)) far D P₀))
-      (encode_table_ext W (left_above (64 * W)) (staying_pairs far D P₀) (λ p v a b. left_done (64 * W) p v a))
+      ∙ ap₂ dropped
+      (ap₂ tally
+      (ap (λ (e : List ℕ). overwrite e t₀)
+      (encode_table_ext W (pairs_after (λ p. ltb p (64 * W)) far D P₀) (staying_pairs far D P₀) (λ p v a b. rw (lt-ltb p (64 * W) a) refl)))
+      (sum_same (where_done (λ p. ltb p (64 * W)) (row_stays W far D P₀)) (row_stays W far D P₀) (64 * W) (λ p l. rw (lt-ltb p (64 * W) l) refl)))
+      (max_same (where_done (λ p. ltb p (64 * W)) (row_way W far D P₀)) (row_way W far D P₀) (64 * W) (λ p l. rw (lt-ltb p (64 * W) l) refl))
+
+  -- no row is left of those that are looked for as they come
+  pub dense_end : {t : List ℕ} {g k w u : ℕ} → RowsDropping (λ p. true) (64 * W) t g k w u → 64 * W ≤ u → dropped (tally t k) w ≡ drop_of W far D t₀
+  unfolding drop_rows_of
+  dense_end i z =
+      all_rows
+      (rows_end i z
+      ∙ set_same W far D t₀ (among (64 * W) (λ p. true)) (λ p. ltb p (64 * W)) (λ p l. inl (rw (lt-ltb p (64 * W) l) refl)))

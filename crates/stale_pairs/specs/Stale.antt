@@ -1,11 +1,11 @@
 -- STALE PAIRS, over lists of words, for any number of words per row: which stored pairs stay after a search, and what the code's steps do to the
 -- table. Assumes nothing.
-use Rattle.std.specs.Prelude.{◌≡◌, Bool, false, cond, not, ◌&&◌, List, ℕ, ◌+◌, ◌*◌, ◌^◌, ◌≤◌, ◌<◌, min, eqb, ltb, length, get_or}
+use Rattle.std.specs.Prelude.{◌≡◌, Bool, true, false, cond, not, ◌&&◌, List, ℕ, ◌+◌, ◌*◌, ◌^◌, ◌≤◌, ◌<◌, min, eqb, ltb, length, get_or}
 use Rattle.lists.specs.Lists.{range, countb, sum_of, max_of, overwrite}
 use Rattle.words.specs.Bits.{bit, word_of}
 use Rattle.graph.specs.Chart.{Pairs, count_pairs}
 use Rattle.graph.specs.Opening.{staying_pairs, shrunk_candidate}
-use Rattle.rows.specs.Rows.{table_bit, encode_table}
+use Rattle.rows.specs.Rows.{row_bit, table_bit, encode_table}
 use Rattle.pairs.specs.Pairs.{Tally, tally, tally_of}
 use Rattle.stale_pairs.specs.declared.Sifted.{Sifted}
 
@@ -50,6 +50,14 @@ stale_pairs way D P u v = P u v && ltb (way u v) D
 unfoldable pub pairs_after : (ℕ → Bool) → (ℕ → ℕ → ℕ) → ℕ → Pairs → Pairs
 pairs_after done way D P u v = cond (done u) (staying_pairs way D P u v) (P u v)
 
+-- of the rows that pass a test those below n
+abbrev pub among : ℕ → (ℕ → Bool) → ℕ → Bool
+among n test u = ltb u n && test u
+
+-- a number of each row that passes the test, and 0 of any other
+abbrev pub where_done : (ℕ → Bool) → (ℕ → ℕ) → ℕ → ℕ
+where_done done f u = cond (done u) (f u) 0
+
 module _ (W : ℕ) (way : ℕ → ℕ → ℕ) (D : ℕ) where
   -- of row u: how many pairs go, how many stay, and the greatest way
   unfoldable pub row_gone : Pairs → ℕ → ℕ
@@ -61,18 +69,20 @@ module _ (W : ℕ) (way : ℕ → ℕ → ℕ) (D : ℕ) where
   unfoldable pub row_way : Pairs → ℕ → ℕ
   row_way P u = max_of (λ v. cond (P u v) (min D (way u v)) 0) (range (64 * W))
 
-  -- the rows below n done
-  unfoldable pub drop_rows_of : ℕ → List ℕ → RowsDropped
-  drop_rows_of n t =
+  -- the rows done that pass the test
+  unfoldable pub drop_set_of : (ℕ → Bool) → List ℕ → RowsDropped
+  drop_set_of done t =
       let P = table_bit W t in
-      rows_dropped (overwrite (encode_table W (pairs_after (λ u. ltb u n) way D P)) t)
-      (sum_of (row_gone P) (range n)) (sum_of (row_stays P) (range n)) (max_of (row_way P) (range n))
+      rows_dropped (overwrite (encode_table W (pairs_after done way D P)) t) (sum_of (where_done done (row_gone P)) (range (64 * W)))
+      (sum_of (where_done done (row_stays P)) (range (64 * W))) (max_of (where_done done (row_way P)) (range (64 * W)))
 
-  -- row u alone done
+  -- the rows below n
+  unfoldable pub drop_rows_of : ℕ → List ℕ → RowsDropped
+  drop_rows_of n = drop_set_of (λ u. ltb u n)
+
+  -- row u alone
   unfoldable pub drop_row_of : ℕ → List ℕ → RowsDropped
-  drop_row_of u t =
-      let P = table_bit W t in
-      rows_dropped (overwrite (encode_table W (pairs_after (λ p. eqb p u) way D P)) t) (row_gone P u) (row_stays P u) (row_way P u)
+  drop_row_of u = drop_set_of (λ p. eqb p u)
 
 -- WHAT `drop_rows_of` SAYS of the table before and after, and of the number gone (`rows_done`, proofs/RowsDone): the rows below n hold exactly their pairs
 -- that stay; every word behind them is as it was, in the other rows and past the table; and those gone with those left are those that were there
@@ -117,9 +127,23 @@ pub record Bare (W n : ℕ) (pairs : List ℕ) (u p : ℕ) : Type 0 where
   pub within : p ≤ n
   pub none : (q v : ℕ) → u ≤ q → q < p → v < 64 * W → table_bit W pairs q v ≡ false
 
--- the pairs that stand in the rows below n
+-- p is the next member of a row from u on among the first n, and n where there is none
+pub record NextLikely (W n : ℕ) (likely : List ℕ) (u p : ℕ) : Type 0 where
+  pub after : u ≤ p
+  pub within : p ≤ n
+  pub none : (q : ℕ) → u ≤ q → q < p → row_bit W likely q ≡ false
+  pub here : p < n → row_bit W likely p ≡ true
+
+-- of the first n rows every one with a pair is a member of a row
+abbrev pub Covers : ℕ → ℕ → List ℕ → List ℕ → Type 0
+Covers W n pairs likely = (u v : ℕ) → u < n → v < 64 * W → row_bit W likely u ≡ false → table_bit W pairs u v ≡ false
+
+-- the pairs that stand in the rows that pass the test, and in the rows below n
+unfoldable pub pairs_in : ℕ → (ℕ → Bool) → List ℕ → ℕ
+pairs_in W done t = sum_of (where_done done (λ u. countb (table_bit W t u) (range (64 * W)))) (range (64 * W))
+
 unfoldable pub pairs_below : ℕ → ℕ → List ℕ → ℕ
-pairs_below W n t = sum_of (λ u. countb (table_bit W t u) (range (64 * W))) (range n)
+pairs_below W n = pairs_in W (λ u. ltb u n)
 
 -- ---- what the functions ask
 

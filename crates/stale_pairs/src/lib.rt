@@ -1,7 +1,8 @@
 // Stale pairs dropped from the pair table itself: those that a search, or either of two, shows to be nearer than the chain. A row of words may be up to
 // 512 long.
-// Rows are done one after the other, each in its place: there is no second pair table. Where there are few pairs each is looked at. Where there are many, a
-// row loses whole words: the codes that a search finds near enough, its balls, which are made first.
+// Rows are done one after the other, each in its place: there is no second pair table. Where there are few pairs each is looked at, and callers lend a row
+// besides, in which the rows that are thought to have a pair are kept from call to call, so that the others need not be looked at. Where there are many, a row
+// loses whole words: the codes that a search finds near enough, its balls, which are made first.
 // What a function ensures of table, counts and way is one equation, so that callers rewrite by it. A row's width comes beside it, as crate `rows` says.
 
 #![tactic(auto)]
@@ -9,16 +10,14 @@
 ghost use Rattle.std.specs.Prelude.{ℕ, IsTrue, ◌≡◌, false, ◌&&◌, ◌||◌, ◌+◌, ◌*◌, ◌^◌, ◌<◌, ◌≤◌, eqb, min, length};
 ghost use Rattle.pairs.specs.Pairs.{tally};
 ghost use Rattle.stale_pairs.specs.Stale.{HasHops, Bare, TellsWord, way_by, way_by_either, sifted, sift_of, Sifts};
-ghost use Rattle.stale_pairs.specs.Stale.{dropped, rows_dropped, drop_row_of, drop_rows_of, drop_of, pairs_below, greatest_bit};
+ghost use Rattle.stale_pairs.specs.Stale.{dropped, rows_dropped, drop_row_of, drop_set_of, drop_rows_of, drop_of, greatest_bit};
+ghost use Rattle.stale_pairs.specs.Stale.{among, pairs_in, pairs_below, NextLikely, Covers};
 ghost use Rattle.stale_pairs.specs.Balls.{TakesWord, nearer, ring, AreBalls, BallsFit};
 ghost use Rattle.lists.specs.Lists.{range};
 ghost use Rattle.graph.specs.Chart.{count_pairs};
-ghost use Rattle.rows.specs.Rows.{table_bit};
+ghost use Rattle.rows.specs.Rows.{row_bit, table_bit};
 
 use pairs::Farthest;
-
-// as many pairs as a count can tell: no table has more
-const MOST: u32 = u32::MAX;
 
 // From so many pairs on they are dropped by whole words: on a star that is quicker from some 90 on.
 const MANY: u32 = 100;
@@ -185,34 +184,84 @@ fn next_row(pairs: &[u64], words: usize, rows: usize, u: usize, is_dense: bool) 
     rows
 }
 
-// Drops the stale pairs of the first rows in place, a row after the other: those rows have their pairs that stay, the others are as they were, and
-// the pairs gone so far are counted. No more than `total` pairs stand in them, so that no row is looked at behind the last of these. How a word is sifted
-// is told, member by member or whole, by one search or by two, and the compiler writes it into the loop. `is_dense` only says where a row with pairs is
-// looked for first.
+// ---- the rows that are thought to have a pair
+
+// The next row from u on that is thought to have a pair, all rows where none is.
+#[tactic(auto, using(crate::proofs::LikelyRows::likely_next, crate::proofs::LikelyRows::likely_none))]
+fn next_likely(likely: &[u64], words: usize, rows: usize, u: usize) -> usize
+    requires { (words < 513) × (words ≤ length likely.now) × (u ≤ rows) }
+    ensures { NextLikely words rows likely.now u result }
+{
+    match rows::next_member(likely, words, u) {
+        Some(p) => p.min(rows),
+        None => rows,
+    }
+}
+
+// Takes the rows that have no pair out of those that are thought to have one. Nothing is promised of what is thought.
+fn forget_bare(pairs: &[u64], likely: &mut [u64], words: usize, rows: usize)
+    requires { (words < 513)
+        × (words * (64 * words) ≤ length pairs.now)
+        × (rows ≤ 64 * words)
+        × (words ≤ length likely.old) }
+{
+    let mut u = next_likely(&*likely, words, rows, 0);
+    while u < rows {
+        if rows::all_zero(&pairs[words * u..words * u + words]) {
+            let w = likely[u / 64];
+            likely[u / 64] = words::without_bit(w, u % 64);
+        }
+        u = next_likely(&*likely, words, rows, u + 1);
+    }
+}
+
+// Looks through the first rows for those that have a pair, and thinks it of these alone, of which it promises that none is missing.
+#[tactic(auto, using(crate::proofs::LikelyRows::covers_start, crate::proofs::LikelyRows::covers_more))]
+fn note_rows(pairs: &[u64], likely: &mut [u64], words: usize, rows: usize)
+    requires { (words < 513)
+        × (words * (64 * words) ≤ length pairs.now)
+        × (rows ≤ 64 * words)
+        × (words ≤ length likely.old) }
+    ensures { Covers words rows pairs.now likely.new }
+{
+    rows::clear(likely, words);
+    let mut u = next_row(pairs, words, rows, 0, false);
+    while u < rows {
+        rows::row_set(likely, words, 0, u);
+        u = next_row(pairs, words, rows, u + 1, false);
+    }
+}
+
+// ---- some rows
+
+// Drops the stale pairs of those of the first rows that are thought to have a pair, a row after the other. No more than `total` pairs stand in the first
+// rows, so that no row is looked at behind the last of these.
 #[tactic(auto, using(crate::proofs::StaleTable::rows_end))]
-pub fn drop_rows<F: Fn(u64, usize, usize) -> Sifted>(
+fn drop_likely<F: Fn(u64, usize, usize) -> Sifted>(
     pairs: &mut [u64],
+    likely: &[u64],
     sifter: &F,
     words: usize,
     rows: usize,
     total: u32,
-    is_dense: bool,
 ) -> RowsDropping
     requires room { (words < 513)
         × (words * (64 * words) ≤ length pairs.old)
         × (rows ≤ 64 * words)
-        × (pairs_below words rows pairs.old ≤ total) }
+        × (words ≤ length likely.now)
+        × (pairs_in words (among rows (row_bit words likely.now)) pairs.old ≤ total) }
     requires asked { (x p j : ℕ) → x < 2 ^ 64 → p < 64 * words → j < words → F.pre sifter.now x p j }
     requires told { (way : ℕ → ℕ → ℕ) × (D : ℕ) × Sifts words D (F.post sifter.now) way }
     ensures { (way : ℕ → ℕ → ℕ) (D : ℕ)
         → Sifts words D (F.post sifter.now) way
-        → rows_dropped pairs.new result.gone result.count result.way ≡ drop_rows_of words way D rows pairs.old }
+        → rows_dropped pairs.new result.gone result.count result.way
+        ≡ drop_set_of words way D (among rows (row_bit words likely.now)) pairs.old }
 {
     let mut gone: u32 = 0;
     let mut count: u32 = 0;
     let mut way: u16 = 0;
     // A row is jumped to, so that no range counts the rows.
-    let mut u = next_row(&*pairs, words, rows, 0, is_dense);
+    let mut u = next_likely(likely, words, rows, 0);
     while u < rows {
         let row = drop_row(pairs, sifter, words, u);
         gone += row.gone;
@@ -221,20 +270,86 @@ pub fn drop_rows<F: Fn(u64, usize, usize) -> Sifted>(
         if gone + count == total {
             u = rows;
         } else {
-            u = next_row(&*pairs, words, rows, u + 1, is_dense);
+            u = next_likely(likely, words, rows, u + 1);
         }
     }
     RowsDropping { gone, count, way }
 }
 
-// All rows: what is left of the table's pairs, of which it has no more than `total`, and the greatest way that was there.
+// Drops the stale pairs of the first rows in place: those rows have their pairs that stay, the others are as they were, and the pairs gone are counted.
+// No more than `total` pairs stand in them. First the rows that are thought to have a pair are done. Nothing is promised of what is thought: where fewer
+// pairs are met, all rows are looked through and those that have one are done, some again, which costs time and changes nothing. How a word is sifted is told,
+// by one search or by two, and the compiler writes it into the loop.
+#[tactic(auto, using(crate::proofs::StaleTable::likely_all, crate::proofs::StaleTable::again_all))]
+pub fn drop_rows<F: Fn(u64, usize, usize) -> Sifted>(
+    pairs: &mut [u64],
+    likely: &mut [u64],
+    sifter: &F,
+    words: usize,
+    rows: usize,
+    total: u32,
+) -> RowsDropping
+    requires room { (words < 513)
+        × (words * (64 * words) ≤ length pairs.old)
+        × (rows ≤ 64 * words)
+        × (words ≤ length likely.old)
+        × (pairs_below words rows pairs.old ≤ total) }
+    requires asked { (x p j : ℕ) → x < 2 ^ 64 → p < 64 * words → j < words → F.pre sifter.now x p j }
+    requires told { (way : ℕ → ℕ → ℕ) × (D : ℕ) × Sifts words D (F.post sifter.now) way }
+    ensures { (way : ℕ → ℕ → ℕ) (D : ℕ)
+        → Sifts words D (F.post sifter.now) way
+        → rows_dropped pairs.new result.gone result.count result.way ≡ drop_rows_of words way D rows pairs.old }
+{
+    let first = drop_likely(pairs, &*likely, sifter, words, rows, total);
+    if first.gone + first.count == total {
+        if first.gone != 0 && first.count != 0 {
+            forget_bare(&*pairs, likely, words, rows);
+        }
+        return first;
+    }
+    note_rows(&*pairs, likely, words, rows);
+    let rest = drop_likely(pairs, &*likely, sifter, words, rows, total - first.gone);
+    RowsDropping {
+        gone: first.gone + rest.gone,
+        count: rest.count,
+        way: first.way.max(rest.way),
+    }
+}
+
+// ---- the whole table
+
+// Drops the stale pairs of a table that has few, no more than `total`, and answers what is left of them and the greatest way that was there.
 #[tactic(auto, using(crate::proofs::StaleTable::below_all, crate::proofs::StaleTable::all_rows))]
 fn drop_all<F: Fn(u64, usize, usize) -> Sifted>(
+    pairs: &mut [u64],
+    likely: &mut [u64],
+    sifter: &F,
+    words: usize,
+    total: u32,
+) -> Dropping
+    requires room { (words < 513)
+        × (words * (64 * words) ≤ length pairs.old)
+        × (words ≤ length likely.old)
+        × (count_pairs (range (64 * words)) (table_bit words pairs.old) ≤ total) }
+    requires asked { (x p j : ℕ) → x < 2 ^ 64 → p < 64 * words → j < words → F.pre sifter.now x p j }
+    requires told { (way : ℕ → ℕ → ℕ) × (D : ℕ) × Sifts words D (F.post sifter.now) way }
+    ensures { (way : ℕ → ℕ → ℕ) (D : ℕ)
+        → Sifts words D (F.post sifter.now) way
+        → dropped (tally pairs.new result.count) result.way ≡ drop_of words way D pairs.old }
+{
+    let done = drop_rows(pairs, likely, sifter, words, 64 * words, total);
+    Dropping {
+        count: done.count,
+        way: done.way,
+    }
+}
+
+// The same of a table that has many, in which the rows that have a pair are looked for as they come: to keep them would save nothing.
+fn drop_dense<F: Fn(u64, usize, usize) -> Sifted>(
     pairs: &mut [u64],
     sifter: &F,
     words: usize,
     total: u32,
-    is_dense: bool,
 ) -> Dropping
     requires room { (words < 513)
         × (words * (64 * words) ≤ length pairs.old)
@@ -245,11 +360,23 @@ fn drop_all<F: Fn(u64, usize, usize) -> Sifted>(
         → Sifts words D (F.post sifter.now) way
         → dropped (tally pairs.new result.count) result.way ≡ drop_of words way D pairs.old }
 {
-    let done = drop_rows(pairs, sifter, words, 64 * words, total, is_dense);
-    Dropping {
-        count: done.count,
-        way: done.way,
+    let rows = 64 * words;
+    let mut gone: u32 = 0;
+    let mut count: u32 = 0;
+    let mut way: u16 = 0;
+    let mut u = next_row(&*pairs, words, rows, 0, true);
+    while u < rows {
+        let part = drop_row(pairs, sifter, words, u);
+        gone += part.gone;
+        count += part.count;
+        way = way.max(part.way);
+        if gone + count < total {
+            u = next_row(&*pairs, words, rows, u + 1, true);
+        } else {
+            u = rows;
+        }
     }
+    Dropping { count, way }
 }
 
 // ---- few pairs: member by member
@@ -277,31 +404,42 @@ fn sift_by_either(near: &[u16], far: &[u16], x: u64, u: usize, j: usize, chain: 
 }
 
 // Drops the stale pairs member by member.
-fn drop_few(pairs: &mut [u64], hops: &[u16], words: usize, stored: Farthest) -> Dropping
+fn drop_few(
+    pairs: &mut [u64],
+    likely: &mut [u64],
+    hops: &[u16],
+    words: usize,
+    stored: Farthest,
+) -> Dropping
     requires { HasHops words pairs.old hops.now
+        × (words ≤ length likely.old)
         × (count_pairs (range (64 * words)) (table_bit words pairs.old) ≤ stored.count) }
     ensures { dropped (tally pairs.new result.count) result.way ≡ drop_of words (way_by hops.now) stored.chain pairs.old }
 {
     let chain = stored.chain;
     let sifter = |x: u64, u: usize, j: usize| sift_by(hops, x, u, j, chain);
-    drop_all(pairs, &sifter, words, stored.count, false)
+    drop_all(pairs, likely, &sifter, words, stored.count)
 }
 
 // The same by two searches.
-#[tactic(auto, using(crate::proofs::StaleTable::below_few))]
 fn drop_few_either(
     pairs: &mut [u64],
+    likely: &mut [u64],
     near: &[u16],
     far: &[u16],
     words: usize,
-    chain: u16,
+    stored: Farthest,
 ) -> Dropping
-    requires { HasHops words pairs.old near.now × HasHops words pairs.old far.now }
+    requires { HasHops words pairs.old near.now
+        × HasHops words pairs.old far.now
+        × (words ≤ length likely.old)
+        × (count_pairs (range (64 * words)) (table_bit words pairs.old) ≤ stored.count) }
     ensures { let way = way_by_either near.now far.now in
-        dropped (tally pairs.new result.count) result.way ≡ drop_of words way chain pairs.old }
+        dropped (tally pairs.new result.count) result.way ≡ drop_of words way stored.chain pairs.old }
 {
+    let chain = stored.chain;
     let sifter = |x: u64, u: usize, j: usize| sift_by_either(near, far, x, u, j, chain);
-    drop_all(pairs, &sifter, words, MOST, false)
+    drop_all(pairs, likely, &sifter, words, stored.count)
 }
 
 // ---- many pairs: whole words. Row k of a table of balls has the codes whose hop is below k.
@@ -506,25 +644,26 @@ fn drop_many<const N: usize>(
         requires { (words < 513) × AreBalls words chain hops.now balls × (u < length hops.now) × (j < words) }
         ensures { sifted result.word result.gone result.kept result.way ≡ sift_of (way_by hops.entry.now) chain u (64 * j) x }
     { sift_whole_by(&balls, hops, words, x, u, j, chain) };
-    drop_all(pairs, &sifter, words, stored.count, true)
+    drop_dense(pairs, &sifter, words, stored.count)
 }
 
 // The same by two searches.
-#[tactic(auto, using(crate::proofs::StaleTable::below_few))]
 #[inline(never)]
 fn drop_many_either<const N: usize>(
     pairs: &mut [u64],
     near: &[u16],
     far: &[u16],
     words: usize,
-    chain: u16,
+    stored: Farthest,
 ) -> Dropping
     requires { HasHops words pairs.old near.now
         × HasHops words pairs.old far.now
-        × BallsFit words chain N }
+        × (count_pairs (range (64 * words)) (table_bit words pairs.old) ≤ stored.count)
+        × BallsFit words stored.chain N }
     ensures { let way = way_by_either near.now far.now in
-        dropped (tally pairs.new result.count) result.way ≡ drop_of words way chain pairs.old }
+        dropped (tally pairs.new result.count) result.way ≡ drop_of words way stored.chain pairs.old }
 {
+    let chain = stored.chain;
     let mut near_balls = [0u64; N];
     let mut far_balls = [0u64; N];
     put_balls(&mut near_balls, near, words, chain as usize);
@@ -539,7 +678,7 @@ fn drop_many_either<const N: usize>(
         ensures { let way = way_by_either near.entry.now far.entry.now in
             sifted result.word result.gone result.kept result.way ≡ sift_of way chain u (64 * j) x }
     { sift_whole_by_either(&near_balls, near, &far_balls, far, words, x, u, j, chain) };
-    drop_all(pairs, &sifter, words, MOST, true)
+    drop_dense(pairs, &sifter, words, stored.count)
 }
 
 // ---- few or many
@@ -560,11 +699,13 @@ fn balls_fit(words: usize, most: u16, n: usize) -> bool
 // was there. Many go by whole words, if the balls fit into N words: to make these costs less than to go over the pairs. For a short chain a few rows do.
 pub fn drop_stale<const N: usize>(
     pairs: &mut [u64],
+    likely: &mut [u64],
     hops: &[u16],
     words: usize,
     stored: Farthest,
 ) -> Dropping
     requires { HasHops words pairs.old hops.now
+        × (words ≤ length likely.old)
         × (count_pairs (range (64 * words)) (table_bit words pairs.old) ≤ stored.count)
         × (N < 2 ^ 60) }
     ensures { dropped (tally pairs.new result.count) result.way ≡ drop_of words (way_by hops.now) stored.chain pairs.old }
@@ -577,30 +718,33 @@ pub fn drop_stale<const N: usize>(
             return drop_many::<N>(pairs, hops, words, stored);
         }
     }
-    drop_few(pairs, hops, words, stored)
+    drop_few(pairs, likely, hops, words, stored)
 }
 
-// `drop_stale` by two searches: a pair is stale that either shows to be nearer than the chain. The stored count only says which way is quicker: there are two
-// tables of balls to make.
+// `drop_stale` by two searches: a pair is stale that either shows to be nearer than the chain. There are two tables of balls to make.
 pub fn drop_stale_either<const N: usize>(
     pairs: &mut [u64],
+    likely: &mut [u64],
     near: &[u16],
     far: &[u16],
     words: usize,
     stored: Farthest,
 ) -> Dropping
-    requires { HasHops words pairs.old near.now × HasHops words pairs.old far.now × (N < 2 ^ 60) }
+    requires { HasHops words pairs.old near.now
+        × HasHops words pairs.old far.now
+        × (words ≤ length likely.old)
+        × (count_pairs (range (64 * words)) (table_bit words pairs.old) ≤ stored.count)
+        × (N < 2 ^ 60) }
     ensures { let way = way_by_either near.now far.now in
         dropped (tally pairs.new result.count) result.way ≡ drop_of words way stored.chain pairs.old }
 {
-    let chain = stored.chain;
     if 2 * MANY <= stored.count {
-        if balls_fit(words, chain, SHORT) {
-            return drop_many_either::<SHORT>(pairs, near, far, words, chain);
+        if balls_fit(words, stored.chain, SHORT) {
+            return drop_many_either::<SHORT>(pairs, near, far, words, stored);
         }
-        if balls_fit(words, chain, N) {
-            return drop_many_either::<N>(pairs, near, far, words, chain);
+        if balls_fit(words, stored.chain, N) {
+            return drop_many_either::<N>(pairs, near, far, words, stored);
         }
     }
-    drop_few_either(pairs, near, far, words, chain)
+    drop_few_either(pairs, likely, near, far, words, stored)
 }

@@ -4,7 +4,7 @@ use Rattle.map.specs.Memory.{base}
 use Rattle.map.proofs.Theorems.{base_shape}
 use Rattle.map.proofs.Longs.{are_long_lem}
 use Rattle.update.proofs.Grants.{granted_long}
-use Rattle.linking.proofs.Joined.{relinkable, joined_is}
+use Rattle.linking.proofs.Joined.{relinkable, stored_few, joined_is}
 use borrow.Author.Rules.{rules}
 use Rattle.linking.proofs.link_map.Goals as goal
 
@@ -28,6 +28,7 @@ relink_codes-got-requires c =
       search rules,
       relinkable base base_shape _ _ _ _ _ _ _ _ _ _ c.requires _ c.link_codes.ensures _ (omega arith)
           (omega arith) c.keep_targets.ensures.kept,
+      stored_few base base_shape _ _ _ _ _ _ _ _ _ _ c.requires,
     )
 
 pub returns-clause-left : goal.returns-clause-left

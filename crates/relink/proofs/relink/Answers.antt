@@ -27,6 +27,7 @@ settle-requires c =
           c.search_sound-d.ensures.left c.search_sound-b.ensures.left _ _ _
           c.reach_by-e.ensures c.reach_by-f.ensures (same_tables _ _ _ _ _ _ (search rules) (search rules) (search rules)) (search rules)
           (same_tables _ _ _ _ _ _ (search rules) (search rules) (search rules)),
+      pre.4,
     )
 
 pub returns-clause-left : goal.returns-clause-left

@@ -4,7 +4,7 @@ use Rattle.stale_pairs.specs.Stale.{way_by_either}
 use Rattle.stale_pairs.proofs.drop_few_either.Goals as goal
 
 pub drop_all-requires-clause-told : goal.drop_all-requires-clause-told
-drop_all-requires-clause-told c = (way_by_either c.args.near.now c.args.far.now, c.args.chain, λ x u j r f l h m. search rules)
+drop_all-requires-clause-told c = (way_by_either c.args.near.now c.args.far.now, c.args.stored.chain, λ x u j r f l h m. search rules)
 
 pub returns : goal.returns
-returns c = c.drop_all.ensures (way_by_either c.args.near.now c.args.far.now) c.args.chain (λ x u j r f l h m. search rules)
+returns c = c.drop_all.ensures (way_by_either c.args.near.now c.args.far.now) c.args.stored.chain (λ x u j r f l h m. search rules)

@@ -1,44 +1,75 @@
--- `stale_pairs::drop_rows` meets its contract. The loop's invariant (StaleTable.antt) is the contract itself, for the rows done. The measure is the rows
--- left.
-use Prim.Native.Nat.{◌+◌, ◌^◌, ◌<◌}
+-- `stale_pairs::drop_rows` meets its contract: the rows that are thought to have a pair are done, and then no pair is left that was not met, or all rows that
+-- have one are done (StaleTable.antt).
+use Prim.Native.Nat.{◌+◌, ◌-◌, ◌≤◌}
 use native.Mathlib.Omega.{arith}
-use Rattle.stale_pairs.proofs.StaleTable.{rows_start, row_few, rows_few, rows_met, rows_bare, rows_more}
+use Rattle.rows.specs.Rows.{row_bit}
+use Rattle.stale_pairs.specs.Stale.{pairs_below}
+use Rattle.stale_pairs.proofs.StaleTable.{likely_first, likely_few, left_few, likely_all, again_all}
 use Rattle.stale_pairs.proofs.drop_rows.Goals as goal
-use Rattle.stale_pairs.proofs.drop_rows.Goals.{After-drop_row-row}
+use Rattle.stale_pairs.proofs.drop_rows.Goals.{After-drop_likely-first}
 
-pub loop-u-init : goal.loop-u-init
-loop-u-init g c =
-    λ way D h. rows_bare _ _ _ _ (rows_start _ _ _ _ c.requires.room.1 (λ i l. (c.slice_known-1.given i).fits)) c.requires.room.2 c.next_row-u.ensures
-
--- the sums fit: at most 32,768 rows are done, and each had at most 32,768 pairs
-few : (g : _) (c : After-drop_row-row g) → let row = c.drop_row-row.result in c.loop-u.gone + row.gone + (c.loop-u.count + row.count) < 2 ^ 32
-few g c =
+pub drop_likely-first-requires-clause-room : goal.drop_likely-first-requires-clause-room
+drop_likely-first-requires-clause-room g c =
+    let a = c.args in
     let pre = c.requires.room in
+    (pre.0, pre.1, pre.2, pre.3, likely_first a.words a.rows (row_bit a.words a.likely.now) a.pairs.now pre.4)
+
+-- no more are met than there can be
+met : (g : _) (c : After-drop_likely-first g) → c.drop_likely-first.result.gone + c.drop_likely-first.result.count ≤ c.args.total
+met g c =
+    let a = c.args in
     let told = c.requires.told in
-    let done = c.loop-u.invariant told.0 told.1 told.2 in
-    omega (arith, rows_few _ _ _ _ done pre.0, row_few _ _ _ _ _ (c.drop_row-row.ensures told.0 told.1 told.2), c.loop-u-test.true, pre)
+    likely_few _ _ _ _ (row_bit a.words a.likely.now) _ c.requires.room.4 (c.drop_likely-first.ensures told.0 told.1 told.2)
 
-pub overflow_add-gone : goal.overflow_add-gone
-overflow_add-gone g c = omega (arith, few g (goal.at.overflow_add-gone g c).After-drop_row-row)
+pub returns-then-first-ne0-2 : goal.returns-then-first-ne0-2
+returns-then-first-ne0-2 g c =
+    λ way D h. let a = c.args in
+    likely_all _ _ _ _ (row_bit a.words a.likely.now) _ c.requires.room.4 (c.drop_likely-first.ensures way D h) c.if-first-total.true
 
-pub overflow_add-count : goal.overflow_add-count
-overflow_add-count g c = omega (arith, few g (goal.at.overflow_add-count g c).After-drop_row-row)
+pub returns-else-first-ne0 : goal.returns-else-first-ne0
+returns-else-first-ne0 g c =
+    λ way D h. let a = c.args in
+    likely_all _ _ _ _ (row_bit a.words a.likely.now) _ c.requires.room.4 (c.drop_likely-first.ensures way D h) c.if-first-total.true
 
-pub overflow_add-gone-in-loop-u : goal.overflow_add-gone-in-loop-u
-overflow_add-gone-in-loop-u g c = omega (arith, few g (goal.at.overflow_add-gone-in-loop-u g c).After-drop_row-row)
+pub overflow_add-first : goal.overflow_add-first
+overflow_add-first g c = omega (arith, met g (goal.at.overflow_add-first g c).After-drop_likely-first)
 
-pub loop-u-preserved-then-gone-count : goal.loop-u-preserved-then-gone-count
-loop-u-preserved-then-gone-count g c =
-    λ way D h.
-    let pre = c.requires.room in
-    let one =
-    rows_more _ _ _ _ (c.loop-u.invariant way D h) pre.2 c.loop-u-test.true (c.drop_row-row.ensures way D h) c.max-way.ensures c.drop_row-row.auto.pairs in
-    rows_bare _ _ _ _ one pre.2 (rows_met _ _ _ _ one pre.2 pre.3 c.if-gone-count.true)
+pub overflow_sub-total : goal.overflow_sub-total
+overflow_sub-total g c = omega (arith, met g (goal.at.overflow_sub-total g c).After-drop_likely-first)
 
-pub loop-u-preserved : goal.loop-u-preserved
-loop-u-preserved g c =
-    λ way D h.
-    let pre = c.requires.room in
-    rows_bare _ _ _ _
-    (rows_more _ _ _ _ (c.loop-u.invariant way D h) pre.2 c.loop-u-test.true (c.drop_row-row.ensures way D h) c.max-way.ensures c.drop_row-row.auto.pairs)
-    pre.2 c.next_row-u-else-gone-count.ensures
+-- those that stand yet are the rest
+stand : (g : _) (c : After-drop_likely-first g)
+    → pairs_below c.args.words c.args.rows c.drop_likely-first.new.pairs ≤ c.args.total - c.drop_likely-first.result.gone
+stand g c =
+    let a = c.args in
+    let told = c.requires.told in
+    left_few _ _ _ _ (row_bit a.words a.likely.now) _ c.requires.room.4 (c.drop_likely-first.ensures told.0 told.1 told.2)
+
+pub drop_likely-rest-requires-clause-room : goal.drop_likely-rest-requires-clause-room
+drop_likely-rest-requires-clause-room g c =
+    let a = c.args in
+    let pre = c.requires.room in (
+      pre.0,
+      omega (arith, pre.1, c.drop_likely-first.auto.pairs),
+      pre.2,
+      omega (arith, pre.3, c.note_rows.auto.likely),
+      likely_first a.words a.rows (row_bit a.words c.note_rows.new.likely) c.drop_likely-first.new.pairs
+          (stand g (goal.at.drop_likely-rest-requires-clause-room g c).After-drop_likely-first),
+    )
+
+pub overflow_add-result : goal.overflow_add-result
+overflow_add-result g c =
+    let a = c.args in
+    let told = c.requires.told in
+    let first = (goal.at.overflow_add-result g c).After-drop_likely-first in
+    omega (
+      arith,
+      met g first,
+      likely_few _ _ _ _ (row_bit a.words c.note_rows.new.likely) _ (stand g first) (c.drop_likely-rest.ensures told.0 told.1 told.2),
+    )
+
+pub returns : goal.returns
+returns g c =
+    λ way D h. let a = c.args in
+    again_all _ _ _ _ (row_bit a.words a.likely.now) _ c.requires.room.4 (c.drop_likely-first.ensures way D h)
+    (row_bit a.words c.note_rows.new.likely) (λ u v l m e. c.note_rows.ensures u v l m e) (c.drop_likely-rest.ensures way D h) c.max.ensures
