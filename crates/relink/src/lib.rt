@@ -243,10 +243,11 @@ fn settle(
     let pairs = &mut *room.pairs;
     let likely = &mut room.likely;
     let hops = &mut *room.hops;
+    let near = low.hops;
     let left = stale_pairs::drop_stale_either::<TABLE>(
         pairs,
         likely,
-        low.hops,
+        near,
         &*hops,
         map::WORDS,
         stored,
