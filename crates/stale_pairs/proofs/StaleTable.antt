@@ -205,9 +205,10 @@ module _ (W : ℕ) (far : ℕ → ℕ → ℕ) (D : ℕ) (t₀ : List ℕ) where
       (max_same (where_done (λ p. ltb p (64 * W)) (row_way W far D P₀)) (row_way W far D P₀) (64 * W) (λ p l. rw (lt-ltb p (64 * W) l) refl))
 
   -- no row is left of those that are looked for as they come
-  pub dense_end : {t : List ℕ} {g k w u : ℕ} → RowsDropping (λ p. true) (64 * W) t g k w u → 64 * W ≤ u → dropped (tally t k) w ≡ drop_of W far D t₀
+  pub dense_end : {n : ℕ} {t : List ℕ} {g k w u : ℕ} → RowsDropping (λ p. true) n t g k w u → n ≤ u → rows_dropped t g k w ≡ drop_rows_of W far D n t₀
   unfolding drop_rows_of
-  dense_end i z =
-      all_rows
-      (rows_end i z
-      ∙ set_same W far D t₀ (among (64 * W) (λ p. true)) (λ p. ltb p (64 * W)) (λ p l. inl (rw (lt-ltb p (64 * W) l) refl)))
+  dense_end {n} i z = rows_end i z ∙ set_same W far D t₀ (among n (λ p. true)) (λ p. ltb p n) (λ p l. inl (go (ltb p n)))
+    where
+      go : (b : Bool) → (b && true) ≡ b
+      go true = refl
+      go false = refl

@@ -316,6 +316,42 @@ pub fn drop_rows<F: Fn(u64, usize, usize) -> Sifted>(
     }
 }
 
+// The same of rows that have many pairs, in which those with a pair are looked for as they come: to keep them would save nothing.
+fn drop_dense_rows<F: Fn(u64, usize, usize) -> Sifted>(
+    pairs: &mut [u64],
+    sifter: &F,
+    words: usize,
+    rows: usize,
+    total: u32,
+) -> RowsDropping
+    requires room { (words < 513)
+        × (words * (64 * words) ≤ length pairs.old)
+        × (rows ≤ 64 * words)
+        × (pairs_below words rows pairs.old ≤ total) }
+    requires asked { (x p j : ℕ) → x < 2 ^ 64 → p < 64 * words → j < words → F.pre sifter.now x p j }
+    requires told { (way : ℕ → ℕ → ℕ) × (D : ℕ) × Sifts words D (F.post sifter.now) way }
+    ensures { (way : ℕ → ℕ → ℕ) (D : ℕ)
+        → Sifts words D (F.post sifter.now) way
+        → rows_dropped pairs.new result.gone result.count result.way ≡ drop_rows_of words way D rows pairs.old }
+{
+    let mut gone: u32 = 0;
+    let mut count: u32 = 0;
+    let mut way: u16 = 0;
+    let mut u = next_row(&*pairs, words, rows, 0, true);
+    while u < rows {
+        let part = drop_row(pairs, sifter, words, u);
+        gone += part.gone;
+        count += part.count;
+        way = way.max(part.way);
+        if gone + count < total {
+            u = next_row(&*pairs, words, rows, u + 1, true);
+        } else {
+            u = rows;
+        }
+    }
+    RowsDropping { gone, count, way }
+}
+
 // ---- the whole table
 
 // Drops the stale pairs of a table that has few, no more than `total`, and answers what is left of them and the greatest way that was there.
@@ -344,7 +380,8 @@ fn drop_all<F: Fn(u64, usize, usize) -> Sifted>(
     }
 }
 
-// The same of a table that has many, in which the rows that have a pair are looked for as they come: to keep them would save nothing.
+// The same of a table that has many.
+#[tactic(auto, using(crate::proofs::StaleTable::below_all, crate::proofs::StaleTable::all_rows))]
 fn drop_dense<F: Fn(u64, usize, usize) -> Sifted>(
     pairs: &mut [u64],
     sifter: &F,
@@ -360,23 +397,11 @@ fn drop_dense<F: Fn(u64, usize, usize) -> Sifted>(
         → Sifts words D (F.post sifter.now) way
         → dropped (tally pairs.new result.count) result.way ≡ drop_of words way D pairs.old }
 {
-    let rows = 64 * words;
-    let mut gone: u32 = 0;
-    let mut count: u32 = 0;
-    let mut way: u16 = 0;
-    let mut u = next_row(&*pairs, words, rows, 0, true);
-    while u < rows {
-        let part = drop_row(pairs, sifter, words, u);
-        gone += part.gone;
-        count += part.count;
-        way = way.max(part.way);
-        if gone + count < total {
-            u = next_row(&*pairs, words, rows, u + 1, true);
-        } else {
-            u = rows;
-        }
+    let done = drop_dense_rows(pairs, sifter, words, 64 * words, total);
+    Dropping {
+        count: done.count,
+        way: done.way,
     }
-    Dropping { count, way }
 }
 
 // ---- few pairs: member by member

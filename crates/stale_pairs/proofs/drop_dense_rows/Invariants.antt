@@ -1,16 +1,16 @@
--- `stale_pairs::drop_dense` meets its contract. The loop's invariant (StaleTable.antt) is the contract itself, for the rows passed. The measure is the rows
+-- `stale_pairs::drop_dense_rows` meets its contract. The loop's invariant (StaleTable.antt) is the contract itself, for the rows done. The measure is the rows
 -- left.
 use mathlib.Core.Bool.{true}
-use Prim.Native.Nat.{ℕ, ◌-◌, ◌*◌}
+use Prim.Native.Nat.{ℕ, ◌-◌}
 use Rattle.stale_pairs.specs.Stale.{Sifts}
 use Rattle.stale_pairs.proofs.StaleTable.{RowsDropping}
-use Rattle.stale_pairs.proofs.drop_dense.Given as goal
+use Rattle.stale_pairs.proofs.drop_dense_rows.Given as goal
 
 abbrev pub invariant-loop-u : goal.invariant-loop-u
 invariant-loop-u g l =
     (way : ℕ → ℕ → ℕ) (D : ℕ)
     → Sifts l.words D (goal.F-post g l.sifter) way
-    → RowsDropping l.words way D l.initial.pairs (λ p. true) (64 * l.words) l.pairs l.gone l.count l.way l.u
+    → RowsDropping l.words way D l.initial.pairs (λ p. true) l.rows l.pairs l.gone l.count l.way l.u
 
 abbrev pub decreases-loop-u : goal.decreases-loop-u
 decreases-loop-u g l = l.rows - l.u
