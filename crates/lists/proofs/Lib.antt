@@ -26,3 +26,7 @@ pub mod Conditions
 pub mod Copies
 -- loops that an element decides
 pub mod Scans
+-- lists of numbers renamed
+pub mod Renamed
+-- lists sorted by keys
+pub mod Rising

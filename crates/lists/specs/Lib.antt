@@ -2,3 +2,5 @@
 pub mod Lists
 -- the refusals of a call, in words
 pub mod Conditions
+-- lists sorted by keys
+pub mod Rising
