@@ -31,3 +31,4 @@ pub mod Refusals
 pub mod Rising
 pub mod Nearby
 pub mod Summary
+pub mod Closed

@@ -39,3 +39,7 @@ pub mod BatchCases
 pub mod YardCases
 -- 20. movements worked by hand. Nobody has to believe this file
 pub mod MovementCases
+-- 21. the closing of a depot
+pub mod Closing
+-- 22. closings worked by hand. Nobody has to believe this file
+pub mod CloseCases

@@ -4,9 +4,10 @@
 -- Assumes nothing.
 use Rattle.std.specs.Prelude.{◌≡◌, ◌⊎◌, ℕ, suc, ◌≤◌, ◌<◌, T, length, get_or}
 use mathlib.Core.List.{List, [], ◌∷◌, Memᴰ}
-use Rattle.outcome.specs.Numbers.{absent_code, taken_code, lonely_depot, unsorted_neighbours, unknown_neighbour, itself_linked, linked_already}
+use Rattle.outcome.specs.Numbers.{absent_code, taken_code, lonely_depot, unsorted_neighbours, unknown_neighbour, itself_linked, linked_already, cut_map}
 use Rattle.graph.specs.Network.{Network, Walk}
 use Rattle.graph.specs.Opening.{Notice}
+use Rattle.graph.specs.Closing.{remove_depot, AreApart}
 use Rattle.graph.specs.Updates.{Update, opens, joins}
 
 -- 3, apart (where the links are sound): no walk leads from the lowest open code to some open depot
@@ -62,6 +63,14 @@ link_conditions G a b =
     ∷ (IsItself a b, itself_linked)
     ∷ (AreLinked G a b, linked_already)
     ∷ []
+
+-- 17, cut: two of those left open would lie apart
+abbrev pub IsCut : Network → ℕ → Type 0
+IsCut G c = AreApart (remove_depot G c)
+
+-- the table for a closing
+abbrev pub close_conditions : Network → ℕ → List (Type 0 × ℕ)
+close_conditions G c = (IsAbsent G c, absent_code) ∷ (IsCut G c, cut_map) ∷ []
 
 -- the table for an update
 abbrev pub own_conditions : Network → Update → List (Type 0 × ℕ)

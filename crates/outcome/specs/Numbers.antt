@@ -61,3 +61,7 @@ linked_already = 14
 -- too few: the map has fewer than two depots
 abbrev pub too_few : ℕ
 too_few = 15
+
+-- cut: those left open would lie apart
+abbrev pub cut_map : ℕ
+cut_map = 17
