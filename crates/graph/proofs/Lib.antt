@@ -32,3 +32,8 @@ pub mod Rising
 pub mod Nearby
 pub mod Summary
 pub mod Closed
+pub mod Renamed
+pub mod Relabelled
+pub mod Naming
+pub mod RenamedReports
+pub mod RelabelledUpdates

@@ -43,3 +43,7 @@ pub mod MovementCases
 pub mod Closing
 -- 22. closings worked by hand. Nobody has to believe this file
 pub mod CloseCases
+-- 23. the same network under other names: rows for codes
+pub mod Renaming
+-- 24. what is read of a network under other names
+pub mod RenamedReports
