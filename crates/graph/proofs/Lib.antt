@@ -37,3 +37,6 @@ pub mod Relabelled
 pub mod Naming
 pub mod RenamedReports
 pub mod RelabelledUpdates
+pub mod Moving
+pub mod Arrivals
+pub mod ClosedRows

@@ -47,3 +47,7 @@ pub mod CloseCases
 pub mod Renaming
 -- 24. what is read of a network under other names
 pub mod RenamedReports
+-- 25. rows in order of arrival
+pub mod Arrivals
+-- 26. rows and codes worked by hand. Nobody has to believe this file
+pub mod RowCases
