@@ -40,3 +40,4 @@ pub mod RelabelledUpdates
 pub mod Moving
 pub mod Arrivals
 pub mod ClosedRows
+pub mod Picked

@@ -51,3 +51,5 @@ pub mod RenamedReports
 pub mod Arrivals
 -- 26. rows and codes worked by hand. Nobody has to believe this file
 pub mod RowCases
+-- 27. the pick of the rounds where ties go by code
+pub mod Pick
