@@ -41,3 +41,6 @@ pub mod Moving
 pub mod Arrivals
 pub mod ClosedRows
 pub mod Picked
+pub mod RowUpdates
+pub mod RowSteps
+pub mod RowOrders

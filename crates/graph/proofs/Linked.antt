@@ -165,7 +165,7 @@ module _ (G : Network) (net : IsNet G) (a b : ℕ) (good : IsLinkable G a b) whe
       to z oz = dist-sym linked_sound (chart-dist H linkable_net z u (open_old z oz) (open_old u ou))
 
   -- the chart after is the chart before with the link, whichever end comes first
-  joined_at : (x y : ℕ) → T (G.is_open x) → T (G.is_open y) → (x ≡ y → ⊥) → IsGrownAt G H x → IsGrownAt G H y → IsJoined (chart G) (chart H) x y
+  pub joined_at : (x y : ℕ) → T (G.is_open x) → T (G.is_open y) → (x ≡ y → ⊥) → IsGrownAt G H x → IsGrownAt G H y → IsJoined (chart G) (chart H) x y
   unfolding chart add_link delivers
   joined_at x y ox oy n at_x at_y = record {
     first = depot_in H linkable_net x ox;

@@ -76,7 +76,7 @@ module _ (C : Chart) where
       go (some r) ih = let x = ih r in (r ∷ x.0, x.1 ∙ append_append S.references (r ∷ []) x.0)
 
   module _ (a D : ℕ) (P : Pairs) where
-    opening_first : (rs : List ℕ) × ((opening C a D P).final.references ≡ a ∷ rs)
+    pub opening_first : (rs : List ℕ) × ((opening C a D P).final.references ≡ a ∷ rs)
     unfolding opening open_case searched_once round start
     opening_first = go (grows_by C a D) (kept_by C a D) (any_pair C.depots (staying_pairs (via C a) D P))
       where
@@ -94,7 +94,7 @@ module _ (C : Chart) where
         go true n = elim n [ ]
         go false n = tt
 
-    opening_once : ((opening C a D P).change ≡ Shrank → ⊥) → AreAlone (a ∷ []) (opening C a D P).final
+    pub opening_once : ((opening C a D P).change ≡ Shrank → ⊥) → AreAlone (a ∷ []) (opening C a D P).final
     unfolding opening open_case
     opening_once = go (grows_by C a D) (kept_by C a D) (any_pair C.depots (staying_pairs (via C a) D P))
       where

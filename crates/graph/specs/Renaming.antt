@@ -1,8 +1,8 @@
 -- THE SAME NETWORK UNDER OTHER NAMES (request h: rows for codes). Nothing looks at names: not distances, not figures, not rounds, not an update.
 -- Proved: `relabelled_distances`, `relabelled_figures`, `relabelled_reckoning`, `relabelled_true` (proofs/Relabelled), `relabelled_update`,
--- `relabelled_closing` (proofs/RelabelledUpdates), `renamed_is`, `renamed_only` (proofs/Naming), `move_keeps` (proofs/Moving).
+-- `relabelled_closing` (proofs/RelabelledUpdates), `lawful_by` (proofs/RowUpdates), `renamed_is`, `renamed_only` (proofs/Naming), `move_keeps` (proofs/Moving).
 -- Assumes nothing.
-use Rattle.std.specs.Prelude.{◌≡◌, ◌⊎◌, ◌↔◌, cond, ◌&&◌, ◌||◌, ℕ, max, min, T, eqb}
+use Rattle.std.specs.Prelude.{◌≡◌, ◌⊎◌, ◌↔◌, cond, ◌&&◌, ◌||◌, List, [], ◌∷◌, ℕ, max, min, T, eqb}
 use Rattle.lists.specs.Lists.{anyb, mapl, memb}
 use Rattle.graph.specs.Network.{Network, IsDist}
 use Rattle.graph.specs.Distance.{unreached, dist, connected}
@@ -12,7 +12,7 @@ use Rattle.graph.specs.Opening.{add_depot, Opened, opening}
 use Rattle.graph.specs.Linking.{add_link, linking}
 use Rattle.graph.specs.Closing.{remove_depot, closing}
 use Rattle.graph.specs.Correct.{IsNet, AreSound}
-use Rattle.graph.specs.Updates.{Update, opens, joins, applied, steps}
+use Rattle.graph.specs.Updates.{Update, opens, joins, applied, steps, Owes}
 
 -- no two open depots have one name
 abbrev pub NamesDiffer : Network → (ℕ → ℕ) → Type 0
@@ -96,6 +96,15 @@ unfoldable pub steps_by : (ℕ → ℕ) → Chart → Update → ℕ → Pairs �
 unfolding opening linking
 steps_by row C (opens o) D P = opening C (row o.code) D P
 steps_by row C (joins a b) D P = linking C (row (min a b)) (row (max a b)) D P
+
+-- the rows that it searches from first
+unfoldable pub first_searches_by : (ℕ → ℕ) → Update → List ℕ
+first_searches_by row (opens o) = row o.code ∷ []
+first_searches_by row (joins a b) = row (min a b) ∷ row (max a b) ∷ []
+
+-- the update told by codes owes on the rows what every update owes
+abbrev pub IsLawfulBy : (ℕ → ℕ) → (ℕ → ℕ) → Network → Update → Type 0
+IsLawfulBy code row G u = Owes G (applied_by code row G u) (first_searches_by row u) (λ D P. steps_by row (chart (applied_by code row G u)) u D P)
 
 -- the rows that an update names have its codes, and the row that a code takes is free
 abbrev pub IsFound : (ℕ → ℕ) → (ℕ → ℕ) → Network → ℕ → Type 0

@@ -1,5 +1,5 @@
 -- WHAT A CALL ASKS OF THE NETWORK, as one type: the opening of a depot, or a link between two. What stands above the network (calls, histories, the
--- stream) is stated over it, once. Each kind of update owes the five promises of `IsLawful`, and nothing else. `update_lawful` (proofs/Lawful) has them.
+-- stream) is stated over it, once. Each kind of update owes the five promises of `Owes`, and nothing else. `update_lawful` (proofs/Lawful) has them.
 -- Assumes nothing.
 use Rattle.std.specs.Prelude.{Bool, List, [], ◌∷◌, ℕ, ◌≤◌, max, min, length}
 use Rattle.graph.specs.Network.{Network, delivers, AreTrue}
@@ -42,13 +42,18 @@ unfoldable pub first_searches : Update → List ℕ
 first_searches (opens o) = o.code ∷ []
 first_searches (joins a b) = min a b ∷ max a b ∷ []
 
--- What the update u of G owes: the network after it is one that a map can hold; on true figures it leaves true ones, and the letter says how the
--- chain moved; on any figures its references and marks are right, and after a shrink all others are covered; on any figures its first searches are
--- those named, and the only ones unless the chain shrank; sound figures stay sound.
-pub record IsLawful (G : Network) (u : Update) : Type 0 where
-  pub net : IsNet (applied G u)
-  pub correct : (D : ℕ) (P : Pairs) → AreTrue G (delivers G) D P → IsOpened (applied G u) D (steps (chart (applied G u)) u D P)
-  pub covered : (D : ℕ) (P : Pairs) → D ≤ unreached → IsSearched (applied G u) (steps (chart (applied G u)) u D P)
-  pub settled : (D : ℕ) (P : Pairs) → D ≤ unreached → IsSettled (applied G u) (first_searches u) (steps (chart (applied G u)) u D P)
-  pub sound : (limit D : ℕ) (P : Pairs) → length (vertices (applied G u)) ≤ limit → AreSound G limit D P
-      → AreSound (applied G u) limit (steps (chart (applied G u)) u D P).final.candidate (steps (chart (applied G u)) u D P).final.pairs
+-- What an update of G owes, H being the network after it, `firsts` the depots that it searches from first, and `step` what it makes of the stored chain
+-- and pairs: H is one that a map can hold; on true figures it leaves true ones, and the letter says how the chain moved; on any figures its references
+-- and marks are right, and after a shrink all others are covered; on any figures its first searches are those named, and the only ones unless the chain
+-- shrank; sound figures stay sound.
+pub record Owes (G H : Network) (firsts : List ℕ) (step : ℕ → Pairs → Opened) : Type 0 where
+  pub net : IsNet H
+  pub correct : (D : ℕ) (P : Pairs) → AreTrue G (delivers G) D P → IsOpened H D (step D P)
+  pub covered : (D : ℕ) (P : Pairs) → D ≤ unreached → IsSearched H (step D P)
+  pub settled : (D : ℕ) (P : Pairs) → D ≤ unreached → IsSettled H firsts (step D P)
+  pub sound : (limit D : ℕ) (P : Pairs) → length (vertices H) ≤ limit → AreSound G limit D P
+      → AreSound H limit (step D P).final.candidate (step D P).final.pairs
+
+-- the update u of G keeps these promises
+abbrev pub IsLawful : Network → Update → Type 0
+IsLawful G u = Owes G (applied G u) (first_searches u) (λ D P. steps (chart (applied G u)) u D P)
