@@ -24,7 +24,7 @@ use Rattle.graph.specs.Refusals.{IsUnsorted, IsItself, notice_conditions, link_c
 use Rattle.graph.specs.Updates.{Update, opens, joins, update_faults}
 
 -- 6: no neighbours, and some depot
-decides_none : (xs : List ℕ) → Decides (is_empty xs) (xs ≡ [])
+pub decides_none : (xs : List ℕ) → Decides (is_empty xs) (xs ≡ [])
 unfolding is_empty
 decides_none [] = record { holds = λ e. refl; fails = λ e q. clash refl e }
 decides_none (x ∷ xs) = record { holds = λ e. absurd (clash e refl); fails = λ e q. lt_irrefl 0 (let z : suc (length xs) ≡ 0 = ap length q in omega arith) }

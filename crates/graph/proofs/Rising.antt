@@ -1,12 +1,20 @@
 -- Strictly rising lists of numbers: a range, a filter of one, and a list with one member. Assumes nothing.
-use mathlib.Core.Path.{◌≡◌, refl, ap}
+use mathlib.Core.Path.{◌≡◌, refl, sym, ap, ◌∙◌}
+use mathlib.Core.Logic.{◌⊎◌, inl, inr}
 use mathlib.Core.Bool.{Bool, true, false, cond}
 use mathlib.Core.List.Memᴰ
 use mathlib.Core.List.{List, [], ◌∷◌, Memᴰ}
 use Prim.Native.Nat.{ℕ, zero, suc, ◌≤◌, ◌<◌}
 use native.Mathlib.Nat.{lt_irrefl}
 use native.Mathlib.Omega.{arith}
-use Rattle.lists.specs.Lists.{from, range, filterb}
+use lib.Dec.{eqb}
+use borrow.Author.Tests.{eqb-true}
+use Rattle.std.proofs.lemmas.Bool.{or_cases}
+use Rattle.lists.specs.Lists.{from, range, filterb, memb}
+use Rattle.lists.specs.Rising.{rises_by}
+use Rattle.lists.proofs.Tests.{clash}
+use Rattle.lists.proofs.Distinct.{memb_nil, memb_cons}
+use Rattle.lists.proofs.Rising.{rises_cons}
 use Rattle.graph.specs.Nearby.{IsRising}
 
 -- the same by recursion: rising, and none below b
@@ -65,3 +73,23 @@ rising_one s (x ∷ y ∷ ys) h m all =
     let a : x ≡ s = all x (Memᴰ.head refl) in
     let b : y ≡ s = all y (Memᴰ.tail (Memᴰ.head refl)) in
     absurd (lt_irrefl x (omega arith))
+
+-- ---- codes that rise are keys that rise
+
+rises_least : (b : ℕ) (l : List ℕ) → Rises b l → (y : ℕ) → memb y l ≡ true → b ≤ y
+rises_least b [] r y m = absurd (clash m (memb_nil y))
+rises_least b (x ∷ xs) r y m = go (or_cases (eqb y x) (memb y xs) (sym (memb_cons y x xs) ∙ m)) (rises_least (suc x) xs r.1 y)
+  where
+    go : (eqb y x ≡ true) ⊎ (memb y xs ≡ true) → (memb y xs ≡ true → suc x ≤ y) → b ≤ y
+    go (inl e) ih = let q : y ≡ x = eqb-true y x e in let f : b ≤ x = r.0 in omega arith
+    go (inr n) ih = let g : suc x ≤ y = ih n in let f : b ≤ x = r.0 in omega arith
+
+rises_codes : (b : ℕ) (l : List ℕ) → Rises b l → rises_by (λ c. c) l ≡ true
+unfolding rises_by
+rises_codes b [] r = refl
+rises_codes b (x ∷ xs) r = rises_cons (λ c. c) x xs (rises_least (suc x) xs r.1) (rises_codes (suc x) xs r.1)
+
+pub rising_codes : (l : List ℕ) → IsRising l → rises_by (λ c. c) l ≡ true
+unfolding rises_by
+rising_codes [] h = refl
+rising_codes (x ∷ xs) h = rises_codes x (x ∷ xs) (rises_of x xs h)
