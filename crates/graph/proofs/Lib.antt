@@ -44,3 +44,8 @@ pub mod Picked
 pub mod RowUpdates
 pub mod RowSteps
 pub mod RowOrders
+pub mod Bounding
+pub mod Picks
+pub mod Leiden
+pub mod Settled
+pub mod LeidenCases

@@ -53,3 +53,5 @@ pub mod Arrivals
 pub mod RowCases
 -- 27. the pick of the rounds where ties go by code
 pub mod Pick
+-- 21. the Leiden method, a second engine for the diameter alone. No call gives it yet: nobody has to believe this file
+pub mod Leiden
