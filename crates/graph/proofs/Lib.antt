@@ -49,3 +49,6 @@ pub mod Picks
 pub mod Leiden
 pub mod Settled
 pub mod LeidenCases
+pub mod Trees
+pub mod Branch
+pub mod BranchCases

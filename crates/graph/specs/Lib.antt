@@ -55,3 +55,5 @@ pub mod RowCases
 pub mod Pick
 -- 21. the Leiden method, a second engine for the diameter alone. No call gives it yet: nobody has to believe this file
 pub mod Leiden
+-- 22. the branch profile: two searches on a network without loops. No call gives it yet: nobody has to believe this file
+pub mod Branch
