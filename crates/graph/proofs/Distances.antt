@@ -22,18 +22,18 @@ use Rattle.graph.proofs.Walks.{cast, snoc, walk_zero, unsnoc, dist_unique, dist_
 -- ---- the three cases of a place of the next hop table
 
 module _ (vs : List ℕ) (adj : ℕ → ℕ → Bool) (k : ℕ) (h : ℕ → ℕ) (v : ℕ) where
-  linked_to : Bool
+  unfoldable pub linked_to : Bool
   linked_to = anyb (λ w. eqb (h w) k && adj w v) vs
 
-  next_old : h v < unreached → next_hop vs adj k h v ≡ h v
+  pub next_old : h v < unreached → next_hop vs adj k h v ≡ h v
   unfolding next_hop
   next_old l = rw (lt-ltb (h v) unreached l)
 
-  next_new : unreached ≤ h v → linked_to ≡ true → next_hop vs adj k h v ≡ suc k
+  pub next_new : unreached ≤ h v → linked_to ≡ true → next_hop vs adj k h v ≡ suc k
   unfolding next_hop linked_to
   next_new l e = rw (le-ltb (h v) unreached l, e)
 
-  next_none : unreached ≤ h v → linked_to ≡ false → next_hop vs adj k h v ≡ unreached
+  pub next_none : unreached ≤ h v → linked_to ≡ false → next_hop vs adj k h v ≡ unreached
   unfolding next_hop linked_to
   next_none l e = rw (le-ltb (h v) unreached l, e)
 

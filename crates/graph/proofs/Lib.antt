@@ -52,3 +52,5 @@ pub mod LeidenCases
 pub mod Trees
 pub mod Branch
 pub mod BranchCases
+pub mod Groups
+pub mod GroupCases

@@ -57,3 +57,5 @@ pub mod Pick
 pub mod Leiden
 -- 22. the branch profile: two searches on a network without loops. No call gives it yet: nobody has to believe this file
 pub mod Branch
+-- 23. distances from a group of depots. No call gives it yet: nobody has to believe this file
+pub mod Groups
