@@ -54,3 +54,5 @@ pub mod Branch
 pub mod BranchCases
 pub mod Groups
 pub mod GroupCases
+pub mod Sweep
+pub mod SweepCases

@@ -59,3 +59,5 @@ pub mod Leiden
 pub mod Branch
 -- 23. distances from a group of depots. No call gives it yet: nobody has to believe this file
 pub mod Groups
+-- 24. many searches in one sweep of the link table. No call gives it yet: nobody has to believe this file
+pub mod Sweep
