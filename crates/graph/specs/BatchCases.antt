@@ -29,6 +29,13 @@ pub twice_links : ◌≡◌ {A = List Bool} ((batch_of (path 1) twice).network.l
 unfolding batch_of path
 twice_links = refl
 
+-- the first in the given order is taken, not the lowest code or the notice that another waits for: 9 beside 0, though 5 could be opened too, and 9 beside
+-- 5 then. So the notice of line 0 is left over
+pub in_order : case_of (entry_of 0 (notice_of false 9 (5 ∷ [])) ∷ entry_of 1 (notice_of false 9 (0 ∷ [])) ∷ entry_of 2 (notice_of false 5 (0 ∷ [])) ∷ [])
+    ≡ record { accepted = 1 ∷ 2 ∷ []; left = 0 ∷ []; codes = 0 ∷ 5 ∷ 9 ∷ []; once = 0 ∷ 5 ∷ 9 ∷ [] }
+unfolding case_of
+in_order = refl
+
 -- a chain in reversed order, each beside the one behind it: all are taken, from the last to the first; offered once, only the last would be
 pub reversed : case_of (entry_of 0 (notice_of false 3 (2 ∷ [])) ∷ entry_of 1 (notice_of false 2 (1 ∷ [])) ∷ entry_of 2 (notice_of false 1 (0 ∷ [])) ∷ [])
     ≡ record { accepted = 2 ∷ 1 ∷ 0 ∷ []; left = []; codes = 0 ∷ 1 ∷ 2 ∷ 3 ∷ []; once = 0 ∷ 1 ∷ [] }

@@ -117,6 +117,54 @@ pub record LinkCases : Type 0 where
           pairs = (0, 1) ∷ (0, 2) ∷ (1, 2) ∷ [];
         };
       }
+  -- The search from the lower end raises the candidate (wrong: S [0, 4, 7, 1, 3, 5, 8, 2, 6])
+  pub lower_raises : linked_later (linked_by (0 ∷ 1 ∷ 2 ∷ 3 ∷ 4 ∷ 5 ∷ 6 ∷ 7 ∷ 8 ∷ []) ((0, 8) ∷ (1, 7) ∷ (1, 8) ∷ (2, 5) ∷ (3, 4) ∷ (3, 7) ∷ (4, 6) ∷ (5, 7) ∷ [])) 0 4 6 ((0, 6) ∷ [])
+      ≡ record {
+        letter = 83;
+        final = record {
+          references = 0 ∷ 4 ∷ 7 ∷ 8 ∷ 2 ∷ 6 ∷ [];
+          marks = 256 ∷ 7 ∷ 256 ∷ 7 ∷ 256 ∷ 7 ∷ 256 ∷ 256 ∷ 256 ∷ [];
+          bounds = 5 ∷ 4 ∷ 5 ∷ 4 ∷ 4 ∷ 4 ∷ 5 ∷ 3 ∷ 4 ∷ [];
+          chain = 5;
+          pairs = (0, 2) ∷ (2, 6) ∷ [];
+        };
+      }
+  -- The search from the higher end raises the candidate (wrong: S [0, 2, 1, 3, 5, 6, 8, 4, 7])
+  pub higher_raises : linked_later (linked_by (0 ∷ 1 ∷ 2 ∷ 3 ∷ 4 ∷ 5 ∷ 6 ∷ 7 ∷ 8 ∷ []) ((0, 3) ∷ (0, 7) ∷ (1, 3) ∷ (1, 5) ∷ (1, 6) ∷ (2, 8) ∷ (4, 5) ∷ (6, 8) ∷ [])) 0 2 6 ((2, 7) ∷ [])
+      ≡ record {
+        letter = 83;
+        final = record {
+          references = 0 ∷ 2 ∷ 1 ∷ 8 ∷ 4 ∷ 7 ∷ [];
+          marks = 256 ∷ 256 ∷ 256 ∷ 1 ∷ 256 ∷ 1 ∷ 1 ∷ 256 ∷ 256 ∷ [];
+          bounds = 4 ∷ 3 ∷ 5 ∷ 4 ∷ 5 ∷ 4 ∷ 4 ∷ 5 ∷ 4 ∷ [];
+          chain = 5;
+          pairs = (2, 4) ∷ (4, 7) ∷ [];
+        };
+      }
+  -- Two stored pairs: the candidate is the greatest of their ways (wrong: S [1, 3, 5, 2, 6, 0, 4])
+  pub greatest : linked_later (linked_by (0 ∷ 1 ∷ 2 ∷ 3 ∷ 4 ∷ 5 ∷ 6 ∷ []) ((0, 5) ∷ (1, 4) ∷ (1, 6) ∷ (2, 5) ∷ (2, 6) ∷ (3, 5) ∷ [])) 1 3 5 ((0, 4) ∷ (3, 4) ∷ [])
+      ≡ record {
+        letter = 83;
+        final = record {
+          references = 1 ∷ 3 ∷ 2 ∷ 6 ∷ 0 ∷ 4 ∷ [];
+          marks = 256 ∷ 256 ∷ 256 ∷ 256 ∷ 256 ∷ 3 ∷ 256 ∷ [];
+          bounds = 4 ∷ 3 ∷ 3 ∷ 2 ∷ 4 ∷ 3 ∷ 3 ∷ [];
+          chain = 4;
+          pairs = (0, 4) ∷ [];
+        };
+      }
+  -- False figures: the way of (3,4) through the higher end is 5, through the lower one 6 (wrong: K [0, 6])
+  pub higher_way : linked_later (linked_by (0 ∷ 1 ∷ 2 ∷ 3 ∷ 4 ∷ 5 ∷ 6 ∷ []) ((0, 1) ∷ (1, 2) ∷ (2, 3) ∷ (3, 4) ∷ (4, 5) ∷ (5, 6) ∷ [])) 0 6 6 ((3, 4) ∷ [])
+      ≡ record {
+        letter = 83;
+        final = record {
+          references = 0 ∷ 6 ∷ 2 ∷ 4 ∷ [];
+          marks = 256 ∷ 0 ∷ 256 ∷ 2 ∷ 256 ∷ 6 ∷ 256 ∷ [];
+          bounds = 3 ∷ 4 ∷ 3 ∷ 4 ∷ 3 ∷ 4 ∷ 3 ∷ [];
+          chain = 5;
+          pairs = [];
+        };
+      }
   -- Refusals. A closed code with itself, and at either end: 4. An open one with itself: 13. Linked, either way round: 14. A link that is accepted.
   pub absent : link_refusal 7 7 ∷ link_refusal 7 3 ∷ link_refusal 3 7 ∷ [] ≡ 4 ∷ 4 ∷ 4 ∷ []
   pub refusals : link_refusal 3 3 ∷ link_refusal 3 4 ∷ link_refusal 4 3 ∷ link_refusal 0 2 ∷ [] ≡ 13 ∷ 14 ∷ 14 ∷ 0 ∷ []
@@ -132,6 +180,10 @@ linking-cases = record {
   chainless = refl;
   bare = refl;
   pairless = refl;
+  lower_raises = refl;
+  higher_raises = refl;
+  greatest = refl;
+  higher_way = refl;
   absent = refl;
   refusals = refl;
 }

@@ -106,6 +106,30 @@ pub record RuleCases : Type 0 where
   -- The path of two with chain 0 and pair (0,1), then depot 2 beside 1: grew, and the stored pair is gone. Only 2 was searched.
   pub chainless : opened (path 2) 2 (1 ∷ []) 0 ((0, 1) ∷ [])
       ≡ record { letter = 71; final = record { references = 2 ∷ []; marks = 257 ∷ 257 ∷ 256 ∷ []; bounds = 65535 ∷ 65535 ∷ 2 ∷ []; chain = 2; pairs = (0, 2) ∷ [] } }
+  -- Two stored pairs, (0,6) and (3,6), with ways of 4 and 2 through 7: the candidate is the greatest, 4. From the least, depot 4 is searched too.
+  pub greatest : opened (linked_by (0 ∷ 1 ∷ 2 ∷ 3 ∷ 4 ∷ 5 ∷ 6 ∷ []) ((0, 1) ∷ (1, 2) ∷ (1, 3) ∷ (2, 4) ∷ (4, 5) ∷ (5, 6) ∷ [])) 7 (2 ∷ 3 ∷ 6 ∷ []) 5 ((0, 6) ∷ (3, 6) ∷ [])
+      ≡ record {
+        letter = 83;
+        final = record {
+          references = 7 ∷ 1 ∷ 2 ∷ 3 ∷ 5 ∷ 6 ∷ 0 ∷ [];
+          marks = 256 ∷ 256 ∷ 256 ∷ 256 ∷ 2 ∷ 256 ∷ 256 ∷ 256 ∷ [];
+          bounds = 4 ∷ 3 ∷ 2 ∷ 3 ∷ 3 ∷ 4 ∷ 4 ∷ 3 ∷ [];
+          chain = 4;
+          pairs = (0, 5) ∷ (0, 6) ∷ [];
+        };
+      }
+  -- The search from the new depot 9 raises the candidate, by which 1, 2 and 8 are skipped after the next search.
+  pub raised : opened (linked_by (0 ∷ 1 ∷ 2 ∷ 3 ∷ 4 ∷ 5 ∷ 6 ∷ 7 ∷ 8 ∷ []) ((0, 6) ∷ (1, 4) ∷ (1, 6) ∷ (2, 3) ∷ (2, 4) ∷ (4, 8) ∷ (5, 7) ∷ (5, 8) ∷ [])) 9 (5 ∷ 6 ∷ []) 6 ((0, 7) ∷ [])
+      ≡ record {
+        letter = 83;
+        final = record {
+          references = 9 ∷ 4 ∷ 5 ∷ 6 ∷ 0 ∷ 3 ∷ 7 ∷ [];
+          marks = 256 ∷ 4 ∷ 4 ∷ 256 ∷ 256 ∷ 256 ∷ 256 ∷ 256 ∷ 4 ∷ 256 ∷ [];
+          bounds = 5 ∷ 4 ∷ 4 ∷ 5 ∷ 3 ∷ 4 ∷ 4 ∷ 5 ∷ 4 ∷ 5 ∷ [];
+          chain = 5;
+          pairs = (0, 3) ∷ (3, 7) ∷ (3, 9) ∷ [];
+        };
+      }
   -- On the path of seven, from 3. 0 handovers: itself alone. 2: the depots at exactly 2 too, on both sides, and rising. 65,535, the hop of a closed
   -- code, and more: all seven, and no closed code.
   pub within : mapl (within_list (path 7) 3) (0 ∷ 2 ∷ 65535 ∷ 65536 ∷ [])
@@ -127,6 +151,8 @@ rule_cases = record {
   unreached = refl;
   chained = refl;
   chainless = refl;
+  greatest = refl;
+  raised = refl;
   within = refl;
   nearest_tie = refl;
   nearest_tie_back = refl;

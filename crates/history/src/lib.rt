@@ -1,3 +1,14 @@
-// Specifications and laws alone: lists of calls on one map, and demand 3 (specs/Lib.antt).
+// Lists of calls on one map, and what holds of every list (specs/Lib.antt).
 
 #![tactic(auto)]
+
+ghost use Rattle.map.specs.Memory.{base};
+ghost use Rattle.history.specs.History.{rules_program};
+ghost use Rattle.history.specs.Demand3.{Demand3};
+
+// Every list of calls from an empty map, as one claim (rules 9.4 to 9.7).
+#[tactic(auto, using(crate::proofs::Theorems::demand3_base))]
+pub fn histories()
+    ensures { Demand3 base (rules_program base) }
+{
+}
