@@ -18,18 +18,17 @@ import sys
 
 # what is counted: the crates of public calls, and theorems, by what they make good
 GROUPS = [
-    ('the calls on a map, and demands 1 to 3', 'map search nearby summary reckon step lent_opening batch_opening', [
-        'empty_refusals', 'search_refusals', 'within_refusals', 'nearest_refusals', 'summary_refusals', 'reckon_refusals', 'update_refusals', 'batch_refusals',  # demand 1
-        'search_demand2', 'within_demand2', 'nearest_demand2', 'summary_demand2', 'reckon_demand2', 'update_demand2', 'update_tables', 'emptied_is_empty', 'batch_demand2', 'batch_most',  # demand 2
-        'demand3']),
+    ('the calls on a map: refusals, results, histories', 'map search nearby summary reckon step lent_opening batch_opening', [
+        'empty_refusals', 'search_refusals', 'within_refusals', 'nearest_refusals', 'summary_refusals', 'reckon_refusals', 'update_refusals', 'batch_refusals',
+        'search_correct', 'within_correct', 'nearest_correct', 'summary_correct', 'reckon_correct', 'update_correct', 'update_tables', 'emptied_is_empty', 'batch_correct', 'batch_most',
+        'histories_agree']),
     ('lines', 'notice report', ['one_line', 'round_trip', 'line_injective']),
     ('sentences', 'sentences', ['reads_written', 'written_reads', 'sentence_injective', 'sentence_one_line']),
     ('the stream', 'stream', ['pieces_alike', 'rest_unread', 'turn_uses', 'turn_all', 'pieces_told', 'narration_tells', 'transcript_tells', 'answers_same', 'garbled_same', 'events_same']),
     ('reports on files', '', ['run_written_lem', 'run_first']),
     ('the calls for C', 'c_maps c_updates c_streams c_sentences', ['updated_words', 'batched_words', 'write_refusals', 'read_refusals', 'numbers_return']),
     ('the table of cases', '', ['cases_hold']),
-    ('what stands without yards', '', ['stands_as_before']),
-    ('how far one notice moves the chain', '', ['opening_moves', 'linking_moves', 'map_moves', 'call_moves', 'demand3_moves']),
+    ('how far one notice moves the chain', '', ['opening_moves', 'linking_moves', 'map_moves', 'call_moves', 'histories_move']),
 ]
 
 USE = re.compile(r'^\s*(?:ghost )?use (\S+?)(?:\.\{(.*)\}| as (\S+));?$')

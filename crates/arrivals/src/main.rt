@@ -1,4 +1,4 @@
-// The arrival orders of the customer's first sentence: two notices A and B, three scanner lines with a map each, eight orders. It prints each order
+// The arrival orders of two notices A and B, three scanner lines with a map each, eight orders. It prints each order
 // with the figures of its three lines (depots open, chain, pairs), and whether the three maps are equal word for word. The third time each line hands
 // its two notices over as one batch, so that nothing is refused. The fourth time a link between their depots is a third notice, which makes six orders.
 #![tactic(auto)]

@@ -15,10 +15,10 @@ use Rattle.map.specs.declared.Record.{Record}
 use Rattle.map.specs.Room.{Lent, sizes_of}
 use Rattle.update.specs.UpdateCall.{network_after, update_call, references_of}
 use Rattle.update.specs.Represents.{IsMarked}
-use Rattle.update.proofs.Theorems.{update_demand2}
+use Rattle.update.proofs.Theorems.{update_correct}
 use Rattle.batch.specs.Lines.{entries_of}
 use Rattle.batch_update.specs.BatchCall.{LentMemory, lent_memory, opening_on, memory_left, batch_on, batch_given, batch_call}
-use Rattle.batch_update.specs.Demand2.{AreCodes}
+use Rattle.batch_update.specs.Correct.{AreCodes}
 use Rattle.batch_update.specs.Marks.{UpdateOn, last_from, last_opening, IsLeftBy, BatchMarks}
 use Rattle.batch_update.specs.Steps.{BatchStanding, turns_on}
 use Rattle.batch_update.proofs.Refuses.{granted}
@@ -61,7 +61,7 @@ module _ (K : Shape) (shape : IsShape K) where
   unfolding opening_on network_after
   opening-marks M o free low fits =
       subst (λ (H : Network). IsMarked K H (references_of K M.rec M.links M.lent (opens o)) (opening_on K M o)) (sym (opening_network K shape M o free low fits))
-      ((update_demand2 K shape).marks M.rec M.links M.lent (opens o) (opening_granted K shape M o free low fits) low)
+      ((update_correct K shape).marks M.rec M.links M.lent (opens o) (opening_granted K shape M o free low fits) low)
 
   opening_left : (M N : LentMemory) (o : Notice) → IsFree K N → o.code < places K → accepts (meant K N) o ≡ true → IsLeft K M (memory_left (opening_on K N o)) (some (record { memory = N; update = opens o }))
   unfolding opening_on

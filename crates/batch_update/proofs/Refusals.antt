@@ -19,7 +19,7 @@ use Rattle.lent_map.proofs.Refuses.{lent_tells}
 use Rattle.notice.specs.Lines.{lines_of}
 use Rattle.batch.specs.Lines.{batch_limit, is_opening, batch_faults}
 use Rattle.batch_update.specs.BatchCall.{batch_refusal, batch_given, batch_call}
-use Rattle.batch_update.specs.Refusals.{lines_conditions, batch_conditions, batch_number, BatchDemand1}
+use Rattle.batch_update.specs.Refusals.{lines_conditions, batch_conditions, batch_number, BatchRefuses}
 
 lines_tell : (G : Network) → AreListed G → (input : List ℕ) → Tells (batch_faults (length (vertices G)) input) (lines_conditions G input)
 unfolding batch_faults
@@ -29,7 +29,7 @@ lines_tell G listed input = (
   λ f11. (refl, decides_not (ltb 0 (length (vertices G))) (decides_some G listed), λ f12. (refl, decides_fails is_opening (lines_of input), λ f9. tt)),
 )
 
-pub batch_refusals : (K : Shape) → IsShape K → BatchDemand1 K (batch_call K)
+pub batch_refusals : (K : Shape) → IsShape K → BatchRefuses K (batch_call K)
 unfolding batch_call batch_refusal batch_given batch_number allb
 batch_refusals K shape rec links B places input =
     let G = map_network K rec links in

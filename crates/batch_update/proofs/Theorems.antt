@@ -26,7 +26,7 @@ use Rattle.lent_map.proofs.Passes.{IsPassed, lent-passed, passed_net}
 use Rattle.update.specs.UpdateCall.{network_after, updated_by, update_given, update_call}
 use Rattle.update.specs.Steps.{map_refusal}
 use Rattle.update.specs.Represents.{Represents}
-use Rattle.update.specs.Demand2.{map_after}
+use Rattle.update.specs.Correct.{map_after}
 use Rattle.update.proofs.Memories.{IsHeld, Stores, write_map, written_twice}
 use Rattle.update.proofs.Grants.{after_is, granted_lawful}
 use Rattle.update.proofs.Openings.{opened_writes}
@@ -34,7 +34,7 @@ use Rattle.update.proofs.Keeps.{left_stores, sizes_kept}
 use Rattle.batch.specs.Lines.{entries_of}
 use Rattle.batch.proofs.Entries.{entries_codes, entries_apart}
 use Rattle.batch_update.specs.BatchCall.{batch_refusal, LentMemory, lent_memory, opening_on, memory_left, batch_on, batch_given, batch_call}
-use Rattle.batch_update.specs.Demand2.{AreCodes, map_in, BatchDemand2}
+use Rattle.batch_update.specs.Correct.{AreCodes, map_in, BatchCorrect}
 use Rattle.batch_update.specs.Largest.{IsLargest, BatchLargest}
 use Rattle.batch_update.specs.Steps.{BatchStanding, turns_on}
 use Rattle.batch_update.proofs.Refuses.{granted}
@@ -174,7 +174,7 @@ module _ (K : Shape) (shape : IsShape K) where
         go zero = (given_batched codes free).free
         go (suc k) = free
 
--- ---- DEMAND 2
+-- ---- WHAT A CALL GIVES
 
 -- the tests that a map passes which nothing refuses
 pub free_passed : (K : Shape) (M : LentMemory) → IsFree K M → IsPassed K (long_enough K (sizes_of M.links M.lent)) true M.rec M.links M.lent.pairs []
@@ -207,8 +207,8 @@ represents K M free t =
       yards = λ c l. refl;
     }
 
-pub batch_demand2 : (K : Shape) → IsShape K → BatchDemand2 K (batch_call K)
-batch_demand2 K shape rec links B places input ok codes were =
+pub batch_correct : (K : Shape) → IsShape K → BatchCorrect K (batch_call K)
+batch_correct K shape rec links B places input ok codes were =
     let is = batch_opened K shape rec links B places input codes ok in
     let N = (batch_call K rec links B places input).memory in
     subst (λ (H : Network). Represents K (map_in N) H) is.network (represents K N is.free (is.true_kept were))
@@ -238,5 +238,5 @@ batch_most K shape rec links B places input ok codes =
 pub codes_base : (input : List ℕ) → AreCodes base input
 codes_base = entries_codes
 
-pub batch_demand2_base : BatchDemand2 base (batch_call base)
-batch_demand2_base = batch_demand2 base base_shape
+pub batch_correct_base : BatchCorrect base (batch_call base)
+batch_correct_base = batch_correct base base_shape

@@ -11,7 +11,7 @@ use Rattle.map.specs.Room.{Lent, sizes_of}
 use Rattle.batch.specs.Lines.{entries_of}
 use Rattle.batch_update.specs.BatchCall.{batch_refusal, LentMemory, batch_on}
 use Rattle.batch_update.specs.Refusals.{BatchStep}
-use Rattle.batch_update.specs.Demand2.{AreCodes}
+use Rattle.batch_update.specs.Correct.{AreCodes}
 
 -- N is what a batch leaves
 pub record IsLargest (K : Shape) (rec : Record) (links input : List ℕ) (N : LentMemory) : Type 0 where

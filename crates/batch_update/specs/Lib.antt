@@ -3,8 +3,8 @@
 pub mod BatchCall
 -- 2. which refusal it gives, by rule 8.1
 pub mod Refusals
--- 3. demand 2 for batches
-pub mod Demand2
+-- 3. what a batch gives
+pub mod Correct
 -- 4. the codes open after a batch
 pub mod Largest
 -- 5. marks: those of the last accepted opening

@@ -15,7 +15,7 @@ use Rattle.update.specs.UpdateCall.{update_call, references_of, Step}
 use Rattle.update.specs.Represents.{IsMarked}
 use Rattle.batch_update.specs.BatchCall.{batch_refusal, LentMemory, lent_memory, opening_on, memory_left, batch_on}
 use Rattle.batch_update.specs.Refusals.{BatchStep}
-use Rattle.batch_update.specs.Demand2.{AreCodes}
+use Rattle.batch_update.specs.Correct.{AreCodes}
 
 -- an update with the memory that it was lent
 pub record UpdateOn : Type 0 where

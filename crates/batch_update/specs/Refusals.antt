@@ -1,4 +1,4 @@
--- WHICH REFUSAL A BATCH GIVES, in the published words: demand 1 (rule 11.1) for batches. `batch_refusals` (proofs/Refusals) proves it of `batch_call`
+-- WHICH REFUSAL A BATCH GIVES, in the published words (rule 11.1). `batch_refusals` (proofs/Refusals) proves it of `batch_call`
 -- for every shape.
 -- Assumes nothing.
 use Rattle.std.specs.Prelude.{true, ℕ, ◌<◌, T, length}
@@ -44,9 +44,9 @@ batch_number (Refused n) = n
 abbrev pub BatchStep : Type 0
 BatchStep = Record → List ℕ → Lent → List ℕ → List ℕ → BatchLeft
 
--- DEMAND 1 of a program whose batch call is `step`: refused with the first that holds, and then nothing changes
-abbrev pub BatchDemand1 : Shape → BatchStep → Type 0
-BatchDemand1 K step =
+-- Of a program whose batch call is `step`: refused with the first that holds, and then nothing changes
+abbrev pub BatchRefuses : Shape → BatchStep → Type 0
+BatchRefuses K step =
     (rec : Record) (links : List ℕ) (B : Lent) (places input : List ℕ)
     → Refuses
     (batch_conditions K rec links B places input)

@@ -1,4 +1,4 @@
--- OPENING, LINK AND BATCH FOR OTHER LANGUAGES ARE THE CALLS of the same names on the record in the words, so that demand 3 speaks of a list of these calls.
+-- OPENING, LINK AND BATCH FOR OTHER LANGUAGES ARE THE CALLS of the same names on the record in the words, so that the theorem over histories speaks of a list of these calls.
 -- Assumes nothing.
 use mathlib.Core.Path.{◌≡◌, refl, ◌∙◌}
 use mathlib.Core.Bool.{Bool}

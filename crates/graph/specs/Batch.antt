@@ -1,4 +1,4 @@
--- OPENINGS IN A BATCH (the waiting shelf, in the customers' word), over the network itself: notices handed over together, some beside
+-- OPENINGS IN A BATCH, over the network itself: notices handed over together, some beside
 -- depots that others of them open. Proved in proofs/Batches: `batch_largest`, `batch_reached`, `batch_entries`, `batch_ended`.
 -- Assumes nothing.
 use Rattle.std.specs.Prelude.{◌≡◌, Bool, cond, not, ℕ, zero, suc, T, eqb, length}

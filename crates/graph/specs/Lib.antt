@@ -15,7 +15,7 @@ pub mod Linking
 pub mod Correct
 -- 8. what a call asks of the network, and what each kind of update owes
 pub mod Updates
--- 9. what yards change in the steps, and what stands where there are none; `opening_by_ecc` is the opening as it stood before there were yards
+-- 9. what yards change in the steps, and what stands where there are none. Nobody has to believe this file
 pub mod Yards
 -- 10. openings handed over together
 pub mod Batch
@@ -39,25 +39,25 @@ pub mod BatchCases
 pub mod YardCases
 -- 20. movements worked by hand. Nobody has to believe this file
 pub mod MovementCases
--- 21. the closing of a depot
+-- 21. the closing of a depot. No call gives it yet: nobody has to believe this file
 pub mod Closing
 -- 22. closings worked by hand. Nobody has to believe this file
 pub mod CloseCases
--- 23. the same network under other names: rows for codes
+-- 23. the same network under other names: rows for codes. No call gives it yet: nobody has to believe this file
 pub mod Renaming
--- 24. what is read of a network under other names
+-- 24. what is read of a network under other names. No call gives it yet: nobody has to believe this file
 pub mod RenamedReports
--- 25. rows in order of arrival
+-- 25. rows in order of arrival. No call gives it yet: nobody has to believe this file
 pub mod Arrivals
 -- 26. rows and codes worked by hand. Nobody has to believe this file
 pub mod RowCases
--- 27. the pick of the rounds where ties go by code
+-- 27. the pick of the rounds where ties go by code. No call gives it yet: nobody has to believe this file
 pub mod Pick
--- 21. the Leiden method, a second engine for the diameter alone. No call gives it yet: nobody has to believe this file
+-- 28. the Leiden method, a second engine for the diameter alone. No call gives it yet: nobody has to believe this file
 pub mod Leiden
--- 22. the branch profile: two searches on a network without loops. No call gives it yet: nobody has to believe this file
+-- 29. the branch profile: two searches on a network without loops. No call gives it yet: nobody has to believe this file
 pub mod Branch
--- 23. distances from a group of depots. No call gives it yet: nobody has to believe this file
+-- 30. distances from a group of depots. No call gives it yet: nobody has to believe this file
 pub mod Groups
--- 24. many searches in one sweep of the link table. No call gives it yet: nobody has to believe this file
+-- 31. many searches in one sweep of the link table. No call gives it yet: nobody has to believe this file
 pub mod Sweep

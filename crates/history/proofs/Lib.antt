@@ -6,7 +6,7 @@ pub mod Steps
 pub mod Runs
 -- Arrival order.
 pub mod Orders
--- THE THEOREM: demand 3.
+-- THE THEOREM: every history.
 pub mod Theorems
 -- How far calls move the chain.
 pub mod Movement

@@ -36,11 +36,11 @@ use Rattle.update.proofs.Movement.{update_moves, stays}
 use Rattle.batch.specs.Lines.{entries_of}
 use Rattle.history.specs.PlainRun.{Ask, update, batch, ask_long, ask_faults, plain_refusal, ask_next, openings_of, ask_accepted, plain_run}
 use Rattle.history.specs.History.{Lending, Call, Program, rules_program, lent_sizes, feed_of, feeds_of}
-use Rattle.history.specs.Demand3.{OpensCodes, AreCalls, plain_after_all, Demand3}
+use Rattle.history.specs.HistoriesAgree.{OpensCodes, AreCalls, plain_after_all, HistoriesAgree}
 use Rattle.history.specs.Movement.{chain_after_all, AcceptsNoYard, accepted_then, openings_in, call_for, Moves}
 use Rattle.history.proofs.Runs.{fed_snoc, run}
 use Rattle.history.proofs.Orders.{plain_yards}
-use Rattle.history.proofs.Theorems.{demand3_base}
+use Rattle.history.proofs.Theorems.{histories_agree_base}
 
 -- none of some updates opens a yard
 abbrev NoYards : List Update → Type 0
@@ -182,9 +182,9 @@ fed_accepted K G (c ∷ cs) ds =
     ap (λ (vs : List Update). us ++ vs) (fed_accepted K H cs ds)
     ∙ sym (append_assoc us (plain_run K H (feeds_of K cs)).accepted (plain_run K (plain_run K H (feeds_of K cs)).network (feeds_of K ds)).accepted)
 
--- ---- EVERY PROGRAM THAT MEETS DEMAND 3
+-- ---- EVERY PROGRAM WHOSE HISTORIES AGREE WITH THE PLAIN LIST
 
-module _ (K : Shape) (shape : IsShape K) (P : Program) (met : Demand3 K P) where
+module _ (K : Shape) (shape : IsShape K) (P : Program) (met : HistoriesAgree K P) where
   module _ (cs : List Call) (calls : AreCalls K cs) where
     abbrev G : Network
     G = (plain_after_all K cs).network
@@ -229,8 +229,8 @@ module _ (K : Shape) (shape : IsShape K) (P : Program) (met : Demand3 K P) where
       (λ o m. told o (Memᴰ.append_right (plain_after_all K cs).accepted m)) in
       omega (arith, r.most, chain_is cs before, chain_is (cs ++ ds) calls ∙ ap diameter (fed_append K empty_network cs ds))
 
-pub demand3_moves : (K : Shape) → IsShape K → (P : Program) → Demand3 K P → Moves K P
-demand3_moves K shape P met = record {
+pub histories_move : (K : Shape) → IsShape K → (P : Program) → HistoriesAgree K P → Moves K P
+histories_move K shape P met = record {
   once = moves_once K shape P met;
   rises = moves_rise K shape P met;
   most = λ cs ds calls n. omega (arith, moves_rise K shape P met cs ds calls n, openings_few (accepted_then K cs ds));
@@ -238,5 +238,5 @@ demand3_moves K shape P met = record {
 
 -- ---- the rules' map
 
-pub rules-move : Moves base (rules_program base)
-rules-move = demand3_moves base base_shape (rules_program base) demand3_base
+pub histories_move_base : Moves base (rules_program base)
+histories_move_base = histories_move base base_shape (rules_program base) histories_agree_base

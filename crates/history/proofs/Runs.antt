@@ -10,7 +10,7 @@ use Rattle.update.proofs.Memories.{IsHeld, memory_for}
 use Rattle.batch_update.specs.Marks.{IsLeftBy}
 use Rattle.history.specs.PlainRun.{Answer, PlainRun, plain_refusal, ask_next, ask_answer, ask_accepted, plain_run}
 use Rattle.history.specs.History.{Call, lent_to, Program, rules_program, call_left, memory_after, run_memory, run_answers, feed_of, feeds_of}
-use Rattle.history.specs.Demand3.{OpensCodes, AreCalls, last_update}
+use Rattle.history.specs.HistoriesAgree.{OpensCodes, AreCalls, last_update}
 use Rattle.history.proofs.Steps.{one_step}
 
 -- ---- the plain list, fed one call first, and one call more

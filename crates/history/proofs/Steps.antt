@@ -31,14 +31,14 @@ use Rattle.update.proofs.Marks.{refused_marked, opened_marked}
 use Rattle.plain_list.specs.PlainList.{moved, plain_answer, plain_next}
 use Rattle.batch.specs.Lines.{batch_limit, entries_of, batch_faults}
 use Rattle.batch_update.specs.BatchCall.{batch_refusal, LentMemory, memory_left, batch_on, batch_given, batch_call}
-use Rattle.batch_update.specs.Demand2.{AreCodes, map_in}
+use Rattle.batch_update.specs.Correct.{AreCodes, map_in}
 use Rattle.batch_update.specs.Marks.{IsLeftBy}
 use Rattle.batch_update.proofs.Refuses.{granted}
 use Rattle.batch_update.proofs.Theorems.{IsBatched, given_batched, free_passed, free_held}
 use Rattle.batch_update.proofs.Marks.{given_marks}
 use Rattle.history.specs.PlainRun.{Ask, update, batch, told, left_over, ask_long, ask_faults, plain_refusal, ask_next, ask_answer}
 use Rattle.history.specs.History.{lend, restore, Lending, Call, lent_to, rules_program, batch_answer, ask_left, memory_after, lent_size, lent_sizes, feed_of}
-use Rattle.history.specs.Demand3.{OpensCodes, last_of_batch, last_update}
+use Rattle.history.specs.HistoriesAgree.{OpensCodes, last_of_batch, last_update}
 use Rattle.history.proofs.Lendings.{lent_length, lent-whole, restored_same, restored_new}
 
 -- the map as it stands when a call has left a map in the lent words

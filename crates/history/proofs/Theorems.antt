@@ -1,4 +1,4 @@
--- DEMAND 3: the theorem. Assumes nothing.
+-- EVERY HISTORY: the theorem. Assumes nothing.
 use mathlib.Core.Path.{◌≡◌, refl, sym, ap, ◌∙◌, subst}
 use mathlib.Core.Logic.{◌↔◌}
 use mathlib.Core.Bool.{Bool}
@@ -18,11 +18,11 @@ use Rattle.update.proofs.Memories.{written_represents, memory_for, memory_writte
 use Rattle.update.proofs.Empties.{empty_held, empty_memory_lem}
 use Rattle.batch_update.specs.Marks.{IsLeftBy}
 use Rattle.history.specs.History.{Call, lent_to, Program, rules_program, call_left, run_memory, run_answers, feeds_of}
-use Rattle.history.specs.Demand3.{OpensCodes, AreCalls, memory_after_all, plain_after_all, last_update, LeavesMarks, Demand3}
+use Rattle.history.specs.HistoriesAgree.{OpensCodes, AreCalls, memory_after_all, plain_after_all, last_update, LeavesMarks, HistoriesAgree}
 use Rattle.history.proofs.Runs.{fed_snoc, call_marked, IsRun, run}
 use Rattle.history.proofs.Orders.{plain_yards, order_free}
 
--- ---- DEMAND 3
+-- ---- EVERY HISTORY
 
 module _ (K : Shape) (shape : IsShape K) where
   abbrev P : Program
@@ -52,8 +52,8 @@ module _ (K : Shape) (shape : IsShape K) where
       (sym (fed_snoc K empty_network cs c))
       (call_marked K shape G (all_run cs before).is_held c call))
 
-pub demand3 : (K : Shape) → IsShape K → Demand3 K (rules_program K)
-demand3 K shape = record {
+pub histories_agree : (K : Shape) → IsShape K → HistoriesAgree K (rules_program K)
+histories_agree K shape = record {
   answers = λ cs calls. ap (λ (M : Memory). run_answers (rules_program K) M cs) (empty_memory_lem K shape) ∙ (all_run K shape cs calls).answers;
   published = λ cs calls. diameter_is (plain_after_all K cs).network (all_run K shape cs calls).is_held.net;
   figures = end_represents K shape;
@@ -70,5 +70,5 @@ demand3 K shape = record {
 
 -- ---- the rules' map
 
-pub demand3_base : Demand3 base (rules_program base)
-demand3_base = demand3 base base_shape
+pub histories_agree_base : HistoriesAgree base (rules_program base)
+histories_agree_base = histories_agree base base_shape

@@ -1,5 +1,5 @@
--- HOW FAR CALLS CAN MOVE THE CHAIN where no yard was opened, over the lists of calls of demand 3: the chain is the record's, from which planners publish.
--- `demand3_moves` (proofs/Movement) shows it of every program that meets demand 3, of the rules' own therefore (`rules-move`).
+-- HOW FAR CALLS CAN MOVE THE CHAIN where no yard was opened, over the lists of calls of `HistoriesAgree`: the chain is the record's, from which planners publish.
+-- `histories_move` (proofs/Movement) shows it of every program whose histories agree, of the rules' own therefore (`histories_move_base`).
 -- Assumes nothing.
 use Rattle.std.specs.Prelude.{◌≡◌, false, ℕ, suc, ◌+◌, ◌≤◌, length}
 use mathlib.Core.List.{List, [], ◌∷◌, ◌++◌, Memᴰ}
@@ -9,7 +9,7 @@ use Rattle.map.specs.Memory.{Shape}
 use Rattle.update.specs.Movement.{MovesBy}
 use Rattle.history.specs.PlainRun.{update, PlainRun, plain_run}
 use Rattle.history.specs.History.{Lending, Call, Program, feeds_of}
-use Rattle.history.specs.Demand3.{AreCalls, memory_after_all, plain_after_all}
+use Rattle.history.specs.HistoriesAgree.{AreCalls, memory_after_all, plain_after_all}
 
 -- the record's chain after calls from the empty map
 abbrev pub chain_after_all : Shape → Program → List Call → ℕ

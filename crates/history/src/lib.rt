@@ -4,11 +4,11 @@
 
 ghost use Rattle.map.specs.Memory.{base};
 ghost use Rattle.history.specs.History.{rules_program};
-ghost use Rattle.history.specs.Demand3.{Demand3};
+ghost use Rattle.history.specs.HistoriesAgree.{HistoriesAgree};
 
 // Every list of calls from an empty map, as one claim (rules 9.4 to 9.7).
-#[tactic(auto, using(crate::proofs::Theorems::demand3_base))]
+#[tactic(auto, using(crate::proofs::Theorems::histories_agree_base))]
 pub fn histories()
-    ensures { Demand3 base (rules_program base) }
+    ensures { HistoriesAgree base (rules_program base) }
 {
 }

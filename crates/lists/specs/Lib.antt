@@ -2,5 +2,5 @@
 pub mod Lists
 -- the refusals of a call, in words
 pub mod Conditions
--- lists sorted by keys
+-- lists sorted by keys. No call cites it yet: nobody has to believe this file
 pub mod Rising

@@ -25,7 +25,7 @@ use Rattle.graph.proofs.Rising.{range_rising, filter_rising}
 use Rattle.rows.specs.Rows.{row_bit, table_bit, encode_row}
 use Rattle.rows.proofs.Written.{row_within}
 use Rattle.map.specs.Memory.{Shape, network_of, yard_network, IsShape, base}
-use Rattle.map.specs.Empty.{empty_record, empty_refusal, empty_given, empty_call, IsEmpty, emptying_number, empty_buffers, EmptyDemand1, Done}
+use Rattle.map.specs.Empty.{empty_record, empty_refusal, empty_given, empty_call, IsEmpty, emptying_number, empty_buffers, EmptyRefuses, Done}
 use Rattle.map.specs.declared.Record.{Record}
 use Rattle.map.proofs.Empties.{row_zeros, table_zeros}
 
@@ -118,7 +118,7 @@ emptying_numbered K rec links pairs = go (empty_refusal K links pairs)
     go (suc k) = refl
 
 -- refused if and only if a table is short, and then nothing changes
-pub empty_refusals : (K : Shape) → EmptyDemand1 K (empty_call K)
+pub empty_refusals : (K : Shape) → EmptyRefuses K (empty_call K)
 unfolding empty_call empty_refusal empty_given allb
 empty_refusals K rec links pairs =
     refuses_by _ ((IsShort (empty_buffers K links pairs), 1) ∷ [])

@@ -54,12 +54,12 @@ empty_given (suc k) K rec links pairs = record { answer = Refused (suc k); after
 unfoldable pub empty_call : Shape → Record → List ℕ → List ℕ → EmptyLeft
 empty_call K rec links pairs = empty_given (empty_refusal K links pairs) K rec links pairs
 
--- DEMAND 1 of a program whose emptying is `step`: refused with 1 exactly if a table is short, and then nothing changes (`empty_refusals`)
+-- Of a program whose emptying is `step`: refused with 1 exactly if a table is short, and then nothing changes (`empty_refusals`)
 abbrev pub empty_buffers : Shape → List ℕ → List ℕ → List (ℕ × ℕ)
 empty_buffers K links pairs = (table_words K, length links) ∷ (table_words K, length pairs) ∷ []
 
-abbrev pub EmptyDemand1 : Shape → (Record → List ℕ → List ℕ → EmptyLeft) → Type 0
-EmptyDemand1 K step =
+abbrev pub EmptyRefuses : Shape → (Record → List ℕ → List ℕ → EmptyLeft) → Type 0
+EmptyRefuses K step =
     (rec : Record) (links pairs : List ℕ)
     → Refuses
     ((IsShort (empty_buffers K links pairs), short_buffer) ∷ [])

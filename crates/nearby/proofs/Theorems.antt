@@ -33,8 +33,8 @@ use Rattle.search.proofs.Accepts.{IsGranted, granted}
 use Rattle.search.proofs.Theorems.{over_keeps, leaves_search}
 use Rattle.nearby.specs.WithinCall.{within_refusal, within_given, within_call, listing_number}
 use Rattle.nearby.specs.NearestCall.{nearest_refusal, nearest_given, nearest_call, closest_number}
-use Rattle.nearby.specs.Refusals.{within_conditions, WithinDemand1, IsNobody, nearest_conditions, NearestDemand1}
-use Rattle.nearby.specs.Demand2.{HoldsSearch, IsWithinLeft, WithinDemand2, IsNearestLeft, NearestDemand2}
+use Rattle.nearby.specs.Refusals.{within_conditions, WithinRefuses, IsNobody, nearest_conditions, NearestRefuses}
+use Rattle.nearby.specs.Correct.{HoldsSearch, IsWithinLeft, WithinCorrect, IsNearestLeft, NearestCorrect}
 use Rattle.nearby.proofs.Accepts.{within_short, within_as_search, nearest_as_search, nearest_by_list}
 
 -- ---- WHICH REFUSAL
@@ -53,7 +53,7 @@ module _ (K : Shape) (links : List ℕ) (B : Tables) where
   within_room codes =
       simp (le-leb (table_words K) (table_words K) (le_refl (table_words K)), le-leb (places K) (places K) (le_refl (places K)), and_assoc, and-with-true)
 
-pub within_refusals : (K : Shape) → IsShape K → WithinDemand1 K (within_call K)
+pub within_refusals : (K : Shape) → IsShape K → WithinRefuses K (within_call K)
 unfolding within_call within_refusal within_given
 within_refusals K shape rec links B codes code k =
     let b = (map_network K rec links).is_open code in
@@ -76,7 +76,7 @@ decides_nobody G listed = record {
   fails = λ e n. (let x = any_elim G.is_open listed (not-false (anyb G.is_open listed) e) in n x.0 x.1 (true→t x.2));
 }
 
-pub nearest_refusals : (K : Shape) → IsShape K → NearestDemand1 K (nearest_call K)
+pub nearest_refusals : (K : Shape) → IsShape K → NearestRefuses K (nearest_call K)
 unfolding nearest_call nearest_refusal nearest_given
 nearest_refusals K shape rec links B code listed =
     let G = map_network K rec links in
@@ -134,9 +134,9 @@ module _ (K : Shape) (shape : IsShape K) (rec : Record) (links : List ℕ) (B : 
       go (inl e) = (e, not-false (anyb G.is_open listed) (first_zero (not (anyb G.is_open listed)) 9 [] (nearest_by_list K rec links B code listed e ∙ z)).0)
       go (inr n) = absurd (n (nearest_as_search K rec links B code listed refl n ∙ z))
 
-pub within_demand2 : (K : Shape) → IsShape K → WithinDemand2 K
+pub within_correct : (K : Shape) → IsShape K → WithinCorrect K
 unfolding within_call within_given within_list
-within_demand2 K shape rec links B codes code k z =
+within_correct K shape rec links B codes code k z =
     let g = within_granted K shape rec links B code codes z in
     subst (IsWithinLeft K (map_network K rec links) code k B codes) (ap (λ (r : ℕ). within_given r K rec links B codes code k) (sym z)) (left g.0 g.1)
   where
@@ -161,9 +161,9 @@ within_demand2 K shape rec links B codes code k z =
       searched = holds_search K shape rec links B code e;
     }
 
-pub nearest_demand2 : (K : Shape) → IsShape K → NearestDemand2 K
+pub nearest_correct : (K : Shape) → IsShape K → NearestCorrect K
 unfolding nearest_call nearest_given
-nearest_demand2 K shape rec links B code listed z =
+nearest_correct K shape rec links B code listed z =
     let G = map_network K rec links in
     let g = nearest_granted K shape rec links B code listed z in
     subst (IsNearestLeft K G code listed B) (ap (λ (r : ℕ). nearest_given r K rec links B code listed) (sym z))

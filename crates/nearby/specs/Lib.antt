@@ -6,6 +6,6 @@ pub mod NearestCall
 -- 3. which refusals they give, by rule 8.1
 pub mod Refusals
 -- 4. what accepted calls answer and leave, by the published words
-pub mod Demand2
+pub mod Correct
 -- 5. the code's inner steps. Nobody has to believe this file
 pub mod Steps

@@ -1,4 +1,4 @@
--- WHICH REFUSALS THE TWO CALLS GIVE (rule 8.1), in the published words: demand 1 (rule 11.1) for them.
+-- WHICH REFUSALS THE TWO CALLS GIVE (rule 8.1), in the published words (rule 11.1).
 -- `within_refusals` and `nearest_refusals` (proofs/Theorems) prove it of `within_call` and `nearest_call` for every shape.
 -- Assumes nothing.
 use Rattle.std.specs.Prelude.{false, ℕ, T, length}
@@ -24,9 +24,9 @@ within_conditions K rec links B codes code =
     ++ (IsAbsent (map_network K rec links) code, absent_code)
     ∷ []
 
--- DEMAND 1 of a program whose call is `step`: refused with the first that holds, and then nothing changes
-abbrev pub WithinDemand1 : Shape → (Record → List ℕ → Tables → List ℕ → ℕ → ℕ → WithinLeft) → Type 0
-WithinDemand1 K step =
+-- Of a program whose call is `step`: refused with the first that holds, and then nothing changes
+abbrev pub WithinRefuses : Shape → (Record → List ℕ → Tables → List ℕ → ℕ → ℕ → WithinLeft) → Type 0
+WithinRefuses K step =
     (rec : Record) (links : List ℕ) (B : Tables) (codes : List ℕ) (code k : ℕ)
     → Refuses
     (within_conditions K rec links B codes code)
@@ -44,8 +44,8 @@ IsNobody G listed = (v : ℕ) → Memᴰ v listed → T (G.is_open v) → ⊥
 abbrev pub nearest_conditions : Shape → Record → List ℕ → Tables → ℕ → List ℕ → List (Type 0 × ℕ)
 nearest_conditions K rec links B code listed = search_conditions K rec links B code ++ (IsNobody (map_network K rec links) listed, nobody_open) ∷ []
 
-abbrev pub NearestDemand1 : Shape → (Record → List ℕ → Tables → ℕ → List ℕ → NearestLeft) → Type 0
-NearestDemand1 K step =
+abbrev pub NearestRefuses : Shape → (Record → List ℕ → Tables → ℕ → List ℕ → NearestLeft) → Type 0
+NearestRefuses K step =
     (rec : Record) (links : List ℕ) (B : Tables) (code : ℕ) (listed : List ℕ)
     → Refuses
     (nearest_conditions K rec links B code listed)

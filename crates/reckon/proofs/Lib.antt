@@ -1,4 +1,4 @@
 -- the refusals of a reckoning, and what an accepted one leaves
 pub mod Reckons
--- THE THEOREM: demand 2
+-- THE THEOREM: what a call gives
 pub mod Theorems

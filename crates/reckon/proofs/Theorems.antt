@@ -1,4 +1,4 @@
--- THE THEOREMS of this crate: which refusal a whole reckoning gives, and demand 2 for it, for every shape of a map. Assumes nothing.
+-- THE THEOREMS of this crate: which refusal a whole reckoning gives, and what it gives else, for every shape of a map. Assumes nothing.
 use mathlib.Core.Path.{◌≡◌, refl, sym, ap, ◌∙◌, subst}
 use mathlib.Core.Logic.{◌↔◌}
 use mathlib.Core.Bool.{Bool, false}
@@ -27,8 +27,8 @@ use Rattle.checks.proofs.Theorems.{sound_links_iff}
 use Rattle.search.proofs.Theorems.{over_keeps}
 use Rattle.rounds.specs.Leaves.{rounds_leave, search_after}
 use Rattle.reckon.specs.ReckonCall.{reckon_refusal, figured_by, reckon_given, reckon_call, reckoning_number, Refused}
-use Rattle.reckon.specs.Refusals.{reckon_conditions, ReckonDemand1}
-use Rattle.reckon.specs.Demand2.{IsReckoning, ReckonDemand2}
+use Rattle.reckon.specs.Refusals.{reckon_conditions, ReckonRefuses}
+use Rattle.reckon.specs.Correct.{IsReckoning, ReckonCorrect}
 use Rattle.reckon.proofs.Reckons.{granted_long, granted_tests, granted_net}
 use Rattle.rounds.proofs.Reading.{pairs_read, skip_bound, closed_at, skip_marks, skips_counted, bound_ecc, few_searches, last_search}
 use Rattle.map.proofs.Longs.{long_is}
@@ -118,7 +118,7 @@ call_numbered K rec links B = go (reckon_refusal K rec links (sizes_of links B))
 
 -- ---- WHICH REFUSAL
 
-pub reckon_refusals : (K : Shape) → IsShape K → ReckonDemand1 K (reckon_call K)
+pub reckon_refusals : (K : Shape) → IsShape K → ReckonRefuses K (reckon_call K)
 unfolding reckon_call reckon_refusal lent_refusal lent_faults reckon_given
 reckon_refusals K shape rec links B =
     refuses_by _ (reckon_conditions K rec links B)
@@ -130,11 +130,11 @@ reckon_refusals K shape rec links B =
     numbered zero = refl
     numbered (suc k) = refl
 
--- ---- DEMAND 2
+-- ---- WHAT A CALL GIVES
 
-pub reckon_demand2 : (K : Shape) → IsShape K → ReckonDemand2 K (reckon_call K)
-reckon_demand2 K shape = record { numbered = call_numbered K; accepted = call_reckoning K shape; refused = call_refused K }
+pub reckon_correct : (K : Shape) → IsShape K → ReckonCorrect K (reckon_call K)
+reckon_correct K shape = record { numbered = call_numbered K; accepted = call_reckoning K shape; refused = call_refused K }
 
 -- of the rules' map
-pub reckon_demand2_base : ReckonDemand2 base (reckon_call base)
-reckon_demand2_base = reckon_demand2 base base_shape
+pub reckon_correct_base : ReckonCorrect base (reckon_call base)
+reckon_correct_base = reckon_correct base base_shape

@@ -4,4 +4,4 @@ pub mod ReckonCall
 -- 2. which refusal it gives, by rule 8.1
 pub mod Refusals
 -- 3. what an accepted reckoning answers and leaves, by the published words
-pub mod Demand2
+pub mod Correct

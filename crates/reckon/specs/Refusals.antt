@@ -1,4 +1,4 @@
--- WHICH REFUSAL A RECKONING GIVES (rule 8.1), in the published words: demand 1 (rule 11.1) for the whole reckoning.
+-- WHICH REFUSAL A RECKONING GIVES (rule 8.1), in the published words (rule 11.1).
 -- `reckon_refusals` (proofs/Theorems) proves it of `reckon_call` for every shape.
 -- Assumes nothing.
 use Rattle.std.specs.Prelude.{List, [], ℕ, false}
@@ -13,9 +13,9 @@ use Rattle.lent_map.specs.Faults.{lent_conditions}
 abbrev pub reckon_conditions : Shape → Record → List ℕ → Lent → List (Type 0 × ℕ)
 reckon_conditions K rec links B = lent_conditions K (rounds_buffers K links B) false rec links []
 
--- DEMAND 1 of a program whose reckoning call is `step`: refused with the first that holds, and then nothing changes
-abbrev pub ReckonDemand1 : Shape → (Record → List ℕ → Lent → ReckonLeft) → Type 0
-ReckonDemand1 K step =
+-- Of a program whose reckoning call is `step`: refused with the first that holds, and then nothing changes
+abbrev pub ReckonRefuses : Shape → (Record → List ℕ → Lent → ReckonLeft) → Type 0
+ReckonRefuses K step =
     (rec : Record) (links : List ℕ) (B : Lent)
     → Refuses
     (reckon_conditions K rec links B)

@@ -27,7 +27,7 @@ use Rattle.map.specs.Memory.{Shape, IsShape, places}
 use Rattle.map.specs.Room.{Lent, sizes_of, AreLong}
 use Rattle.layers.specs.Layers.{depth_from}
 use Rattle.search.specs.SearchCall.{search_left, Reached}
-use Rattle.search.specs.Demand2.{IsSearch}
+use Rattle.search.specs.Correct.{IsSearch}
 use Rattle.search.proofs.Theorems.{leaves_search}
 use Rattle.rounds.specs.Leaves.{search_after}
 

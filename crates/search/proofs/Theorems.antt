@@ -31,8 +31,8 @@ use Rattle.layers.proofs.Theorems.{depth_is, depth_low, layer_is_lem}
 use Rattle.map.specs.Memory.{Shape, places, IsShape, map_network, table_words}
 use Rattle.map.proofs.Theorems.{network_open_below}
 use Rattle.search.specs.SearchCall.{search_refusal, SearchLeft, search_left, search_given, search_call, last_layer, search_number, Reached, search_sizes}
-use Rattle.search.specs.Refusals.{search_buffers, search_conditions, SearchDemand1}
-use Rattle.search.specs.Demand2.{HoldsLayer, HoldsBefore, KeepsPast, IsSearch, SearchDemand2}
+use Rattle.search.specs.Refusals.{search_buffers, search_conditions, SearchRefuses}
+use Rattle.search.specs.Correct.{HoldsLayer, HoldsBefore, KeepsPast, IsSearch, SearchCorrect}
 use Rattle.outcome.specs.Numbers.{absent_code}
 use Rattle.search.proofs.Reaches.{part_is}
 use Rattle.search.proofs.Accepts.{granted}
@@ -48,7 +48,7 @@ room_is : (K : Shape) (links : List ℕ) (B : Tables)
 unfolding long_enough allb
 room_is K links B = simp (le-leb (table_words K) (table_words K) (le_refl (table_words K)), le-leb (places K) (places K) (le_refl (places K)), and_assoc, and-with-true)
 
-pub search_refusals : (K : Shape) → IsShape K → SearchDemand1 K (search_call K)
+pub search_refusals : (K : Shape) → IsShape K → SearchRefuses K (search_call K)
 unfolding search_call search_refusal search_given
 search_refusals K shape rec links B code =
     let G = map_network K rec links in
@@ -167,9 +167,9 @@ module _ (K : Shape) (G : Network) (net : IsNet G) (inside : (v : ℕ) → T (G.
       before : (parity : ℕ) (old : List ℕ) → eqb (d % 2) parity ≡ false → HoldsBefore K.words G s d (overwrite (encode_row K.words (bits parity)) old)
       before parity old q = row_before K.words G net inside s o d parity old (depth_low G net s o) q
 
-pub search_demand2 : (K : Shape) → IsShape K → SearchDemand2 K
+pub search_correct : (K : Shape) → IsShape K → SearchCorrect K
 unfolding search_call search_given
-search_demand2 K shape rec links B code z =
+search_correct K shape rec links B code z =
     let G = map_network K rec links in
     let g = granted K rec links (length B.hops) (length B.even) (length B.odd) code shape z in
     subst (λ (left : SearchLeft). IsSearch K G code B left) (ap (λ (k : ℕ). search_given k K rec links B code) (sym z))

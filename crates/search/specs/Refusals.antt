@@ -1,4 +1,4 @@
--- WHICH REFUSAL A SEARCH GIVES (rule 8.1), in the published words: demand 1 (rule 11.1) for the search.
+-- WHICH REFUSAL A SEARCH GIVES (rule 8.1), in the published words (rule 11.1).
 -- `search_refusals` (proofs/Theorems) proves it of `search_call` for every shape.
 -- Assumes nothing.
 use Rattle.std.specs.Prelude.{List, [], ◌∷◌, ◌++◌, ℕ, length, false}
@@ -21,8 +21,8 @@ abbrev pub search_conditions : Shape → Record → List ℕ → Tables → ℕ 
 search_conditions K rec links B code =
     lent_conditions K (search_buffers K links B) false rec links [] ++ (IsAbsent (map_network K rec links) code, absent_code) ∷ []
 
--- DEMAND 1 of a program whose search call is `step`: refused with the first that holds, and then nothing changes
-abbrev pub SearchDemand1 : Shape → (Record → List ℕ → Tables → ℕ → SearchLeft) → Type 0
-SearchDemand1 K step =
+-- Of a program whose search call is `step`: refused with the first that holds, and then nothing changes
+abbrev pub SearchRefuses : Shape → (Record → List ℕ → Tables → ℕ → SearchLeft) → Type 0
+SearchRefuses K step =
     (rec : Record) (links : List ℕ) (B : Tables) (code : ℕ)
     → Refuses (search_conditions K rec links B code) (search_number (step rec links B code).answer) (λ k. search_left (Refused k) B) (step rec links B code)

@@ -31,7 +31,7 @@ use Rattle.summary.specs.SummaryCall.{summary_refusal, Summing, Summed, Refused,
 use Rattle.summaries.specs.declared.Totals.{Totals}
 use Rattle.summaries.specs.Run.{files_limit, no_totals, summing_of, summing_text, file_line, with_file, totals_from, total_line, file_lines, run_text}
 use Rattle.summaries.specs.Calls.{file_call, total_call}
-use Rattle.summaries.specs.Written.{File, IsBegun, bytes_of, answer_of, written_from, run_written, RunDemand}
+use Rattle.summaries.specs.Written.{File, IsBegun, bytes_of, answer_of, written_from, run_written, RunWrites}
 
 -- ---- the report of a map is that of its network
 
@@ -117,6 +117,6 @@ written_is (suc n) t (f ∷ fs) out is =
     written_more t f (take n fs) out (take n (map bytes_of fs)) (is f (Memᴰ.head refl))
     (written_is n (with_file (answer_of f) t) fs out (λ g m. is g (Memᴰ.tail m)))
 
-pub run_written_lem : RunDemand
+pub run_written_lem : RunWrites
 unfolding run_written run_text
 run_written_lem fs out is = written_is files_limit no_totals fs out is

@@ -40,5 +40,5 @@ unfoldable pub run_written : List File → List ℕ → List ℕ
 run_written fs out = written_from no_totals (take files_limit fs) out
 
 -- the theorem's statement: for any files' bytes, any cuts of them and any buffers
-abbrev pub RunDemand : Type 0
-RunDemand = (fs : List File) (out : List ℕ) → ((f : File) → Memᴰ f fs → IsBegun f) → run_written fs out ≡ run_text (map bytes_of fs)
+abbrev pub RunWrites : Type 0
+RunWrites = (fs : List File) (out : List ℕ) → ((f : File) → Memᴰ f fs → IsBegun f) → run_written fs out ≡ run_text (map bytes_of fs)

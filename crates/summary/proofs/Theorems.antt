@@ -35,8 +35,8 @@ use Rattle.search.specs.SearchCall.{search_sizes}
 use Rattle.search.specs.Refusals.{search_buffers}
 use Rattle.search.proofs.Theorems.{over_keeps, leaves_search}
 use Rattle.summary.specs.SummaryCall.{summary_refusal, summary_given, summary_call, summing_number}
-use Rattle.summary.specs.Refusals.{AreTooFew, summary_conditions, SummaryDemand1}
-use Rattle.summary.specs.Demand2.{IsSummaryLeft, SummaryDemand2}
+use Rattle.summary.specs.Refusals.{AreTooFew, summary_conditions, SummaryRefuses}
+use Rattle.summary.specs.Correct.{IsSummaryLeft, SummaryCorrect}
 use Rattle.summary.proofs.Accepts.{IsGranted, granted}
 
 -- ---- WHICH REFUSAL
@@ -53,7 +53,7 @@ module _ (K : Shape) (links : List ℕ) (B : Tables) (counts : List ℕ) where
   unfolding long_enough allb
   room = simp (le-leb (table_words K) (table_words K) (le_refl (table_words K)), le-leb (places K) (places K) (le_refl (places K)), and_assoc, and-with-true)
 
-pub summary_refusals : (K : Shape) → IsShape K → SummaryDemand1 K (summary_call K)
+pub summary_refusals : (K : Shape) → IsShape K → SummaryRefuses K (summary_call K)
 unfolding summary_call summary_refusal summary_given
 summary_refusals K shape rec links B counts =
     let G = map_network K rec links in
@@ -96,9 +96,9 @@ last_of (x ∷ xs) some up = (last_in x xs, last_high x xs up)
 
 -- ---- WHAT AN ACCEPTED REPORT ANSWERS AND LEAVES
 
-pub summary_demand2 : (K : Shape) → IsShape K → SummaryDemand2 K
+pub summary_correct : (K : Shape) → IsShape K → SummaryCorrect K
 unfolding summary_call summary_given destinations chart
-summary_demand2 K shape rec links B counts z =
+summary_correct K shape rec links B counts z =
     subst (IsSummaryLeft K G B counts) (ap (λ (r : ℕ). summary_given r K rec links B counts) (sym z))
     (record {
       sum = distance_sum (chart G);

@@ -1,4 +1,4 @@
--- WHICH REFUSALS THE REPORT GIVES (rule 8.1), in the published words: demand 1 (rule 11.1) for it.
+-- WHICH REFUSALS THE REPORT GIVES (rule 8.1), in the published words (rule 11.1).
 -- `summary_refusals` (proofs/Theorems) proves it of `summary_call` for every shape.
 -- Assumes nothing.
 use Rattle.std.specs.Prelude.{false, List, [], ◌∷◌, ◌++◌, ℕ, ◌<◌, length}
@@ -24,9 +24,9 @@ summary_conditions K rec links B counts =
     ++ (AreTooFew (map_network K rec links), too_few)
     ∷ []
 
--- DEMAND 1 of a program whose call is `step`: refused with the first that holds, and then nothing changes
-abbrev pub SummaryDemand1 : Shape → (Record → List ℕ → Tables → List ℕ → SummaryLeft) → Type 0
-SummaryDemand1 K step =
+-- Of a program whose call is `step`: refused with the first that holds, and then nothing changes
+abbrev pub SummaryRefuses : Shape → (Record → List ℕ → Tables → List ℕ → SummaryLeft) → Type 0
+SummaryRefuses K step =
     (rec : Record) (links : List ℕ) (B : Tables) (counts : List ℕ)
     → Refuses
     (summary_conditions K rec links B counts)

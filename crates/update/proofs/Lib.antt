@@ -12,7 +12,7 @@ pub mod Tables
 pub mod Refusals
 -- The empty map.
 pub mod Empties
--- THE THEOREM: demand 2.
+-- THE THEOREM: what a call gives.
 pub mod Theorems
 -- The refusals, by the code's tests.
 pub mod Refuses

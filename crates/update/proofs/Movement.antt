@@ -15,7 +15,7 @@ use Rattle.map.proofs.Theorems.{base_shape, network_most}
 use Rattle.update.specs.UpdateCall.{update_refusal, network_after, update_given, update_call}
 use Rattle.update.specs.Movement.{MovesBy, MapMoves, CallMoves}
 use Rattle.update.proofs.Grants.{granted_net, granted_notice}
-use Rattle.update.proofs.Theorems.{update_demand2}
+use Rattle.update.proofs.Theorems.{update_correct}
 
 -- a network that a map can hold
 pub update_moves : (G : Network) → IsNet G → HasNoYard G → (u : Update) → suc (length (vertices G)) < unreached → first_of (update_faults G u) ≡ 0
@@ -48,7 +48,7 @@ call_moves K shape rec links B u within without were = go refusal refl
     go zero ok =
         let net = granted_net K shape rec links B.pairs (sizes_of links B) u ok in
         map_moves K shape rec links u net.sound net.connected without (granted_notice K shape rec links B.pairs (sizes_of links B) u ok) rec.chain _ were.chain
-        ((update_demand2 K shape).figures rec links B u ok within were).chain
+        ((update_correct K shape).figures rec links B u ok within were).chain
     go (suc k) ko = subst (λ (j : ℕ). MovesBy u rec.chain (update_given j K rec links B u).after.chain) (sym ko) (stays u rec.chain)
 
 -- ---- the rules' map

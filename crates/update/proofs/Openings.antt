@@ -23,7 +23,7 @@ use Rattle.map.specs.Room.{Lent, sizes_of}
 use Rattle.rounds.specs.Leaves.{rounds_leave}
 use Rattle.update.specs.UpdateCall.{update_refusal, network_after, updated_by, update_given, IsWithin}
 use Rattle.plain_list.specs.PlainList.{moved}
-use Rattle.update.specs.Demand2.{map_after}
+use Rattle.update.specs.Correct.{map_after}
 use Rattle.update.proofs.Memories.{IsHeld, Says, record_path, memory_path, write_map}
 use Rattle.update.proofs.Grants.{granted_lawful, held_after}
 use Rattle.graph.specs.Updates.{Update}

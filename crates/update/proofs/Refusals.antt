@@ -14,7 +14,7 @@ use Rattle.map.specs.Room.{rounds_buffers}
 use Rattle.map.proofs.Longs.{long_is}
 use Rattle.outcome.specs.Outcome.{refusal_of}
 use Rattle.update.specs.UpdateCall.{updated_by, update_refusal, update_given, update_call}
-use Rattle.update.specs.Refusals.{update_conditions, UpdateDemand1}
+use Rattle.update.specs.Refusals.{update_conditions, UpdateRefuses}
 use Rattle.lent_map.proofs.Refuses.{lent_tells}
 use Rattle.map.specs.Room.{sizes_of, long_enough}
 
@@ -23,7 +23,7 @@ accepted_number : (c : Change) → refusal_of (Accepted c) ≡ 0
 unfolding refusal_of
 accepted_number c = refl
 
-pub update_refusals : (K : Shape) → IsShape K → UpdateDemand1 K (update_call K)
+pub update_refusals : (K : Shape) → IsShape K → UpdateRefuses K (update_call K)
 unfolding update_call update_refusal update_given refusal_of
 update_refusals K shape rec links B o =
     let G = map_network K rec links in

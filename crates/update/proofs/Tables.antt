@@ -18,7 +18,7 @@ use Rattle.map.specs.declared.Record.{Record}
 use Rattle.map.specs.Room.{Lent, sizes_of, AreLong}
 use Rattle.map.proofs.Longs.{are_long_lem}
 use Rattle.search.specs.SearchCall.{search_left, Reached}
-use Rattle.search.specs.Demand2.{IsSearch}
+use Rattle.search.specs.Correct.{IsSearch}
 use Rattle.search.proofs.Theorems.{over_keeps}
 use Rattle.rounds.specs.Leaves.{rounds_leave, search_after}
 use Rattle.rounds.proofs.Reading.{skip_bound, closed_at, waiting_at, bound_ecc, last_search}

@@ -1,4 +1,4 @@
--- THE THEOREMS of this crate: demands 2 and 3 of the opening call, for every shape of a map. Assumes nothing.
+-- THE THEOREMS of this crate: what an update gives, by the published words, for every shape of a map. Assumes nothing.
 use mathlib.Core.Path.{◌≡◌, sym, ap, ◌∙◌, subst}
 use mathlib.Core.List.{List}
 use Prim.Native.Nat.{ℕ}
@@ -10,7 +10,7 @@ use Rattle.map.specs.Room.{Lent, sizes_of}
 use Rattle.update.specs.UpdateCall.{update_refusal, network_after, update_given, update_call, references_by, references_of, IsWithin}
 use Rattle.update.specs.Memory.{Memory}
 use Rattle.update.specs.Represents.{Represents, IsMarked}
-use Rattle.update.specs.Demand2.{map_after, UpdateDemand2}
+use Rattle.update.specs.Correct.{map_after, UpdateCorrect}
 use Rattle.update.proofs.Memories.{written_represents}
 use Rattle.update.proofs.Grants.{held_after}
 use Rattle.update.proofs.Openings.{opened_writes}
@@ -18,7 +18,7 @@ use Rattle.update.proofs.Marks.{opened_marked}
 use Rattle.map.proofs.Theorems.{base_shape}
 use Rattle.graph.specs.Updates.{Update}
 
--- ---- DEMAND 2 for updates, on any lent memory
+-- ---- WHAT AN UPDATE GIVES, on any lent memory
 
 module _ (K : Shape) (shape : IsShape K) (rec : Record) (links : List ℕ) (B : Lent) (o : Update) (ok : update_refusal K rec links B.pairs (sizes_of links B) o ≡ 0) (low : IsWithin K o) where
   -- on true stored figures the map afterwards is that of the network after it
@@ -37,10 +37,10 @@ module _ (K : Shape) (shape : IsShape K) (rec : Record) (links : List ℕ) (B : 
       subst (λ (k : ℕ). IsMarked K (network_after K rec links o) (references_by k K rec links B o) (update_given k K rec links B o)) (sym ok)
       (opened_marked K shape rec links B o ok low)
 
-pub update_demand2 : (K : Shape) → IsShape K → UpdateDemand2 K (update_call K)
-update_demand2 K shape = record { figures = opened_represents K shape; marks = accepted_marked K shape }
+pub update_correct : (K : Shape) → IsShape K → UpdateCorrect K (update_call K)
+update_correct K shape = record { figures = opened_represents K shape; marks = accepted_marked K shape }
 
 -- ---- the rules' map
 
-pub update_demand2_base : UpdateDemand2 base (update_call base)
-update_demand2_base = update_demand2 base base_shape
+pub update_correct_base : UpdateCorrect base (update_call base)
+update_correct_base = update_correct base base_shape

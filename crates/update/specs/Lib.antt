@@ -7,8 +7,8 @@ pub mod Memory
 pub mod Represents
 -- 4. which refusal a call gives
 pub mod Refusals
--- 5. demand 2 for updates
-pub mod Demand2
+-- 5. what an update gives
+pub mod Correct
 -- 6. what an accepted call leaves in every table
 pub mod Tables
 -- 7. small words for contracts, and the refusal of the lent map alone, which the stream's step cites

@@ -1,4 +1,4 @@
--- WHICH REFUSAL A CALL GIVES (rule 8.1), in the published words: demand 1 (rule 11.1) for every update.
+-- WHICH REFUSAL A CALL GIVES (rule 8.1), in the published words (rule 11.1).
 -- `update_refusals` (proofs/Refusals) proves it of `update_call` for every shape.
 -- Assumes nothing.
 use Rattle.std.specs.Prelude.{List, ◌++◌, ℕ, true}
@@ -17,9 +17,9 @@ use Rattle.lent_map.specs.Faults.{lent_conditions}
 abbrev pub update_conditions : Shape → Record → List ℕ → Lent → Update → List (Type 0 × ℕ)
 update_conditions K rec links B o = lent_conditions K (rounds_buffers K links B) true rec links B.pairs ++ own_conditions (map_network K rec links) o
 
--- DEMAND 1 of a program whose update call is `step`: refused with the first that holds, and then nothing changes
-abbrev pub UpdateDemand1 : Shape → (Record → List ℕ → Lent → Update → UpdateLeft) → Type 0
-UpdateDemand1 K step =
+-- Of a program whose update call is `step`: refused with the first that holds, and then nothing changes
+abbrev pub UpdateRefuses : Shape → (Record → List ℕ → Lent → Update → UpdateLeft) → Type 0
+UpdateRefuses K step =
     (rec : Record) (links : List ℕ) (B : Lent) (o : Update)
     → Refuses
     (update_conditions K rec links B o)

@@ -10,7 +10,7 @@ use Rattle.graph.specs.Updates.{Update, first_searches}
 use Rattle.map.specs.Memory.{Shape, places, table_words}
 use Rattle.map.specs.declared.Record.{Record}
 use Rattle.search.specs.SearchCall.{search_left, Reached}
-use Rattle.search.specs.Demand2.{KeepsPast, IsSearch}
+use Rattle.search.specs.Correct.{KeepsPast, IsSearch}
 use Rattle.map.specs.Room.{Lent, sizes_of}
 use Rattle.outcome.specs.declared.Change.{Change}
 use Rattle.outcome.specs.declared.Change.TheVariants.{Shrank}

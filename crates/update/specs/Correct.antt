@@ -1,4 +1,4 @@
--- DEMAND 2 (rule 11.2) FOR UPDATES, on any lent memory. On true stored figures the map afterwards is that of the network after it; on any stored
+-- WHAT AN UPDATE GIVES (rule 11.2), on any lent memory. On true stored figures the map afterwards is that of the network after it; on any stored
 -- figures that are not refused, marks, number of searches, bound and cover hold.
 -- Assumes nothing.
 use Rattle.std.specs.Prelude.{◌≡◌, List, ℕ}
@@ -16,7 +16,7 @@ use Rattle.update.specs.Represents.{Represents, IsMarked}
 abbrev pub map_after : UpdateLeft → Memory
 map_after l = record { links = l.links; pairs = l.lent.pairs; rec = l.after }
 
-pub record UpdateDemand2 (K : Shape) (step : Step) : Type 0 where
+pub record UpdateCorrect (K : Shape) (step : Step) : Type 0 where
   pub figures : (rec : Record) (links : List ℕ) (B : Lent) (o : Update) → update_refusal K rec links B.pairs (sizes_of links B) o ≡ 0 → IsWithin K o
       → AreTrue (map_network K rec links) (delivers (map_network K rec links)) rec.chain (table_bit K.words B.pairs)
       → Represents K (map_after (step rec links B o)) (network_after K rec links o)

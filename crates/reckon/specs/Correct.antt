@@ -1,6 +1,6 @@
--- DEMAND 2 (rule 11.2) FOR THE WHOLE RECKONING, by the published words (graph, Network.antt): what every accepted call answers and leaves, on any lent memory,
+-- WHAT THE WHOLE RECKONING GIVES (rule 11.2), by the published words (graph, Network.antt): what every accepted call answers and leaves, on any lent memory,
 -- whatever figures were stored; and that a refused one changes nothing.
--- `reckon_demand2` (proofs/Theorems) proves it of `reckon_call` for every shape; `ReckonDemand2 base` is that of the rules' map.
+-- `reckon_correct` (proofs/Theorems) proves it of `reckon_call` for every shape; `ReckonCorrect base` is that of the rules' map.
 -- Assumes nothing.
 use Rattle.std.specs.Prelude.{◌≡◌, ◌↔◌, not, List, [], ◌∷◌, ℕ, suc, ◌≤◌, ◌<◌, T, eqb, get_or}
 use Rattle.lists.specs.Lists.{range, countb, memb, last_or}
@@ -13,7 +13,7 @@ use Rattle.rows.specs.Rows.{table_bit}
 use Rattle.map.specs.Memory.{Shape, places, table_words, map_network}
 use Rattle.map.specs.declared.Record.{Record}
 use Rattle.search.specs.SearchCall.{search_left, Reached}
-use Rattle.search.specs.Demand2.{KeepsPast, IsSearch}
+use Rattle.search.specs.Correct.{KeepsPast, IsSearch}
 use Rattle.map.specs.Room.{Lent, sizes_of}
 use Rattle.reckon.specs.ReckonCall.{reckon_refusal, ReckonLeft, reckoning_number, searches_of, Searches, Refused}
 
@@ -48,7 +48,7 @@ pub record IsReckoning (K : Shape) (G : Network) (rec : Record) (B : Lent) (refe
   pub skips_kept : KeepsPast (places K) B.skips left.lent.skips
 
 -- of a program whose reckoning call is `step`
-pub record ReckonDemand2 (K : Shape) (step : Record → List ℕ → Lent → ReckonLeft) : Type 0 where
+pub record ReckonCorrect (K : Shape) (step : Record → List ℕ → Lent → ReckonLeft) : Type 0 where
   pub numbered : (rec : Record) (links : List ℕ) (B : Lent) → reckoning_number (step rec links B).reckoned.answer ≡ reckon_refusal K rec links (sizes_of links B)
   pub accepted : (rec : Record) (links : List ℕ) (B : Lent) → reckon_refusal K rec links (sizes_of links B) ≡ 0
       → IsReckoning K (map_network K rec links) rec B (reckon (chart (map_network K rec links))).references (step rec links B)

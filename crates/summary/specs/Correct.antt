@@ -1,5 +1,5 @@
--- DEMAND 2 (rule 11.2) for the report, by the published words (graph's Network and Summary): what every accepted report answers and leaves, on any lent
--- memory. `summary_demand2` (proofs/Theorems) proves it for every shape.
+-- WHAT THE REPORT GIVES (rule 11.2), by the published words (graph's Network and Summary): what every accepted report answers and leaves, on any lent
+-- memory. `summary_correct` (proofs/Theorems) proves it for every shape.
 -- Assumes nothing.
 use Rattle.std.specs.Prelude.{◌≡◌, List, ℕ, ◌-◌, ◌*◌, ◌≤◌, T, length, get_or}
 use Rattle.graph.specs.Network.{Network, delivers}
@@ -8,7 +8,7 @@ use Rattle.map.specs.Memory.{Shape, places, map_network}
 use Rattle.map.specs.Room.{Tables}
 use Rattle.map.specs.declared.Record.{Record}
 use Rattle.search.specs.SearchCall.{search_left, Reached}
-use Rattle.search.specs.Demand2.{KeepsPast, IsSearch}
+use Rattle.search.specs.Correct.{KeepsPast, IsSearch}
 use Rattle.summary.specs.SummaryCall.{summary_refusal, Summed, SummaryLeft, summary_call}
 
 -- A report of the network G: it is one by the published words, its counts stand in their places, and the tables are as the search from the highest
@@ -28,8 +28,8 @@ pub record IsSummaryLeft (K : Shape) (G : Network) (B : Tables) (counts : List �
   pub depth : ℕ
   pub searched : IsSearch K G last B (search_left (Reached ecc depth) left.lent)
 
-abbrev pub SummaryDemand2 : Shape → Type 0
-SummaryDemand2 K =
+abbrev pub SummaryCorrect : Shape → Type 0
+SummaryCorrect K =
     (rec : Record) (links : List ℕ) (B : Tables) (counts : List ℕ)
     → summary_refusal K rec links (length B.hops) (length B.even) (length B.odd) (length counts) ≡ 0
     → IsSummaryLeft K (map_network K rec links) B counts (summary_call K rec links B counts)

@@ -1,5 +1,5 @@
--- DEMAND 2 (rule 11.2) for the two calls, by the published words (graph's Network and Nearby): what every accepted call answers and leaves, on any lent
--- memory. `within_demand2` and `nearest_demand2` (proofs/Theorems) prove it for every shape.
+-- WHAT THE TWO CALLS GIVE (rule 11.2), by the published words (graph's Network and Nearby): what every accepted call answers and leaves, on any lent
+-- memory. `within_correct` and `nearest_correct` (proofs/Theorems) prove it for every shape.
 -- Assumes nothing.
 use Rattle.std.specs.Prelude.{◌≡◌, List, ℕ, take}
 use Rattle.graph.specs.Network.{Network}
@@ -8,7 +8,7 @@ use Rattle.map.specs.Memory.{Shape, map_network}
 use Rattle.map.specs.Room.{Tables}
 use Rattle.map.specs.declared.Record.{Record}
 use Rattle.search.specs.SearchCall.{search_left, Reached}
-use Rattle.search.specs.Demand2.{KeepsPast, IsSearch}
+use Rattle.search.specs.Correct.{KeepsPast, IsSearch}
 use Rattle.nearby.specs.WithinCall.{within_refusal, Listed, WithinLeft, within_call}
 use Rattle.nearby.specs.NearestCall.{nearest_refusal, At, NearestLeft, nearest_call}
 
@@ -26,8 +26,8 @@ pub record IsWithinLeft (K : Shape) (G : Network) (s k : ℕ) (B : Tables) (code
   pub kept : KeepsPast count codes left.codes
   pub searched : HoldsSearch K G s B left.lent
 
-abbrev pub WithinDemand2 : Shape → Type 0
-WithinDemand2 K =
+abbrev pub WithinCorrect : Shape → Type 0
+WithinCorrect K =
     (rec : Record) (links : List ℕ) (B : Tables) (codes : List ℕ) (code k : ℕ) → within_refusal K rec links B codes code ≡ 0
     → IsWithinLeft K (map_network K rec links) code k B codes (within_call K rec links B codes code k)
 
@@ -39,7 +39,7 @@ pub record IsNearestLeft (K : Shape) (G : Network) (s : ℕ) (listed : List ℕ)
   pub is_nearest : IsNearest G s listed depot distance
   pub searched : HoldsSearch K G s B left.lent
 
-abbrev pub NearestDemand2 : Shape → Type 0
-NearestDemand2 K =
+abbrev pub NearestCorrect : Shape → Type 0
+NearestCorrect K =
     (rec : Record) (links : List ℕ) (B : Tables) (code : ℕ) (listed : List ℕ) → nearest_refusal K rec links B code listed ≡ 0
     → IsNearestLeft K (map_network K rec links) code listed B (nearest_call K rec links B code listed)

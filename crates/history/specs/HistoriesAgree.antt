@@ -1,4 +1,4 @@
--- DEMAND 3 (rules 9.4 to 9.7, 11.3 and 14.6), one statement over lists of calls of every kind from the empty map. `Demand3 base P` is that of the rules'
+-- EVERY HISTORY (rules 9.4 to 9.7, 11.3 and 14.6), one statement over lists of calls of every kind from the empty map. `HistoriesAgree base P` is that of the rules'
 -- map, of a program whose calls are P: the code's contracts make it `rules_program base`, each by one equation for result and every byte lent. Those equations
 -- also fix what these four parts leave open: the order of the references, bound, hop and layer tables, refused calls, words past the named sizes.
 -- Assumes nothing.
@@ -16,7 +16,7 @@ use Rattle.update.specs.UpdateCall.{IsWithin}
 use Rattle.update.specs.Memory.{Memory, empty_memory}
 use Rattle.update.specs.Represents.{Represents}
 use Rattle.batch_update.specs.BatchCall.{batch_refusal, LentMemory}
-use Rattle.batch_update.specs.Demand2.{AreCodes}
+use Rattle.batch_update.specs.Correct.{AreCodes}
 use Rattle.batch_update.specs.Marks.{UpdateOn, last_opening, IsLeftBy}
 use Rattle.history.specs.PlainRun.{Ask, update, batch, PlainRun, plain_run}
 use Rattle.history.specs.History.{Call, Program, lent_to, call_left, run_memory, run_answers, feeds_of}
@@ -52,7 +52,7 @@ LeavesMarks K P cs M c =
     let N = lent_to M c.lending in
     IsLeftBy K P.update (plain_after_all K (cs ++ (c ∷ []))).network N (call_left P M c).memory (last_update K N c.lending.left c.ask)
 
-pub record Demand3 (K : Shape) (P : Program) : Type 0 where
+pub record HistoriesAgree (K : Shape) (P : Program) : Type 0 where
   -- (A) each answer is the plain list's, whose longest chain is the published diameter
   pub answers : (cs : List Call) → AreCalls K cs → run_answers P (empty_memory K) cs ≡ (plain_after_all K cs).answers
   pub published : (cs : List Call) → AreCalls K cs → IsDiameter (plain_after_all K cs).network (delivers (plain_after_all K cs).network) (diameter (plain_after_all K cs).network)

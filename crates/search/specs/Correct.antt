@@ -1,5 +1,5 @@
--- DEMAND 2 (rule 11.2) for the search, by the published words (Network.antt): what every accepted search answers and leaves, on any lent memory.
--- `search_demand2` (proofs/Theorems) proves it for every shape; `SearchDemand2 base` is that of the rules' map.
+-- WHAT A SEARCH GIVES (rule 11.2), by the published words (Network.antt): what every accepted search answers and leaves, on any lent memory.
+-- `search_correct` (proofs/Theorems) proves it for every shape; `SearchCorrect base` is that of the rules' map.
 -- Assumes nothing.
 use Rattle.std.specs.Prelude.{◌≡◌, ◌↔◌, false, List, ℕ, zero, suc, ◌%◌, ◌<◌, T, length, get_or, drop}
 use Rattle.graph.specs.Network.{Network, IsDist, IsEcc, delivers}
@@ -42,6 +42,6 @@ pub record IsSearch (K : Shape) (G : Network) (s : ℕ) (B : Tables) (left : Sea
   pub even_kept : KeepsPast K.words B.even left.lent.even
   pub odd_kept : KeepsPast K.words B.odd left.lent.odd
 
-abbrev pub SearchDemand2 : Shape → Type 0
-SearchDemand2 K = (rec : Record) (links : List ℕ) (B : Tables) (code : ℕ) → search_refusal K rec links (length B.hops) (length B.even) (length B.odd) code ≡ 0
+abbrev pub SearchCorrect : Shape → Type 0
+SearchCorrect K = (rec : Record) (links : List ℕ) (B : Tables) (code : ℕ) → search_refusal K rec links (length B.hops) (length B.even) (length B.odd) code ≡ 0
     → IsSearch K (map_network K rec links) code B (search_call K rec links B code)

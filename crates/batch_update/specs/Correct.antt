@@ -1,4 +1,4 @@
--- DEMAND 2 (rule 11.2) FOR BATCHES, on any lent memory: on true stored figures the map afterwards, the record's yard set included, is that of the network
+-- WHAT A BATCH GIVES (rule 11.2), on any lent memory: on true stored figures the map afterwards, the record's yard set included, is that of the network
 -- after the batch.
 -- Assumes nothing.
 use Rattle.std.specs.Prelude.{◌≡◌, ℕ, length}
@@ -25,8 +25,8 @@ AreCodes K input = (e : Entry) → Memᴰ e (entries_of input) → IsWithin K (o
 abbrev pub map_in : LentMemory → Memory
 map_in M = record { links = M.links; pairs = M.lent.pairs; rec = M.rec }
 
-abbrev pub BatchDemand2 : Shape → BatchStep → Type 0
-BatchDemand2 K step =
+abbrev pub BatchCorrect : Shape → BatchStep → Type 0
+BatchCorrect K step =
     (rec : Record) (links : List ℕ) (B : Lent) (places input : List ℕ) → batch_refusal K rec links B.pairs (sizes_of links B) (length places) input ≡ 0 → AreCodes K input
     → AreTrue (map_network K rec links) (delivers (map_network K rec links)) rec.chain (table_bit K.words B.pairs)
     → Represents K (map_in (step rec links B places input).memory) (batch_on K rec links input).network
