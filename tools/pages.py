@@ -2,11 +2,13 @@
 """pages.py: are the pages true of the tree? Every file that README and docs/ name must be there, every edit must stand in the crate that the page
 names, and of each row of the audit's tables every name must stand in one of the files beside it. Every rule of docs/RULES.md must have a row in
 docs/AUDIT.md, without an empty cell, and every rule that a page, a specification, the code or a test cites must be there. Where a page says how much
-has to be believed, and where a specs/Lib.antt says that nobody has to believe a file, tools/believed.py must find the same. Run it in the repository's
-root; it exits with 1 if something is stale. The gate runs it."""
+has to be believed, and where a specs/Lib.antt says that nobody has to believe a file, tools/believed.py must find the same. And the repository stands
+alone: no file, no name of one and no newer commit's message leans on papers that do not lie in it. Run it in the repository's root; it exits with 1 if
+something is stale. The gate runs it."""
 import glob
 import os
 import re
+import subprocess
 import sys
 
 import believed
@@ -14,6 +16,16 @@ import believed
 # folders below crates/ that a page names without `crates/`
 CRATE_PATH = re.compile(r'^([a-z_]+)/(specs|proofs|src|must-fail|stdout)(/.*)?$')
 NAME = re.compile(r'^[A-Za-z][\w\'→-]*$')
+# What would lean on papers that do not lie here: a demand, an issue or a paper by its number, a request by its letter, those who asked. docs/RULES.md is
+# cited instead, by rule; literature by author and title. Ordinary words stay free ("on demand", "a paper" in a title). No pattern matches itself.
+OUTSIDE = re.compile('|'.join([
+    r'(?i:demands?[ _-]?\d)', r'[Dd]emands?(?=[A-Z_]\w)', r'(?<=[a-z_])[Dd]emands?\b', r'\b[D]emands?\b',
+    r'(?i:\b(?:documents?|papers?)[ _-]?\d)', r'(?i:\bsource[ _-]document)', r'(?i:\b(?:the|this|that|both|our|these) papers?\b)',
+    r'(?i:\brequests?[ _-]?(?:\([a-n]\)|[b-n]\b|a\)))', r'(?i:\bchange[ _-]request)',
+    r'(?i:\bcustom[e]rs?\b)', r'(?i:\bissues?[ _-]?(?:#|no\.? ?)?\d)', r'\bREADING[S]\b', r'\b\d\d-(?:demand|scope|change|rattle)', r'\.\./shared[/]',
+]))
+# Messages are held to it from this time on: landed ones stay as they are. A clone that is not deep has only newer ones.
+SINCE = '2026-11-27T15:21:00+00:00'
 crates = {os.path.basename(os.path.dirname(p)) for p in glob.glob('crates/*/src')}
 edits = {os.path.splitext(os.path.basename(p))[0]: p for p in glob.glob('crates/*/must-fail/*.edit')}
 
@@ -119,9 +131,33 @@ def misbelieved():
                     comment += line
 
 
+def files_here():
+    """every file but what was made"""
+    for folder, folders, names in os.walk('.'):
+        folders[:] = sorted(set(folders) - {'.git', 'target', 'out', '__pycache__'})
+        yield from (os.path.normpath(os.path.join(folder, name)) for name in sorted(names))
+
+
+def leaning():
+    """where a file, its name or a commit's message cites what does not lie in the repository"""
+    texts = []
+    for path in files_here():
+        with open(path, encoding='utf8', errors='replace') as file:
+            texts.append((path, f'{path}\n{file.read()}'))  # line 0 is the name
+    if os.path.exists('.git'):
+        log = subprocess.run(['git', 'log', f'--since={SINCE}', '--format=%x00%h%n%B'], capture_output=True, check=True).stdout
+        for message in log.decode('utf8', 'replace').split('\0')[1:]:
+            texts.append(('message of commit ' + message.split('\n')[0], message))
+    for path, text in texts:
+        for number, line in enumerate(text.split('\n')):
+            match = OUTSIDE.search(line)
+            if match:
+                yield path, number, f'cites what does not lie here: `{match.group()}`'
+
+
 def main():
     found = 0
-    for path, number, what in list(unheld()) + list(misbelieved()):
+    for path, number, what in list(unheld()) + list(misbelieved()) + list(leaning()):
         found += 1
         print(f'{path}:{number}: {what}')
     # these two pages set today's names beside those that are gone

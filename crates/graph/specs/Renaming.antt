@@ -1,4 +1,4 @@
--- THE SAME NETWORK UNDER OTHER NAMES (request h: rows for codes). Nothing looks at names: not distances, not figures, not rounds, not an update.
+-- THE SAME NETWORK UNDER OTHER NAMES (rows for codes). Nothing looks at names: not distances, not figures, not rounds, not an update.
 -- Proved: `relabelled_distances`, `relabelled_figures`, `relabelled_reckoning`, `relabelled_true` (proofs/Relabelled), `relabelled_update`,
 -- `relabelled_closing` (proofs/RelabelledUpdates), `lawful_by` (proofs/RowUpdates), `renamed_is`, `renamed_only` (proofs/Naming), `move_keeps` (proofs/Moving).
 -- Assumes nothing.
