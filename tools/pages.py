@@ -59,6 +59,10 @@ def text_of(paths):
 def stale(page):
     with open(page, encoding='utf8') as file:
         lines = file.read().split('\n')
+    # what a page quotes of a specification stands there word by word
+    for quoted in re.finditer(r'^```antt\n(.*?)^```$', '\n'.join(lines), re.M | re.S):
+        if quoted.group(1) not in text_of(glob.glob('crates/*/specs/*.antt')):
+            yield '\n'.join(lines)[:quoted.start()].count('\n') + 1, 'no specification has this'
     for number, line in enumerate(lines, 1):
         tokens = re.findall(r'`([^`]+)`', line)
         for token in tokens:
