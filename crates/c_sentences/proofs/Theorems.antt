@@ -9,7 +9,7 @@ use native.Mathlib.Omega.{arith}
 use lib.Dec.{ltb}
 use lib.ListN.{length, take}
 use borrow.Author.Tests.{lt-ltb, le-ltb, ltb-true, ltb-false}
-use Rattle.std.specs.Prelude.{Ok, Err, Option, Some, None, is_none}
+use Rattle.std.specs.Prelude.{Ok, Err, Option, Some, None, is_none, ◌≢◌}
 use Rattle.lists.specs.Lists.{first_of, overwrite}
 use Rattle.lists.specs.Conditions.{Refuses}
 use Rattle.lists.proofs.Conditions.{Decides, Tells, tells_first}
@@ -21,7 +21,7 @@ use Rattle.outcome.specs.declared.Refusal.TheVariants.{Garbled}
 use Rattle.outcome.specs.declared.Outcome.{Outcome}
 use Rattle.outcome.specs.declared.Outcome.TheVariants.{Accepted, Refused}
 use Rattle.sentences.specs.Sentence.{sentence_of, byte_limit, half_limit, EventWithin, IsWithin}
-use Rattle.sentences.specs.Calls.{buffer_limit, write_call}
+use Rattle.sentences.specs.Calls.{buffer_limit}
 use Rattle.sentences.specs.Reading.{read_sentence}
 use Rattle.sentences.specs.declared.Event.{Event}
 use Rattle.sentences.specs.declared.Event.TheVariants.{Depot, Yard, Link, Closing}
@@ -29,25 +29,25 @@ use Rattle.sentences.specs.declared.Said.{Said}
 use Rattle.sentences.proofs.Theorems.{reads_written, written_reads, refused_garbled, IsRead}
 use Rattle.c_sentences.specs.declared.Numbers.{Numbers}
 use Rattle.c_sentences.specs.Numbers.{event_numbers, outcome_numbers, numbers_of, said_of, AreWithin}
-use Rattle.c_sentences.specs.Outs.{numbers_call, write_out, read_out}
-use Rattle.c_sentences.specs.Refusals.{NamesNothing, write_conditions, read_conditions}
-use Rattle.c_sentences.proofs.Inverses.{IsSaidOf, said_case, said_numbers, numbers_said}
+use Rattle.c_sentences.specs.Outs.{write_out, read_out}
+use Rattle.c_sentences.specs.Refusals.{write_conditions, read_conditions}
+use Rattle.c_sentences.proofs.Inverses.{said_numbers, numbers_said, nothing_said}
 
 -- ---- what the writer leaves
 
 module _ (n : Numbers) (line : List ℕ) (l : ℕ) where
   left_short : length line < buffer_limit → write_out n line l ≡ (short_buffer, l, line)
-  unfolding write_out numbers_call
+  unfolding write_out
   left_short h = rw (lt-ltb (length line) buffer_limit h)
 
   module _ (room : buffer_limit ≤ length line) where
     left_garbled : said_of n ≡ None → write_out n line l ≡ (garbled_line, l, line)
-    unfolding write_out numbers_call
+    unfolding write_out
     left_garbled e = rw (le-ltb (length line) buffer_limit room, e)
 
     left_written : {s : Said} → said_of n ≡ Some s → write_out n line l ≡ (0, length (sentence_of s), overwrite (sentence_of s) line)
-    unfolding write_out numbers_call write_call
-    left_written e = rw (e, le-ltb (length line) buffer_limit room)
+    unfolding write_out
+    left_written e = rw (le-ltb (length line) buffer_limit room, e)
 
 -- ---- the writer's refusals
 
@@ -55,14 +55,14 @@ module _ (n : Numbers) (line : List ℕ) (l : ℕ) where
   abbrev IsRefused : ℕ × ℕ × List ℕ → Type 0
   IsRefused left = Refuses (write_conditions n line) left.0 (λ (k : ℕ). (k, l, line)) left
 
-  decides_nothing : (o : Option Said) → IsSaidOf n o → Decides (is_none o) (NamesNothing n)
-  decides_nothing None h = record { holds = λ e. h; fails = λ e. absurd (clash refl e) }
-  decides_nothing (Some s) h = record { holds = λ e. absurd (clash e refl); fails = λ e. h.0 }
+  decides_nothing : (o : Option Said) → said_of n ≡ o → Decides (is_none o) ((s : Said) → numbers_of s ≢ n)
+  decides_nothing None h = record { holds = λ e. nothing_said n h; fails = λ e. absurd (clash refl e) }
+  decides_nothing (Some s) h = record { holds = λ e. absurd (clash e refl); fails = λ e none. none s (numbers_said n h) }
 
   abbrev tests : Bool → Option Said → List (Bool × ℕ)
   tests b o = (b, short_buffer) ∷ (is_none o, garbled_line) ∷ []
 
-  tells : (b : Bool) → ltb (length line) buffer_limit ≡ b → (o : Option Said) → IsSaidOf n o → Tells (tests b o) (write_conditions n line)
+  tells : (b : Bool) → ltb (length line) buffer_limit ≡ b → (o : Option Said) → said_of n ≡ o → Tells (tests b o) (write_conditions n line)
   tells b e o h = (
     refl,
     record { holds = λ t. ltb-true (length line) buffer_limit (e ∙ t); fails = λ f x. clash (lt-ltb (length line) buffer_limit x) (e ∙ f) },
@@ -71,18 +71,18 @@ module _ (n : Numbers) (line : List ℕ) (l : ℕ) where
 
   pub write_refusals : IsRefused (write_out n line l)
   unfolding first_of
-  write_refusals = go (ltb (length line) buffer_limit) refl (said_of n) refl (said_case n)
+  write_refusals = go (ltb (length line) buffer_limit) refl (said_of n) refl
     where
-      go : (b : Bool) → ltb (length line) buffer_limit ≡ b → (o : Option Said) → said_of n ≡ o → IsSaidOf n o → IsRefused (write_out n line l)
-      go true e o q h =
+      go : (b : Bool) → ltb (length line) buffer_limit ≡ b → (o : Option Said) → said_of n ≡ o → IsRefused (write_out n line l)
+      go true e o q =
           subst IsRefused (sym (left_short n line l (ltb-true (length line) buffer_limit e)))
-          (record { first = tells_first (tests true o) (write_conditions n line) (tells true e o h); unchanged = λ k p. ap (λ (m : ℕ). (m, l, line)) p })
-      go false e None q h =
+          (record { first = tells_first (tests true o) (write_conditions n line) (tells true e o q); unchanged = λ k p. ap (λ (m : ℕ). (m, l, line)) p })
+      go false e None q =
           subst IsRefused (sym (left_garbled n line l (ltb-false (length line) buffer_limit e) q))
-          (record { first = tells_first (tests false None) (write_conditions n line) (tells false e None h); unchanged = λ k p. ap (λ (m : ℕ). (m, l, line)) p })
-      go false e (Some s) q h =
+          (record { first = tells_first (tests false None) (write_conditions n line) (tells false e None q); unchanged = λ k p. ap (λ (m : ℕ). (m, l, line)) p })
+      go false e (Some s) q =
           subst IsRefused (sym (left_written n line l (ltb-false (length line) buffer_limit e) q))
-          (record { first = tells_first (tests false (Some s)) (write_conditions n line) (tells false e (Some s) h); unchanged = λ k p. absurd (omega (arith, p)) })
+          (record { first = tells_first (tests false (Some s)) (write_conditions n line) (tells false e (Some s) q); unchanged = λ k p. absurd (omega (arith, p)) })
 
 -- ---- the reader's
 
@@ -129,12 +129,6 @@ module _ (text : List ℕ) (before : Numbers) where
             unchanged = λ k p. absurd (omega (arith, p));
           })
 
--- ---- the numbers that no sentence has
-
--- they are the numbers of nothing that can be said
-pub nothing_said : (n : Numbers) → NamesNothing n → (s : Said) → numbers_of s ≡ n → ⊥
-nothing_said n h s e = (subst (IsSaidOf n) (sym (ap said_of e) ∙ said_numbers s) (said_case n)).0 h
-
 -- ---- there and back
 
 event_within : (e : Event) → (event_numbers e).1 ≤ half_limit → (event_numbers e).2 ≤ half_limit → EventWithin e
@@ -152,12 +146,12 @@ refusal_within (Refused n) h = h
 said_within : (s : Said) → AreWithin (numbers_of s) → IsWithin s
 unfolding numbers_of
 said_within s w = record {
-  event = event_within s.event w.code w.other;
+  event = event_within s.event w.codes.0 w.codes.1;
   refusal = refusal_within s.outcome w.refusal;
-  depots = w.depots;
-  chain = w.chain;
+  depots = w.figures.0;
+  chain = w.figures.1;
   pairs = w.pairs;
-  searches = w.searches;
+  searches = w.figures.2;
 }
 
 -- what the writer takes, the reader gives back as numbers

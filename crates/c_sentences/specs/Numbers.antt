@@ -1,5 +1,6 @@
--- WHAT IS SAID AS NUMBERS: letter and refusal apart, since one number cannot tell them. Assumes nothing.
-use Rattle.std.specs.Prelude.{ℕ, ◌≤◌, ◌==◌, if◌then◌else◌, Option, Some, None, option_map, option_and_then}
+-- WHAT IS SAID AS NUMBERS: letter and refusal apart, since one number cannot tell them.
+-- Assumes nothing.
+use Rattle.std.specs.Prelude.{ℕ, ◌≤◌, not, ◌==◌, if◌then◌else◌, Option, Some, None, option_map, option_and_then}
 use Rattle.outcome.specs.Outcome.{letter_of}
 use Rattle.outcome.specs.declared.Change.TheVariants.{Grew, Kept, Shrank}
 use Rattle.outcome.specs.declared.Outcome.{Outcome}
@@ -10,23 +11,9 @@ use Rattle.sentences.specs.declared.Event.TheVariants.{Depot, Yard, Link, Closin
 use Rattle.sentences.specs.declared.Said.{Said}
 use Rattle.c_sentences.specs.declared.Numbers.{Numbers}
 
--- the numbers that a call takes or lends
-abbrev pub numbers_by : ℕ → ℕ → ℕ → ℕ → ℕ → ℕ → ℕ → ℕ → ℕ → Numbers
-numbers_by kind code other letter refusal depots chain pairs searches = record {
-  kind = kind;
-  code = code;
-  other = other;
-  letter = letter;
-  refusal = refusal;
-  depots = depots;
-  chain = chain;
-  pairs = pairs;
-  searches = searches;
-}
-
 -- ---- the numbers of what is said
 
--- the kind, as frames number it, the code, of a link the first, and the second code of a link, else 0
+-- the kind, as frames number it, the code, of a link the first, and a link's second code, else 0
 unfoldable pub event_numbers : Event → ℕ × ℕ × ℕ
 event_numbers (Depot n) = (1, n, 0)
 event_numbers (Link m n) = (2, m, n)
@@ -39,43 +26,50 @@ outcome_numbers (Accepted c) = (letter_of (Accepted c), 0)
 outcome_numbers (Refused n) = (0, n)
 
 unfoldable pub numbers_of : Said → Numbers
-numbers_of s =
-    let e = event_numbers s.event in
-    let o = outcome_numbers s.outcome in
-    numbers_by e.0 e.1 e.2 o.0 o.1 s.depots s.chain s.pairs s.searches
+numbers_of s = record {
+  event = event_numbers s.event;
+  outcome = outcome_numbers s.outcome;
+  figures = (s.depots, s.chain, s.pairs, s.searches);
+}
 
 -- ---- what is said by some numbers
 
--- an event with one code
-abbrev pub single_of : ℕ → ℕ → Option Event
-single_of kind code = if kind == 1 then Some (Depot code) else if kind == 3 then Some (Closing code) else if kind == 4 then Some (Yard code) else None
-
 -- a kind with one code has 0 for the other
-unfoldable pub event_of : ℕ → ℕ → ℕ → Option Event
-event_of kind code other = if kind == 2 then Some (Link code other) else if other == 0 then single_of kind code else None
-
-abbrev pub accepted_of : ℕ → Option Outcome
-accepted_of letter = if letter == 71 then Some (Accepted Grew) else if letter == 75 then Some (Accepted Kept) else if letter == 83 then Some (Accepted Shrank) else None
+unfoldable pub event_of : ℕ × ℕ × ℕ → Option Event
+event_of (kind, code, other) =
+    if kind == 2 then Some (Link code other)
+    else if not (other == 0) then None
+    else if kind == 1 then Some (Depot code)
+    else if kind == 3 then Some (Closing code)
+    else if kind == 4 then Some (Yard code)
+    else None
 
 -- no letter is a refusal, and a letter has 0 beside it
-unfoldable pub outcome_of : ℕ → ℕ → Option Outcome
-outcome_of letter refusal = if letter == 0 then Some (Refused refusal) else if refusal == 0 then accepted_of letter else None
+unfoldable pub outcome_of : ℕ × ℕ → Option Outcome
+outcome_of (letter, refusal) =
+    if letter == 0 then Some (Refused refusal)
+    else if not (refusal == 0) then None
+    else if letter == 71 then Some (Accepted Grew)
+    else if letter == 75 then Some (Accepted Kept)
+    else if letter == 83 then Some (Accepted Shrank)
+    else None
+
+-- what is said by an event, an outcome and figures
+abbrev pub said_by : ℕ × ℕ × ℕ × ℕ → Event → Outcome → Said
+said_by f e o =
+    record { event = e; outcome = o; depots = f.0; chain = f.1; pairs = f.2; searches = f.3 }
 
 -- the numbers are those of something said, or of nothing
 unfoldable pub said_of : Numbers → Option Said
 said_of n =
-    option_and_then
-    (λ e. option_map (λ o. record { event = e; outcome = o; depots = n.depots; chain = n.chain; pairs = n.pairs; searches = n.searches }) (outcome_of n.letter n.refusal))
-    (event_of n.kind n.code n.other)
+    option_and_then (λ e. option_map (said_by n.figures e) (outcome_of n.outcome))
+    (event_of n.event)
 
 -- ---- widths
 
 -- codes have 16 bits, a refusal 8, the pair count 32, and the other figures 16
 pub record AreWithin (n : Numbers) : Type 0 where
-  pub code : n.code ≤ half_limit
-  pub other : n.other ≤ half_limit
-  pub refusal : n.refusal ≤ byte_limit
-  pub depots : n.depots ≤ half_limit
-  pub chain : n.chain ≤ half_limit
-  pub pairs : n.pairs ≤ word_limit
-  pub searches : n.searches ≤ half_limit
+  pub codes : (n.event.1 ≤ half_limit) × (n.event.2 ≤ half_limit)
+  pub refusal : n.outcome.1 ≤ byte_limit
+  pub figures : (n.figures.0 ≤ half_limit) × (n.figures.1 ≤ half_limit) × (n.figures.3 ≤ half_limit)
+  pub pairs : n.figures.2 ≤ word_limit

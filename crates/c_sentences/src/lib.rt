@@ -4,33 +4,29 @@
 #![tactic(auto)]
 
 ghost use Rattle.std.specs.Prelude.{◌≡◌};
-ghost use Rattle.c_sentences.specs.Numbers.{numbers_by, event_of, outcome_of, said_of, event_numbers, outcome_numbers, numbers_of};
-ghost use Rattle.c_sentences.specs.Outs.{numbers_call, write_out, read_out};
+ghost use Rattle.c_sentences.specs.declared.Numbers.{Numbers};
+ghost use Rattle.c_sentences.specs.Numbers.{event_of, outcome_of, said_of, event_numbers, outcome_numbers, numbers_of};
+ghost use Rattle.c_sentences.specs.Outs.{write_out, read_out};
 
 use outcome::{Change, Outcome, Refusal};
 use sentences::{Event, Said};
 
-// What is said as the nine numbers that a call takes or lends.
+// What is said as the nine numbers that a call takes or lends: kind, code and other code; letter and refusal; depots, chain, pairs and searches.
 #[derive(Clone, Copy)]
 struct Numbers {
-    kind: u8,
-    code: u16,
-    other: u16,
-    letter: u8,
-    refusal: u8,
-    depots: u16,
-    chain: u16,
-    pairs: u32,
-    searches: u16,
+    event: (u8, u16, u16),
+    outcome: (u8, u8),
+    figures: (u16, u16, u32, u16),
 }
 
 // ---- numbers into what is said
 
 // The event of a kind, as frames number it, and its codes: a kind of one code has 0 for the other.
 #[tactic(auto, unfolding(crate::specs::Numbers::event_of))]
-fn event_of(kind: u8, code: u16, other: u16) -> Option<Event>
-    ensures { result ≡ event_of kind code other }
+fn event_of(numbers: (u8, u16, u16)) -> Option<Event>
+    ensures { result ≡ event_of numbers }
 {
+    let (kind, code, other) = numbers;
     match (kind, other) {
         (1, 0) => Some(Event::Depot(code)),
         (2, _) => Some(Event::Link(code, other)),
@@ -42,9 +38,10 @@ fn event_of(kind: u8, code: u16, other: u16) -> Option<Event>
 
 // The outcome of a letter, 0 for a refused call, and a refusal, 0 beside a letter.
 #[tactic(auto, unfolding(crate::specs::Numbers::outcome_of))]
-fn outcome_of(letter: u8, refusal: u8) -> Option<Outcome>
-    ensures { result ≡ outcome_of letter refusal }
+fn outcome_of(numbers: (u8, u8)) -> Option<Outcome>
+    ensures { result ≡ outcome_of numbers }
 {
+    let (letter, refusal) = numbers;
     match (letter, refusal) {
         (0, _) => Some(Outcome::Refused(refusal)),
         (b'G', 0) => Some(Outcome::Accepted(Change::Grew)),
@@ -59,15 +56,16 @@ fn outcome_of(letter: u8, refusal: u8) -> Option<Outcome>
 fn said_of(numbers: Numbers) -> Option<Said>
     ensures { result ≡ said_of numbers }
 {
-    let event = event_of(numbers.kind, numbers.code, numbers.other)?;
-    let outcome = outcome_of(numbers.letter, numbers.refusal)?;
+    let event = event_of(numbers.event)?;
+    let outcome = outcome_of(numbers.outcome)?;
+    let (depots, chain, pairs, searches) = numbers.figures;
     Some(Said {
         event,
         outcome,
-        depots: numbers.depots,
-        chain: numbers.chain,
-        pairs: numbers.pairs,
-        searches: numbers.searches,
+        depots,
+        chain,
+        pairs,
+        searches,
     })
 }
 
@@ -102,39 +100,17 @@ fn outcome_numbers(outcome: Outcome) -> (u8, u8)
 fn numbers_of(said: Said) -> Numbers
     ensures { result ≡ numbers_of said }
 {
-    let (kind, code, other) = event_numbers(said.event);
-    let (letter, refusal) = outcome_numbers(said.outcome);
     Numbers {
-        kind,
-        code,
-        other,
-        letter,
-        refusal,
-        depots: said.depots,
-        chain: said.chain,
-        pairs: said.pairs,
-        searches: said.searches,
+        event: event_numbers(said.event),
+        outcome: outcome_numbers(said.outcome),
+        figures: (said.depots, said.chain, said.pairs, said.searches),
     }
 }
 
 // ---- the calls
 
-// Writes the sentence of some numbers at the start of the line, and answers its length.
-#[tactic(auto, unfolding(crate::specs::Outs::numbers_call))]
-fn write_numbers(line: &mut [u8], numbers: Numbers) -> Result<usize, Refusal>
-    ensures { (result, line.new) ≡ numbers_call numbers line.old }
-{
-    if line.len() < sentences::BUFFER_LIMIT {
-        return Err(Refusal::Short);
-    }
-    let Some(said) = said_of(numbers) else {
-        return Err(Refusal::Garbled);
-    };
-    sentences::write_sentence(line, said)
-}
-
 // Writes the sentence of an outcome into line (160 bytes). 0, and the sentence's length; or 1 (short), 9 (garbled: no outcome has these numbers).
-#[tactic(auto, unfolding(crate::specs::Outs::write_out))]
+#[tactic(auto, unfolding(crate::specs::Outs::write_out, sentences::specs::Calls::write_call))]
 #[unsafe(no_mangle)]
 pub extern "C" fn zorpedi_sentence(
     line: &mut [u8],
@@ -149,21 +125,25 @@ pub extern "C" fn zorpedi_sentence(
     pairs: u32,
     searches: u16,
 ) -> u8
-    ensures { let numbers = numbers_by kind code other letter refusal depots chain pairs searches in
-        (result, length.new, line.new) ≡ write_out numbers line.old length.old }
+    ensures { let n : Numbers = record {
+      event = (kind, code, other);
+      outcome = (letter, refusal);
+      figures = (depots, chain, pairs, searches);
+    } in
+        (result, length.new, line.new) ≡ write_out n line.old length.old }
 {
+    if line.len() < sentences::BUFFER_LIMIT {
+        return Refusal::Short.number();
+    }
     let numbers = Numbers {
-        kind,
-        code,
-        other,
-        letter,
-        refusal,
-        depots,
-        chain,
-        pairs,
-        searches,
+        event: (kind, code, other),
+        outcome: (letter, refusal),
+        figures: (depots, chain, pairs, searches),
     };
-    match write_numbers(line, numbers) {
+    let Some(said) = said_of(numbers) else {
+        return Refusal::Garbled.number();
+    };
+    match sentences::write_sentence(line, said) {
         Ok(end) => {
             *length = end;
             0
@@ -187,22 +167,24 @@ pub extern "C" fn zorpedi_read_sentence(
     searches: &mut u16,
     text: &[u8],
 ) -> u8
-    ensures { let before = numbers_by kind.old code.old other.old letter.old refusal.old depots.old chain.old pairs.old searches.old in
-        let after = numbers_by kind.new code.new other.new letter.new refusal.new depots.new chain.new pairs.new searches.new in
+    ensures { let before : Numbers = record {
+      event = (kind.old, code.old, other.old);
+      outcome = (letter.old, refusal.old);
+      figures = (depots.old, chain.old, pairs.old, searches.old);
+    } in
+        let after : Numbers = record {
+          event = (kind.new, code.new, other.new);
+          outcome = (letter.new, refusal.new);
+          figures = (depots.new, chain.new, pairs.new, searches.new);
+        } in
         (result, after) ≡ read_out text.now before }
 {
     match sentences::read_sentence(text) {
         Ok(said) => {
             let numbers = numbers_of(said);
-            *kind = numbers.kind;
-            *code = numbers.code;
-            *other = numbers.other;
-            *letter = numbers.letter;
-            *refusal = numbers.refusal;
-            *depots = numbers.depots;
-            *chain = numbers.chain;
-            *pairs = numbers.pairs;
-            *searches = numbers.searches;
+            (*kind, *code, *other) = numbers.event;
+            (*letter, *refusal) = numbers.outcome;
+            (*depots, *chain, *pairs, *searches) = numbers.figures;
             0
         }
         Err(refusal) => refusal.number(),
