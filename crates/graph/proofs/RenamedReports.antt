@@ -57,14 +57,14 @@ module _ (d : ℕ → ℕ → ℕ) (xs : List ℕ) (symmetric : (u v : ℕ) → 
   halves =
       let X = sum_of (λ u. sum_of (rising u) xs) xs in
       let a : sum_of (λ u. sum_of (d u) xs) xs ≡ sum_of (λ u. sum_of (λ v. rising u v + rising v u) xs) xs =
-          sum_alike xs (λ u. sum_of (d u) xs) (λ u. sum_of (λ v. rising u v + rising v u) xs) (λ u mu. sum_alike xs (d u) (λ v. rising u v + rising v u) (λ v mv. both u v mu mv)) in
+      sum_alike xs (λ u. sum_of (d u) xs) (λ u. sum_of (λ v. rising u v + rising v u) xs) (λ u mu. sum_alike xs (d u) (λ v. rising u v + rising v u) (λ v mv. both u v mu mv)) in
       let b : sum_of (λ u. sum_of (λ v. rising u v + rising v u) xs) xs ≡ sum_of (λ u. sum_of (rising u) xs + sum_of (λ v. rising v u) xs) xs =
-          sum_ext (λ u. sum_of (λ v. rising u v + rising v u) xs) (λ u. sum_of (rising u) xs + sum_of (λ v. rising v u) xs) xs (λ u. sum_add (rising u) (λ v. rising v u) xs) in
+      sum_ext (λ u. sum_of (λ v. rising u v + rising v u) xs) (λ u. sum_of (rising u) xs + sum_of (λ v. rising v u) xs) xs (λ u. sum_add (rising u) (λ v. rising v u) xs) in
       let c : sum_of (λ u. sum_of (rising u) xs + sum_of (λ v. rising v u) xs) xs ≡ X + sum_of (λ u. sum_of (λ v. rising v u) xs) xs =
-          sum_add (λ u. sum_of (rising u) xs) (λ u. sum_of (λ v. rising v u) xs) xs in
+      sum_add (λ u. sum_of (rising u) xs) (λ u. sum_of (λ v. rising v u) xs) xs in
       let e : sum_of (λ u. sum_of (λ v. rising v u) xs) xs ≡ X = sum-swap (λ u v. rising v u) xs xs in
       let h : sum_of (λ u. sum_of (d u) (filterb (λ v. ltb u v) xs)) xs ≡ X =
-          sum_ext (λ u. sum_of (d u) (filterb (λ v. ltb u v) xs)) (λ u. sum_of (rising u) xs) xs row in
+      sum_ext (λ u. sum_of (d u) (filterb (λ v. ltb u v) xs)) (λ u. sum_of (rising u) xs) xs row in
       omega (arith, a, b, c, e, h)
 
 -- ---- over charts
@@ -81,10 +81,10 @@ module _ (C D : Chart) (metric : IsMetric C) (metric' : IsMetric D) (f : ℕ →
   sums_renamed : distance_sum D ≡ distance_sum C
   sums_renamed =
       let t : sum_of (λ u. sum_of (D.distance u) (destinations D)) (destinations D) ≡ sum_of (λ u. sum_of (C.distance u) (destinations C)) (destinations C) =
-          ap (λ (ds : List ℕ). sum_of (λ u. sum_of (D.distance u) ds) ds) (destinations_renamed C D f re)
-          ∙ map_sum f (λ u. sum_of (C.distance u) (destinations C)) (λ u. sum_of (D.distance u) (mapl f (destinations C))) (destinations C)
-          (λ u mu. map_sum f (C.distance u) (D.distance (f u)) (destinations C)
-          (λ v mv. re.distance u v (in_destinations C D f re u mu) (in_destinations C D f re v mv))) in
+      ap (λ (ds : List ℕ). sum_of (λ u. sum_of (D.distance u) ds) ds) (destinations_renamed C D f re)
+      ∙ map_sum f (λ u. sum_of (C.distance u) (destinations C)) (λ u. sum_of (D.distance u) (mapl f (destinations C))) (destinations C)
+      (λ u mu. map_sum f (C.distance u) (D.distance (f u)) (destinations C)
+      (λ v mv. re.distance u v (in_destinations C D f re u mu) (in_destinations C D f re v mv))) in
       omega (arith, t, whole C metric, whole D metric')
 
   counts_renamed : (e : ℕ) → ecc_count D e ≡ ecc_count C e
@@ -109,9 +109,9 @@ module _ (G H : Network) (net : IsNet G) (sound' : IsSound H) (f : ℕ → ℕ) 
   same_pairs : pair_number (chart H) ≡ pair_number (chart G)
   same_pairs =
       let l : length (destinations (chart H)) ≡ length (destinations (chart G)) =
-          ap length (destinations_renamed (chart G) (chart H) f cr) ∙ length_mapl f (destinations (chart G)) in
+      ap length (destinations_renamed (chart G) (chart H) f cr) ∙ length_mapl f (destinations (chart G)) in
       let a : length (destinations (chart H)) * (length (destinations (chart H)) - 1) ≡ length (destinations (chart G)) * (length (destinations (chart G)) - 1) =
-          ap (λ (n : ℕ). n * (n - 1)) l in
+      ap (λ (n : ℕ). n * (n - 1)) l in
       omega (arith, numbers G net, numbers H net', a)
 
   -- THE SAME REPORT

@@ -1,5 +1,6 @@
--- THE CLOSING OF A DEPOT, over the network itself: no word, no table. Proved in proofs/Closed: `closed_net`, `cut_iff`,
--- `closing_correct`, `closing_reckoned`, `closing_skipped`, `closing_sound`.
+-- THE CLOSING OF A DEPOT, over the network itself: no word, no table. Proved in proofs/Closed:
+-- `closed_net`, `cut_iff`, `closing_correct`, `closing_reckoned`, `closing_skipped`,
+-- `closing_sound`.
 -- Assumes nothing.
 use Rattle.std.specs.Prelude.{Bool, cond, not, ◌&&◌, List, [], ◌∷◌, ℕ, T, eqb, ltb}
 use Rattle.lists.specs.Lists.{filterb}

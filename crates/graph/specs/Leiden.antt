@@ -1,8 +1,11 @@
--- THE LEIDEN METHOD, a second engine for the chain alone (F. W. Takes's BOUNDINGDIAMETERS), over a chart. Each depot has a lower and an upper bound of its
--- eccentricity; each search narrows the bounds of all; the chain lies between the greatest lower and the greatest upper bound of the destinations.
--- Not taken over from the published method: depots with one neighbour set aside beforehand; twice an eccentricity as an upper bound of the chain,
--- which no destination's upper bound exceeds anyhow (`high_twice`, proofs/Bounding); that a depot leaves only with a lower bound of at least half the
--- chain's upper one; and that depots which have left are no more updated.
+-- THE LEIDEN METHOD, a second engine for the chain alone, over a chart: BoundingDiameters of F. W.
+-- Takes, "Algorithms for Analyzing and Mining Real-World Graphs". Each depot has a lower and an
+-- upper bound of its eccentricity; each search narrows the bounds of all; the chain lies between
+-- the greatest lower and the greatest upper bound of the destinations. Not taken over from the
+-- published method: depots with one neighbour set aside beforehand; twice an eccentricity as an
+-- upper bound of the chain, which no destination's upper bound exceeds anyhow (`high_twice`,
+-- proofs/Bounding); that a depot leaves only with a lower bound of at least half the chain's upper
+-- one; and that depots which have left are no more updated.
 -- Assumes nothing.
 use Rattle.std.specs.Prelude.{◌≡◌, Bool, true, false, cond, not, ◌&&◌, ◌||◌, ℕ, zero, suc, ◌+◌, ◌-◌, ◌≤◌, max, min, T, eqb, ltb, leb, length}
 use mathlib.Core.List.{List, [], ◌∷◌, ◌++◌, Memᴰ}

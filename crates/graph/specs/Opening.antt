@@ -1,4 +1,7 @@
--- THE OPENING OF A DEPOT (rules 4.1 to 4.6), one that delivers or a yard, over the network itself: no word, no table.
+-- THE OPENING OF A DEPOT (rules 4.1 to 4.6), one that delivers or a yard, over the network itself:
+-- no word, no table. The method is Algorithm 2 of Y. Fujiwara, M. Onizuka, M. Kitsuregawa,
+-- "Real-Time Diameter Monitoring for Time-Evolving Graphs"; its Lemma 5 leaves out the premise that
+-- `grows_by` asks about (rule 4.5).
 -- Assumes nothing.
 use Rattle.std.specs.Prelude.{Bool, true, false, cond, not, ◌&&◌, ◌||◌, List, [], ◌∷◌, ℕ, ◌+◌, min, eqb, ltb, length}
 use Rattle.lists.specs.Lists.{anyb, allb, max_of, memb, insert_by}

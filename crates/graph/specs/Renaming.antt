@@ -1,6 +1,8 @@
--- THE SAME NETWORK UNDER OTHER NAMES (rows for codes). Nothing looks at names: not distances, not figures, not rounds, not an update.
--- Proved: `relabelled_distances`, `relabelled_figures`, `relabelled_reckoning`, `relabelled_true` (proofs/Relabelled), `relabelled_update`,
--- `relabelled_closing` (proofs/RelabelledUpdates), `lawful_by` (proofs/RowUpdates), `renamed_is`, `renamed_only` (proofs/Naming), `move_keeps` (proofs/Moving).
+-- THE SAME NETWORK UNDER OTHER NAMES (rows for codes). Nothing looks at names: not distances, not
+-- figures, not rounds, not an update. Proved: `relabelled_distances`, `relabelled_figures`,
+-- `relabelled_reckoning`, `relabelled_true` (proofs/Relabelled), `relabelled_update`,
+-- `relabelled_closing` (proofs/RelabelledUpdates), `lawful_by` (proofs/RowUpdates), `renamed_is`,
+-- `renamed_only` (proofs/Naming), `move_keeps` (proofs/Moving).
 -- Assumes nothing.
 use Rattle.std.specs.Prelude.{◌≡◌, ◌⊎◌, ◌↔◌, cond, ◌&&◌, ◌||◌, List, [], ◌∷◌, ℕ, max, min, T, eqb}
 use Rattle.lists.specs.Lists.{anyb, mapl, memb}

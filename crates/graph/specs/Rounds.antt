@@ -1,4 +1,6 @@
--- THE REFERENCE ROUNDS and the whole reckoning (rules 5.1 to 5.5), over a chart.
+-- THE REFERENCE ROUNDS and the whole reckoning (rules 5.1 to 5.5), over a chart. The method is
+-- Algorithm 1 of Y. Fujiwara, M. Onizuka, M. Kitsuregawa, "Real-Time Diameter Monitoring for
+-- Time-Evolving Graphs".
 -- Assumes nothing.
 use Rattle.std.specs.Prelude.{Bool, true, false, cond, not, ◌&&◌, ◌||◌, List, [], ◌∷◌, ◌++◌, ℕ, zero, suc, ◌+◌, max, min, eqb, ltb, length}
 use Rattle.std.proofs.Math.Option.{Option, none, some}
