@@ -2,9 +2,9 @@
 """pages.py: are the pages true of the tree? Every file that README and docs/ name must be there, every edit must stand in the crate that the page
 names, and of each row of the audit's tables every name must stand in one of the files beside it. Every rule of docs/RULES.md must have a row in
 docs/AUDIT.md, without an empty cell, and every rule that a page, a specification, the code or a test cites must be there. Where a page says how much
-has to be believed, and where a specs/Lib.antt says that nobody has to believe a file, tools/believed.py must find the same. And the repository stands
-alone: no file, no name of one and no newer commit's message leans on papers that do not lie in it. Run it in the repository's root; it exits with 1 if
-something is stale. The gate runs it."""
+has to be believed, and where a specs/Lib.antt says that nobody has to believe a file, tools/believed.py must find the same; docs/ARCHITECTURE.md says what
+crates rest on as crates.txt does. And the repository stands alone: no file, no name of one and no newer commit's message leans on papers that do not lie
+in it. Run it in the repository's root; it exits with 1 if something is stale. The gate runs it."""
 import glob
 import os
 import re
@@ -135,6 +135,26 @@ def misbelieved():
                     comment += line
 
 
+def misplaced():
+    """where docs/ARCHITECTURE.md says otherwise than crates.txt what a crate rests on, all that lies below it"""
+    below, said = {}, {}
+    with open('crates.txt', encoding='utf8') as file:
+        for line in file:
+            name, colon, rest = line.partition(':')
+            if colon and not line.startswith('#'):
+                below[name.split()[0]] = set(rest.split())
+    with open('docs/ARCHITECTURE.md', encoding='utf8') as file:
+        for number, line in enumerate(file, 1):
+            match = re.match(r'\| `(\w+)` \|.*\| ([\w ]*)\|$', line)
+            if match and match.group(1) in below:
+                near = set(match.group(2).split())
+                said[match.group(1)] = number, near.union(*(below.get(name, set()) for name in near))
+    for name in below:
+        number, rests = said.get(name, (0, None))
+        if rests != below[name]:
+            yield 'docs/ARCHITECTURE.md', number, f'crates.txt has otherwise what {name} rests on'
+
+
 def files_here():
     """every file but what was made"""
     for folder, folders, names in os.walk('.'):
@@ -161,7 +181,7 @@ def leaning():
 
 def main():
     found = 0
-    for path, number, what in list(unheld()) + list(misbelieved()) + list(leaning()):
+    for path, number, what in list(unheld()) + list(misbelieved()) + list(misplaced()) + list(leaning()):
         found += 1
         print(f'{path}:{number}: {what}')
     # these two pages set today's names beside those that are gone
