@@ -169,8 +169,10 @@ def leaning():
         with open(path, encoding='utf8', errors='replace') as file:
             texts.append((path, f'{path}\n{file.read()}'))  # line 0 is the name
     if os.path.exists('.git'):
-        log = subprocess.run(['git', 'log', f'--since={SINCE}', '--format=%x00%h%n%B'], capture_output=True, check=True).stdout
-        for message in log.decode('utf8', 'replace').split('\0')[1:]:
+        log = subprocess.run(['git', '-c', 'safe.directory=*', 'log', f'--since={SINCE}', '--format=%x00%h%n%B'], capture_output=True, check=False)
+        if log.returncode:
+            print(f'tools/pages.py: no message was looked at: {log.stderr.decode().strip()}', file=sys.stderr)
+        for message in log.stdout.decode('utf8', 'replace').split('\0')[1:]:
             texts.append(('message of commit ' + message.split('\n')[0], message))
     for path, text in texts:
         for number, line in enumerate(text.split('\n')):
