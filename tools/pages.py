@@ -1,5 +1,5 @@
 #!/usr/bin/env python3
-"""pages.py: are the pages true of the tree? Every file that README and docs/ name must be there, every edit must stand in the crate that the page
+"""pages.py: are the pages true of the tree? Every file that README and docs/ name or link must be there, every edit must stand in the crate that the page
 names, and of each row of the audit's tables every name must stand in one of the files beside it. Every rule of docs/RULES.md must have a row in
 docs/AUDIT.md, without an empty cell, and every rule that a page, a specification, the code or a test cites must be there. Where a page says how much
 has to be believed, and where a specs/Lib.antt says that nobody has to believe a file, tools/believed.py must find the same; docs/ARCHITECTURE.md says what
@@ -64,6 +64,9 @@ def stale(page):
         if quoted.group(1) not in text_of(glob.glob('crates/*/specs/*.antt')):
             yield '\n'.join(lines)[:quoted.start()].count('\n') + 1, 'no specification has this'
     for number, line in enumerate(lines, 1):
+        for link in re.findall(r'\]\(([^)#\s]+)', line):
+            if '://' not in link and not os.path.exists(os.path.join(os.path.dirname(page), link)):
+                yield number, f'no file {link}'
         tokens = re.findall(r'`([^`]+)`', line)
         for token in tokens:
             if files_of(token) == [] and not token.startswith(('target', 'crates/CRATE', 'crates/NAME')):
