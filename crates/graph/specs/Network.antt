@@ -1,7 +1,9 @@
 -- THE PUBLISHED DEFINITIONS (rules 2.1 to 2.3): a network of depots, walks, distance, eccentricity,
 -- diameter (the trade's longest chain) and farthest pairs; and transit yards, where chains run
--- through and none begins or ends. Without yards they are those of F. W. Takes, "Algorithms for
--- Analyzing and Mining Real-World Graphs".
+-- through and none begins or ends. Without yards distance, eccentricity and diameter are those of
+-- F. W. Takes, "Algorithms for Analyzing and Mining Real-World Graphs", farthest pairs those of Y.
+-- Fujiwara, M. Onizuka, M. Kitsuregawa, "Real-Time Diameter Monitoring for Time-Evolving Graphs",
+-- each once.
 -- Assumes nothing.
 use Rattle.std.specs.Prelude.{◌≡◌, ◌⊎◌, ◌↔◌, Bool, true, false, not, ◌&&◌, List, ℕ, zero, suc, ◌≤◌, ◌<◌, T}
 use Rattle.lists.specs.Lists.{memb, distinct}
