@@ -104,7 +104,7 @@ def unheld():
         if rule not in held:
             yield 'docs/RULES.md', 0, f'no row of the audit for rule {rule}'
     patterns = 'README.md', 'docs/*.md', 'crates/**/*.antt', 'crates/**/*.rt', 'include/*', 'examples/*', 'bench/*', 'rust/src/**/*.rs', 'rust/tests/**/*.rs'
-    for path in sorted(p for pattern in patterns for p in glob.glob(pattern, recursive=True) if os.path.isfile(p)):
+    for path in sorted(p for pattern in patterns for p in glob.glob(pattern, recursive=True) if os.path.isfile(p) and '/out/' not in p):
         with open(path, encoding='utf8', errors='replace') as file:
             for number, line in enumerate(file, 1):
                 for cited in re.findall(r'\brules? ((?:\d+\.\d+(?:, | and | to |, and )?)+)', line):
