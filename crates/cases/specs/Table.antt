@@ -15,7 +15,8 @@ use Rattle.update.specs.Memory.{empty_memory}
 use Rattle.update.specs.UpdateCall.{Step}
 use Rattle.report.specs.Line.{buffer_limit}
 use Rattle.transcript.specs.Transcript.{transcript}
-use Rattle.stream.specs.Pieces.{Standing, Turn, stands_after, used_by, written_by, last_written, HasBegun}
+use Rattle.transcript.specs.Manner.{as_reports}
+use Rattle.stream.specs.Pieces.{Standing, Turn, stands_told, used_told, written_told, last_told, HasBegun}
 use Rattle.transcript.specs.Texts.{bytes_in}
 use Rattle.cases.specs.Results.{repeated, IsMapOf, Result, result_of, LentUpdate, answers_of, updates_of, AllLong}
 
@@ -101,5 +102,5 @@ pub record Cases (emptying : Record → List ℕ → List ℕ → EmptyLeft) (re
   pub stream : (cs : List LentUpdate) → updates_of cs ≡ seven_lines → AllLong cs → answers_of opening (empty_memory base) cs ≡ seven_answers
   -- the stream's bytes: the whole output of the whole input; and on lent memory, however the input is cut into pieces
   pub text : transcript (bytes_in seven_input) ≡ bytes_in seven_output
-  pub pieces : (s : Standing) → HasBegun s → (ts : List Turn) (out : List ℕ) → buffer_limit ≤ length out → used_by s ts ≡ bytes_in seven_input
-      → written_by s ts ++ last_written (stands_after s ts) out ≡ bytes_in seven_output
+  pub pieces : (s : Standing) → HasBegun s → (ts : List Turn) (out : List ℕ) → buffer_limit ≤ length out → used_told as_reports s ts ≡ bytes_in seven_input
+      → written_told as_reports s ts ++ last_told as_reports (stands_told as_reports s ts) out ≡ bytes_in seven_output

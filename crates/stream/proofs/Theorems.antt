@@ -19,8 +19,8 @@ use Rattle.update.proofs.Empties.{empty_held}
 use Rattle.transcript.specs.Transcript.{lines_limit, transcript, network_in}
 use Rattle.transcript.specs.Manner.{Manner, as_reports, told_in}
 use Rattle.transcript.proofs.Manners.{told_transcript}
-use Rattle.stream.specs.Feeding.{StreamBegun, stream_begun, begin_call, IsReady, Feeding, stopped, feed_bytes}
-use Rattle.stream.specs.Pieces.{Standing, Turn, turn_told, stands_told, used_told, written_told, last_told, turn_left, stands_after, used_by, written_by, last_written, HasBegun}
+use Rattle.stream.specs.Feeding.{Begun, begin_call, IsReady, Feeding, stopped, feed_bytes}
+use Rattle.stream.specs.Pieces.{Standing, Turn, turn_told, stands_told, used_told, written_told, last_told, HasBegun}
 use Rattle.stream.specs.declared.Progress.{Progress}
 use Rattle.line_buffer.proofs.Stops.{stopped_lines}
 use Rattle.stream.proofs.Lines.{open_none}
@@ -42,16 +42,13 @@ whole_network input = refl
 begun_on : (s : Standing) → HasBegun s → StandsOn at_start s
 unfolding at_start begin_call
 begun_on s is = record {
-  lines = ap (λ (p : Progress). p.lines) is.progress_is;
+  lines = ap (λ (z : Begun). z.0.lines) is.begun;
   is_held = empty_held base base_shape;
-  is_said =
-      subst (λ (p : Progress). Says base empty_network p.rec s.links s.lent.pairs) (sym is.progress_is)
-      (subst (λ (l : List ℕ). Says base empty_network (begin_call is.links is.pairs).progress.rec l s.lent.pairs) (sym is.links_are)
-      (subst (λ (l : List ℕ). Says base empty_network (begin_call is.links is.pairs).progress.rec (begin_call is.links is.pairs).links l) (sym is.pairs_are) (begun_says is.links is.pairs)));
+  is_said = subst (λ (z : Begun). Says base empty_network z.0.rec z.1 z.2) (sym is.begun) (begun_says is.links is.pairs);
   long = is.long;
   holds = record {
-    text = ap (λ (p : Progress). take p.held s.line) is.progress_is;
-    count = ap (λ (p : Progress). p.held) is.progress_is;
+    text = ap (λ (z : Begun). take z.0.held s.line) is.begun;
+    count = ap (λ (z : Begun). z.0.held) is.begun;
     room = is.room;
   };
 }
@@ -135,28 +132,28 @@ module _ (M : Manner) where
 -- ---- TOLD AS REPORTS
 
 pub pieces_alike : (s : Standing) → HasBegun s → (ts : List Turn) (out : List ℕ) → buffer_limit ≤ length out
-    → written_by s ts ++ last_written (stands_after s ts) out ≡ transcript (used_by s ts)
-pieces_alike s is ts out room = pieces_told as_reports s is ts out room ∙ told_transcript (used_by s ts)
+    → written_told as_reports s ts ++ last_told as_reports (stands_told as_reports s ts) out ≡ transcript (used_told as_reports s ts)
+pieces_alike s is ts out room = pieces_told as_reports s is ts out room ∙ told_transcript (used_told as_reports s ts)
 
-pub pieces_network : (s : Standing) → HasBegun s → (ts : List Turn) → IsMapOf (network_in (used_by s ts)) (stands_after s ts)
+pub pieces_network : (s : Standing) → HasBegun s → (ts : List Turn) → IsMapOf (network_in (used_told as_reports s ts)) (stands_told as_reports s ts)
 pieces_network s is ts = network_told as_reports s is ts
 
-pub rest_unread : (s : Standing) → HasBegun s → (ts : List Turn) (rest : List ℕ) → lines_limit ≤ (stands_after s ts).progress.lines
-    → written_by s ts ≡ transcript (used_by s ts ++ rest)
-rest_unread s is ts rest l = rest_untold as_reports s is ts rest l ∙ told_transcript (used_by s ts ++ rest)
+pub rest_unread : (s : Standing) → HasBegun s → (ts : List Turn) (rest : List ℕ) → lines_limit ≤ (stands_told as_reports s ts).progress.lines
+    → written_told as_reports s ts ≡ transcript (used_told as_reports s ts ++ rest)
+rest_unread s is ts rest l = rest_untold as_reports s is ts rest l ∙ told_transcript (used_told as_reports s ts ++ rest)
 
-pub rest_unfollowed : (s : Standing) → HasBegun s → (ts : List Turn) (rest : List ℕ) → lines_limit ≤ (stands_after s ts).progress.lines
-    → network_in (used_by s ts) ≡ network_in (used_by s ts ++ rest)
+pub rest_unfollowed : (s : Standing) → HasBegun s → (ts : List Turn) (rest : List ℕ) → lines_limit ≤ (stands_told as_reports s ts).progress.lines
+    → network_in (used_told as_reports s ts) ≡ network_in (used_told as_reports s ts ++ rest)
 rest_unfollowed s is ts rest l = unfollowed_told as_reports s is ts rest l
 
 pub turn_uses : (s : Standing) (out : List ℕ) (b : ℕ) (bs : List ℕ) → s.progress.lines < lines_limit → buffer_limit ≤ length out
-    → 0 < (turn_left s (record { piece = b ∷ bs; out = out })).fed.used
+    → 0 < (turn_told as_reports s (record { piece = b ∷ bs; out = out })).fed.used
 turn_uses s out b bs l room = told_uses as_reports s out b bs l room
 
-pub turn_all : (s : Standing) (t : Turn) → (stopped as_reports (turn_left s t) ≡ true) ⊎ ((turn_left s t).fed.used ≡ length t.piece)
+pub turn_all : (s : Standing) (t : Turn) → (stopped as_reports (turn_told as_reports s t) ≡ true) ⊎ ((turn_told as_reports s t).fed.used ≡ length t.piece)
 turn_all s t = told_all as_reports s t
 
--- ---- a stream that has stream_begun is ready, on buffers that have their named sizes
+-- ---- a stream that has begun is ready, on buffers that have their named sizes
 
 long_by : (links : List ℕ) (B : Lent) → table_words base ≤ length links → table_words base ≤ length B.pairs → places base ≤ length B.searched.hops → places base ≤ length B.bounds
     → places base ≤ length B.skips → base.words ≤ length B.searched.even → base.words ≤ length B.searched.odd → long_enough base (sizes_of links B) ≡ true
@@ -172,7 +169,7 @@ long_by links B l p h b s e o =
       le-leb base.words (length B.searched.odd) o,
     )
 
-pub begun_ready : (links₀ pairs₀ : List ℕ) {p : Progress} {links : List ℕ} {B : Lent} {line : List ℕ} → stream_begun p links B.pairs ≡ begin_call links₀ pairs₀
+pub begun_ready : (links₀ pairs₀ : List ℕ) {p : Progress} {links : List ℕ} {B : Lent} {line : List ℕ} → ◌≡◌ {A = Begun} (p, links, B.pairs) (begin_call links₀ pairs₀)
     → table_words base ≤ length links → table_words base ≤ length B.pairs → places base ≤ length B.searched.hops → places base ≤ length B.bounds
     → places base ≤ length B.skips → base.words ≤ length B.searched.even → base.words ≤ length B.searched.odd → line_limit ≤ length line
     → IsReady p links B line
@@ -180,8 +177,8 @@ unfolding begin_call
 begun_ready links₀ pairs₀ {p} {links} {B} {line} e l q h b s x y room = record {
   free =
       says_free empty_network (empty_held base base_shape) p.rec links B
-      (subst (λ (z : StreamBegun). Says base empty_network z.progress.rec z.links z.pairs) (sym e) (begun_says links₀ pairs₀))
+      (subst (λ (z : Begun). Says base empty_network z.0.rec z.1 z.2) (sym e) (begun_says links₀ pairs₀))
       (long_by links B l q h b s x y);
   room = room;
-  held = subst (λ (z : StreamBegun). z.progress.held ≤ line_limit) (sym e) zero-le;
+  held = subst (λ (z : Begun). z.0.held ≤ line_limit) (sym e) zero-le;
 }

@@ -19,20 +19,17 @@ use Rattle.stream.specs.declared.Fed.{Fed}
 -- ---- the begin
 
 -- what the beginning leaves: progress, link table and pair table
-pub record StreamBegun : Type 0 where
-  pub progress : Progress
-  pub links : List ℕ
-  pub pairs : List ℕ
-
-abbrev pub stream_begun : Progress → List ℕ → List ℕ → StreamBegun
-stream_begun p links pairs = record { progress = p; links = links; pairs = pairs }
+abbrev pub Begun : Type 0
+Begun = Progress × List ℕ × List ℕ
 
 abbrev pub progress_of : Record → ℕ → ℕ → Progress
 progress_of rec lines held = record { rec = rec; lines = lines; held = held }
 
 -- the map is emptied, and no line is read
-unfoldable pub begin_call : List ℕ → List ℕ → StreamBegun
-begin_call links pairs = stream_begun (progress_of (empty_record base.words) 0 0) (overwrite (zeros (table_words base)) links) (overwrite (zeros (table_words base)) pairs)
+unfoldable pub begin_call : List ℕ → List ℕ → Begun
+begin_call links pairs =
+    let emptied = overwrite (zeros (table_words base)) in
+    (progress_of (empty_record base.words) 0 0, emptied links, emptied pairs)
 
 -- what the step asks of lent memory and leaves: nothing refuses the map; the line buffer has room for a line, of which at most that is held
 pub record IsReady (p : Progress) (links : List ℕ) (B : Lent) (line : List ℕ) : Type 0 where

@@ -5,8 +5,8 @@ use Rattle.std.specs.Prelude.{◌≡◌, true, List, [], ◌∷◌, ◌++◌, �
 use Rattle.map.specs.Memory.{base}
 use Rattle.map.specs.Room.{Lent, sizes_of, long_enough}
 use Rattle.notice.specs.Lines.{line_limit}
-use Rattle.transcript.specs.Manner.{Manner, as_reports}
-use Rattle.stream.specs.Feeding.{begin_call, Feeding, feed_call, finish_call}
+use Rattle.transcript.specs.Manner.{Manner}
+use Rattle.stream.specs.Feeding.{Begun, begin_call, Feeding, feed_call, finish_call}
 use Rattle.stream.specs.declared.Progress.{Progress}
 
 -- where a stream stands between two calls: progress, link table, the other tables of its map, line buffer
@@ -46,31 +46,12 @@ written_told M s (t ∷ ts) = let F = turn_told M s t in take F.fed.written F.ou
 unfoldable pub last_told : Manner → Standing → List ℕ → List ℕ
 last_told M s out = let F = finish_call M s.progress s.links s.lent s.line out in take F.fed.written F.out
 
--- ---- told as reports
-
-abbrev pub turn_left : Standing → Turn → Feeding
-turn_left s t = turn_told as_reports s t
-
-abbrev pub stands_after : Standing → List Turn → Standing
-stands_after s ts = stands_told as_reports s ts
-
-abbrev pub used_by : Standing → List Turn → List ℕ
-used_by s ts = used_told as_reports s ts
-
-abbrev pub written_by : Standing → List Turn → List ℕ
-written_by s ts = written_told as_reports s ts
-
-abbrev pub last_written : Standing → List ℕ → List ℕ
-last_written s out = last_told as_reports s out
-
 -- ---- the beginning
 
 -- a stream has begun on lent memory that is long enough, whatever it held
 pub record HasBegun (s : Standing) : Type 0 where
   pub links : List ℕ
   pub pairs : List ℕ
-  pub progress_is : s.progress ≡ (begin_call links pairs).progress
-  pub links_are : s.links ≡ (begin_call links pairs).links
-  pub pairs_are : s.lent.pairs ≡ (begin_call links pairs).pairs
+  pub begun : ◌≡◌ {A = Begun} (s.progress, s.links, s.lent.pairs) (begin_call links pairs)
   pub long : long_enough base (sizes_of s.links s.lent) ≡ true
   pub room : line_limit ≤ length s.line

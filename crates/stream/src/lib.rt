@@ -11,7 +11,7 @@ ghost use Rattle.update.specs.UpdateCall.{left_of, update_call};
 ghost use Rattle.update.specs.Steps.{map_refusal};
 ghost use Rattle.transcript.specs.Transcript.{lines_limit, update_in};
 ghost use Rattle.transcript.specs.Manner.{frame_in};
-ghost use Rattle.stream.specs.Feeding.{stream_begun, begin_call, answer_to, IsReady, feeding, took_line, feed_call, finish_call};
+ghost use Rattle.stream.specs.Feeding.{begin_call, answer_to, IsReady, feeding, took_line, feed_call, finish_call};
 
 use admission::Link;
 use line_buffer::Tells;
@@ -41,7 +41,7 @@ pub struct Fed {
 #[tactic(auto, using(crate::proofs::Begins::emptying), unfolding(crate::specs::Feeding::begin_call, map::specs::Empty::empty_given))]
 pub fn begin(links: &mut [u64], pairs: &mut [u64]) -> Progress
     requires { (table_words base ≤ length links.old) × (table_words base ≤ length pairs.old) }
-    ensures { stream_begun result links.new pairs.new ≡ begin_call links.old pairs.old }
+    ensures { (result, links.new, pairs.new) ≡ begin_call links.old pairs.old }
 {
     let none = map::empty_record();
     let rec = map::empty_map(none, links, pairs).unwrap_or(none);

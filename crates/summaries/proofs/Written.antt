@@ -24,7 +24,8 @@ use Rattle.search.specs.SearchCall.{search_sizes}
 use Rattle.update.proofs.Grants.{figures_are_sound_lem, links_pass, connected_pass}
 use Rattle.line_buffer.specs.Lines.{pasted}
 use Rattle.transcript.specs.Transcript.{network_in}
-use Rattle.stream.specs.Pieces.{Standing, stands_after}
+use Rattle.transcript.specs.Manner.{as_reports}
+use Rattle.stream.specs.Pieces.{Standing, stands_told}
 use Rattle.stream.proofs.Runs.{pasted_read}
 use Rattle.stream.proofs.Theorems.{IsMapOf, pieces_network}
 use Rattle.summary.specs.SummaryCall.{summary_refusal, Summing, Summed, Refused, summary_given, summary_call}
@@ -85,7 +86,7 @@ module _ (G : Network) (s : Standing) (is : IsMapOf G s) (counts : List ℕ) (ro
 answer_is : (f : File) → IsBegun f → answer_of f ≡ summing_of (network_in (bytes_of f))
 unfolding answer_of
 answer_is f is =
-    map_summed (network_in (bytes_of f)) (stands_after f.begun f.turns) (pieces_network f.begun is.begun f.turns) f.counts is.counts
+    map_summed (network_in (bytes_of f)) (stands_told as_reports f.begun f.turns) (pieces_network f.begun is.begun f.turns) f.counts is.counts
 
 -- the part of a buffer that a line is written into
 part_is : (text out : List ℕ) → take (0 + length text) (pasted text 0 out) ≡ text

@@ -4,7 +4,8 @@
 use Rattle.std.specs.Prelude.{◌≡◌, ℕ, ◌≤◌, length, take}
 use mathlib.Core.List.{List, [], ◌∷◌, ◌++◌, map, Memᴰ}
 use Rattle.map.specs.Memory.{base, places}
-use Rattle.stream.specs.Pieces.{Standing, Turn, stands_after, used_by, HasBegun}
+use Rattle.transcript.specs.Manner.{as_reports}
+use Rattle.stream.specs.Pieces.{Standing, Turn, stands_told, used_told, HasBegun}
 use Rattle.summary.specs.SummaryCall.{Summing, summary_call}
 use Rattle.summaries.specs.Run.{files_limit, no_totals, run_text}
 use Rattle.summaries.specs.Calls.{file_call, total_call}
@@ -24,11 +25,11 @@ pub record IsBegun (f : File) : Type 0 where
 
 -- the bytes that were read and used
 abbrev pub bytes_of : File → List ℕ
-bytes_of f = used_by f.begun f.turns
+bytes_of f = used_told as_reports f.begun f.turns
 
 -- the report of the map that they leave
 unfoldable pub answer_of : File → Summing
-answer_of f = let s = stands_after f.begun f.turns in (summary_call base s.progress.rec s.links s.lent.searched f.counts).answer
+answer_of f = let s = stands_told as_reports f.begun f.turns in (summary_call base s.progress.rec s.links s.lent.searched f.counts).answer
 
 -- the lines of files and of the total, each as the part of its buffer that is written
 unfoldable pub written_from : Totals → List File → List ℕ → List ℕ
