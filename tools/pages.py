@@ -63,7 +63,11 @@ def stale(page):
     for quoted in re.finditer(r'^```antt\n(.*?)^```$', '\n'.join(lines), re.M | re.S):
         if quoted.group(1) not in text_of(glob.glob('crates/*/specs/*.antt')):
             yield '\n'.join(lines)[:quoted.start()].count('\n') + 1, 'no specification has this'
+    fenced = False
     for number, line in enumerate(lines, 1):
+        fenced ^= line.startswith('```')
+        if not fenced and not line.startswith('```') and line.count('`') % 2:
+            yield number, 'a name that goes over the end of its line'
         for link in re.findall(r'\]\(([^)#\s]+)', line):
             if '://' not in link and not os.path.exists(os.path.join(os.path.dirname(page), link)):
                 yield number, f'no file {link}'
