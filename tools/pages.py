@@ -1,10 +1,13 @@
 #!/usr/bin/env python3
-"""pages.py: are the pages true of the tree? Every file that README and docs/ name or link must be there, every edit must stand in the crate that the page
-names, and of each row of the audit's tables every name must stand in one of the files beside it. Every rule of docs/RULES.md must have a row in
-docs/AUDIT.md, without an empty cell, and every rule that a page, a specification, the code or a test cites must be there. Where a page says how much
-has to be believed, and where a specs/Lib.antt says that nobody has to believe a file, tools/believed.py must find the same; docs/ARCHITECTURE.md says what
-crates rest on as crates.txt does. And the repository stands alone: no file, no name of one and no newer commit's message leans on papers that do not lie
-in it. Run it in the repository's root; it exits with 1 if something is stale. The gate runs it."""
+"""pages.py: are the pages true of the tree? Every file that README and docs/ name or link must be
+there, every edit must stand in the crate that the page names, and of each row of the audit's tables
+every name must stand in one of the files beside it. Every rule of docs/RULES.md must have a row in
+docs/AUDIT.md, without an empty cell, and every rule or decision that a page, a specification, the
+code or a test cites must be there. Where a page says how much has to be believed, and where a
+specs/Lib.antt says that nobody has to believe a file, tools/believed.py must find the same;
+docs/ARCHITECTURE.md says what crates rest on as crates.txt does. And the repository stands alone:
+no file, no name of one and no newer commit's message leans on papers that do not lie in it. Run it
+in the repository's root; it exits with 1 if something is stale. The gate runs it."""
 import glob
 import os
 import re
@@ -94,6 +97,10 @@ def unheld():
     """what is wrong between the rules and their audit"""
     with open('docs/RULES.md', encoding='utf8') as file:
         rules = re.findall(r'^(\d+\.\d+)\. ', file.read(), re.M)
+    with open('docs/DECISIONS.md', encoding='utf8') as file:
+        decisions = re.findall(r'^(\d+)\. ', file.read(), re.M)
+    for decision in sorted({one for one in decisions if decisions.count(one) > 1}):
+        yield 'docs/DECISIONS.md', 0, f'two decisions have the number {decision}'
     held = set()
     with open('docs/AUDIT.md', encoding='utf8') as file:
         for number, line in enumerate(file, 1):
@@ -115,6 +122,11 @@ def unheld():
                     for rule in re.findall(r'\d+\.\d+', cited):
                         if rule not in rules:
                             yield path, number, f'no rule {rule}'
+                # the landings tell of decisions that others have replaced since
+                for cited in re.findall(r'\bdecisions? ((?:\d+(?:, | and | to |, and )?)+)', line) if path != 'docs/LANDINGS.md' else []:
+                    for decision in re.findall(r'\d+', cited):
+                        if decision not in decisions:
+                            yield path, number, f'no decision {decision}'
 
 
 def misbelieved():
