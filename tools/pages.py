@@ -19,15 +19,28 @@ import believed
 # folders below crates/ that a page names without `crates/`
 CRATE_PATH = re.compile(r'^([a-z_]+)/(specs|proofs|src|must-fail|stdout)(/.*)?$')
 NAME = re.compile(r'^[A-Za-z][\w\'→-]*$')
-# What would lean on papers that do not lie here: a demand, an issue or a paper by its number, a request by its letter, those who asked. docs/RULES.md is
-# cited instead, by rule; literature by author and title. Ordinary words stay free ("on demand", "a paper" in a title). No pattern matches itself.
+# What would lean on papers that do not lie here: a demand, an issue or a paper by its number, a
+# request by its letter, those who asked. docs/RULES.md is cited instead, by rule; literature by
+# author and title. Ordinary words stay free ("on demand", "a paper" in a title). No pattern matches
+# itself.
 OUTSIDE = re.compile('|'.join([
-    r'(?i:demands?[ _-]?\d)', r'[Dd]emands?(?=[A-Z_]\w)', r'(?<=[a-z_])[Dd]emands?\b', r'\b[D]emands?\b',
-    r'(?i:\b(?:documents?|papers?)[ _-]?\d)', r'(?i:\bsource[ _-]document)', r'(?i:\b(?:the|this|that|both|our|these) papers?\b)',
-    r'(?i:\brequests?[ _-]?(?:\([a-n]\)|[b-n]\b|a\)))', r'(?i:\bchange[ _-]request)',
-    r'(?i:\bcustom[e]rs?\b)', r'(?i:\bissues?[ _-]?(?:#|no\.? ?)?\d)', r'\bREADING[S]\b', r'\b\d\d-(?:demand|scope|change|rattle)', r'\.\./shared[/]',
+    r'(?i:demands?[ _-]?\d)',
+    r'[Dd]emands?(?=[A-Z_]\w)',
+    r'(?<=[a-z_])[Dd]emands?\b',
+    r'\b[D]emands?\b',
+    r'(?i:\b(?:documents?|papers?)[ _-]?\d)',
+    r'(?i:\bsource[ _-]document)',
+    r'(?i:\b(?:the|this|that|both|our|these) papers?\b)',
+    r'(?i:\brequests?[ _-]?(?:\([a-n]\)|[b-n]\b|a\)))',
+    r'(?i:\bchange[ _-]request)',
+    r'(?i:\bcustom[e]rs?\b)',
+    r'(?i:\bissues?[ _-]?(?:#|no\.? ?)?\d)',
+    r'\bREADING[S]\b',
+    r'\b\d\d-(?:demand|scope|change|rattle)',
+    r'\.\./shared[/]',
 ]))
-# Messages are held to it from this time on: landed ones stay as they are. A clone that is not deep has only newer ones.
+# Messages are held to it from this time on: landed ones stay as they are. A clone that is not deep
+# has only newer ones.
 SINCE = '2026-11-27T15:21:00+00:00'
 crates = {os.path.basename(os.path.dirname(p)) for p in glob.glob('crates/*/src')}
 edits = {os.path.splitext(os.path.basename(p))[0]: p for p in glob.glob('crates/*/must-fail/*.edit')}
@@ -114,8 +127,8 @@ def unheld():
     for rule in rules:
         if rule not in held:
             yield 'docs/RULES.md', 0, f'no row of the audit for rule {rule}'
-    patterns = 'README.md', 'docs/*.md', 'crates/**/*.antt', 'crates/**/*.rt', 'include/*', 'examples/*', 'bench/*', 'rust/src/**/*.rs', 'rust/tests/**/*.rs'
-    for path in sorted(p for pattern in patterns for p in glob.glob(pattern, recursive=True) if os.path.isfile(p) and '/out/' not in p):
+    looked_at = re.compile(r'README\.md|docs/.*\.md|crates/.*\.(antt|rt)|rust/(src|tests)/.*\.rs|(include|examples|bench)/.*')
+    for path in filter(looked_at.fullmatch, files_here()):
         with open(path, encoding='utf8', errors='replace') as file:
             for number, line in enumerate(file, 1):
                 for cited in re.findall(r'\brules? ((?:\d+\.\d+(?:, | and | to |, and )?)+)', line):
@@ -123,9 +136,9 @@ def unheld():
                         if rule not in rules:
                             yield path, number, f'no rule {rule}'
                 # the landings tell of decisions that others have replaced since
-                for cited in re.findall(r'\bdecisions? ((?:\d+(?:, | and | to |, and )?)+)', line) if path != 'docs/LANDINGS.md' else []:
+                for cited in re.findall(r'\bdecisions? ((?:\d+(?:, | and | to |, and )?)+)', line):
                     for decision in re.findall(r'\d+', cited):
-                        if decision not in decisions:
+                        if decision not in decisions and path != 'docs/LANDINGS.md':
                             yield path, number, f'no decision {decision}'
 
 
@@ -188,9 +201,11 @@ def leaning():
         with open(path, encoding='utf8', errors='replace') as file:
             texts.append((path, f'{path}\n{file.read()}'))  # line 0 is the name
     if os.path.exists('.git'):
-        log = subprocess.run(['git', '-c', 'safe.directory=*', 'log', f'--since={SINCE}', '--format=%x00%h%n%B'], capture_output=True, check=False)
+        command = ['git', '-c', 'safe.directory=*', 'log', f'--since={SINCE}', '--format=%x00%h%n%B']
+        log = subprocess.run(command, capture_output=True, check=False)
         if log.returncode:
-            print(f'tools/pages.py: no message was looked at: {log.stderr.decode().strip()}', file=sys.stderr)
+            why = log.stderr.decode().strip()
+            print(f'tools/pages.py: no message was looked at: {why}', file=sys.stderr)
         for message in log.stdout.decode('utf8', 'replace').split('\0')[1:]:
             texts.append(('message of commit ' + message.split('\n')[0], message))
     for path, text in texts:
