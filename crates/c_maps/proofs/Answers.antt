@@ -15,14 +15,14 @@ use Rattle.search.specs.SearchCall.{Found, SearchLeft, search_left, search_sizes
 use Rattle.reckon.specs.ReckonCall.{Reckoned, ReckonLeft, reckon_left, reckon_refusal, figured_by, reckon_given, reckon_call}
 use Rattle.reckon.proofs.Reckons.{granted_tests}
 use Rattle.c_values.specs.Words.{record_words, record_of, words_of, clamped_of}
-use Rattle.c_maps.specs.Outs.{EmptyOut, empty_from, empty_out, SearchOut, search_from, search_out, ReckonOut, reckon_from, reckon_out}
+use Rattle.c_maps.specs.Outs.{empty_from, empty_out, search_from, search_out, reckon_from, reckon_out}
 use Rattle.c_values.proofs.Clamps.{network_in, links_clamp, links_first_clamp, number_fits}
 use Rattle.lent_map.specs.Faults.{lent_faults, lent_refusal}
 
 -- ---- emptying
 
 module _ (l links pairs : List ℕ) where
-  abbrev emptied : EmptyLeft → EmptyOut
+  abbrev emptied : EmptyLeft → ℕ × List ℕ × (List ℕ × List ℕ)
   emptied x = empty_from x.answer x l
 
   -- the old record does not matter
@@ -45,9 +45,9 @@ module _ (l links pairs : List ℕ) where
 
 -- ---- the search
 
-module _ (l links : List ℕ) (B : Tables) (old old_depth code : ℕ) where
-  abbrev found : SearchLeft → SearchOut
-  found x = search_from x.answer x.lent old old_depth
+module _ (l links : List ℕ) (B : Tables) (old : ℕ × ℕ) (code : ℕ) where
+  abbrev found : SearchLeft → ℕ × (ℕ × ℕ) × Tables
+  found x = search_from x.answer old x.lent
 
   -- a number that is too large is spoilt, as the largest one is; the figures do not matter
   search_clamp : search_call base (clamped_of l) links B code ≡ search_call base (record_of l) links B code
@@ -60,21 +60,21 @@ module _ (l links : List ℕ) (B : Tables) (old old_depth code : ℕ) where
       go j zero e = ap (λ (x : ℕ). search_given x base (clamped_of l) links B code) e
       go j (suc k) e = ap (λ (x : ℕ). search_given x base (clamped_of l) links B code) e
 
-  search_whole : record_words ≤ length l → found (search_call base (record_of l) links B code) ≡ search_out l links B old old_depth code
+  search_whole : record_words ≤ length l → found (search_call base (record_of l) links B code) ≡ search_out l links B old code
   unfolding search_out
   search_whole h = rw (le-ltb (length l) record_words h)
 
   pub search_called : record_words ≤ length l → {rec : Record} → rec ≡ clamped_of l → {got : Found} {B' B'' : Tables}
-      → search_left got B' ≡ search_call base rec links B code → B'' ≡ B' → search_from got B'' old old_depth ≡ search_out l links B old old_depth code
+      → search_left got B' ≡ search_call base rec links B code → B'' ≡ B' → search_from got old B'' ≡ search_out l links B old code
   search_called h read {got} e q =
-      ap (λ (T : Tables). search_from got T old old_depth) q
+      ap (λ (T : Tables). search_from got old T) q
       ∙ ap found (e ∙ ap (λ (x : Record). search_call base x links B code) read ∙ search_clamp)
       ∙ search_whole h
 
 -- ---- the whole reckoning
 
 module _ (l links : List ℕ) (B : Lent) (old : ℕ) where
-  abbrev reckoned : ReckonLeft → ReckonOut
+  abbrev reckoned : ReckonLeft → ℕ × (List ℕ × ℕ) × Lent
   reckoned x = reckon_from x.reckoned.answer x l old
 
   refusal_clamp : reckon_refusal base (clamped_of l) links (sizes_of links B) ≡ reckon_refusal base (record_of l) links (sizes_of links B)

@@ -15,13 +15,13 @@ use Rattle.nearby.specs.WithinCall.{within_refusal, Listing, WithinLeft, within_
 use Rattle.nearby.specs.NearestCall.{nearest_refusal, Closest, NearestLeft, nearest_left, nearest_given, nearest_call}
 use Rattle.c_values.specs.Words.{record_words, record_of, clamped_of}
 use Rattle.c_values.proofs.Clamps.{network_in, links_first_clamp}
-use Rattle.c_maps.specs.Nears.{ListedOut, within_from, within_out, ChosenOut, closest_from, nearest_out}
+use Rattle.c_maps.specs.Nears.{within_from, within_out, closest_from, nearest_out}
 
 -- ---- the depots within k handovers
 
 module _ (l links : List ℕ) (B : Tables) (codes : List ℕ) (old code k : ℕ) where
-  abbrev listing_out : WithinLeft → ListedOut
-  listing_out x = within_from x.answer x.lent x.codes old
+  abbrev listing_out : WithinLeft → ℕ × ℕ × (Tables × List ℕ)
+  listing_out x = within_from x.answer old (x.lent, x.codes)
 
   -- a number that is too large is spoilt, as the largest one is; the figures do not matter
   within_clamp_out : within_call base (clamped_of l) links B codes code k ≡ within_call base (record_of l) links B codes code k
@@ -41,17 +41,17 @@ module _ (l links : List ℕ) (B : Tables) (codes : List ℕ) (old code k : ℕ)
 
   -- whatever the call that it wraps answered
   pub within_called : record_words ≤ length l → {rec : Record} → rec ≡ clamped_of l → {got : Listing} {B' B'' : Tables} {codes' : List ℕ}
-      → within_left got B' codes' ≡ within_call base rec links B codes code k → B'' ≡ B' → within_from got B'' codes' old ≡ within_out l links B codes old code k
+      → within_left got B' codes' ≡ within_call base rec links B codes code k → B'' ≡ B' → within_from got old (B'', codes') ≡ within_out l links B codes old code k
   within_called h read {got} {codes' = codes'} e q =
-      ap (λ (T : Tables). within_from got T codes' old) q
+      ap (λ (T : Tables). within_from got old (T, codes')) q
       ∙ ap listing_out (e ∙ ap (λ (x : Record). within_call base x links B codes code k) read ∙ within_clamp_out)
       ∙ within_whole_out h
 
 -- ---- the nearest depot of a list
 
-module _ (l links : List ℕ) (B : Tables) (old old_distance code : ℕ) (listed : List ℕ) where
-  abbrev choice_out : NearestLeft → ChosenOut
-  choice_out x = closest_from x.answer x.lent old old_distance
+module _ (l links : List ℕ) (B : Tables) (old : ℕ × ℕ) (code : ℕ) (listed : List ℕ) where
+  abbrev choice_out : NearestLeft → ℕ × (ℕ × ℕ) × Tables
+  choice_out x = closest_from x.answer old x.lent
 
   nearest_clamp_out : nearest_call base (clamped_of l) links B code listed ≡ nearest_call base (record_of l) links B code listed
   unfolding nearest_call nearest_given nearest_refusal clamped_of record_of
@@ -63,14 +63,14 @@ module _ (l links : List ℕ) (B : Tables) (old old_distance code : ℕ) (listed
       go i zero e = ap (λ (x : ℕ). nearest_given x base (clamped_of l) links B code listed) e
       go i (suc j) e = ap (λ (x : ℕ). nearest_given x base (clamped_of l) links B code listed) e
 
-  nearest_whole_out : record_words ≤ length l → choice_out (nearest_call base (record_of l) links B code listed) ≡ nearest_out l links B old old_distance code listed
+  nearest_whole_out : record_words ≤ length l → choice_out (nearest_call base (record_of l) links B code listed) ≡ nearest_out l links B old code listed
   unfolding nearest_out
   nearest_whole_out h = rw (le-ltb (length l) record_words h)
 
   pub nearest_called : record_words ≤ length l → {rec : Record} → rec ≡ clamped_of l → {got : Closest} {B' B'' : Tables}
       → nearest_left got B' ≡ nearest_call base rec links B code listed → B'' ≡ B'
-      → closest_from got B'' old old_distance ≡ nearest_out l links B old old_distance code listed
+      → closest_from got old B'' ≡ nearest_out l links B old code listed
   nearest_called h read {got} e q =
-      ap (λ (T : Tables). closest_from got T old old_distance) q
+      ap (λ (T : Tables). closest_from got old T) q
       ∙ ap choice_out (e ∙ ap (λ (x : Record). nearest_call base x links B code listed) read ∙ nearest_clamp_out)
       ∙ nearest_whole_out h

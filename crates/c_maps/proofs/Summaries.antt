@@ -16,11 +16,11 @@ use Rattle.search.specs.SearchCall.{search_sizes}
 use Rattle.summary.specs.SummaryCall.{summary_refusal, Summing, SummaryLeft, summary_left, summary_given, summary_call}
 use Rattle.c_values.specs.Words.{record_words, record_of, clamped_of}
 use Rattle.c_values.proofs.Clamps.{network_in, links_first_clamp}
-use Rattle.c_maps.specs.Summaries.{FourNumbers, SummaryOut, summary_from, summary_out}
+use Rattle.c_maps.specs.Summaries.{SummaryOut, summary_from, summary_out}
 
-module _ (l links : List ℕ) (B : Tables) (counts : List ℕ) (old : FourNumbers) where
+module _ (l links : List ℕ) (B : Tables) (counts : List ℕ) (old : ℕ × ℕ × ℕ × ℕ) where
   abbrev report_out : SummaryLeft → SummaryOut
-  report_out x = summary_from x.answer x.lent x.counts old
+  report_out x = summary_from x.answer old (x.lent, x.counts)
 
   -- a number that is too large is spoilt, as the largest one is; the figures do not matter
   summary_clamp_out : summary_call base (clamped_of l) links B counts ≡ summary_call base (record_of l) links B counts
@@ -40,8 +40,8 @@ module _ (l links : List ℕ) (B : Tables) (counts : List ℕ) (old : FourNumber
 
   -- whatever the call that it wraps answered
   pub summary_called : record_words ≤ length l → {rec : Record} → rec ≡ clamped_of l → {got : Summing} {B' B'' : Tables} {counts' : List ℕ}
-      → summary_left got B' counts' ≡ summary_call base rec links B counts → B'' ≡ B' → summary_from got B'' counts' old ≡ summary_out l links B counts old
+      → summary_left got B' counts' ≡ summary_call base rec links B counts → B'' ≡ B' → summary_from got old (B'', counts') ≡ summary_out l links B counts old
   summary_called h read {got} {counts' = counts'} e q =
-      ap (λ (T : Tables). summary_from got T counts' old) q
+      ap (λ (T : Tables). summary_from got old (T, counts')) q
       ∙ ap report_out (e ∙ ap (λ (x : Record). summary_call base x links B counts) read ∙ summary_clamp_out)
       ∙ summary_whole_out h

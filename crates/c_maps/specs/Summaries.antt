@@ -1,37 +1,23 @@
--- THE CALL OF THE NETWORK REPORT for other languages: the answer's number, the lent numbers and every lent place. It is the call that it wraps, on
--- the record in the lent words; a refused one changes nothing. Assumes nothing.
-use Rattle.std.specs.Prelude.{cond, List, ℕ, ltb, length}
+-- THE CALL OF THE NETWORK REPORT for other languages. It is the call that it wraps, on the record in
+-- the lent words: the answer's number, the four lent numbers, and the rest of what is lent. A refused
+-- one changes nothing. Assumes nothing.
+use Rattle.std.specs.Prelude.{List, ℕ, nat_lt, if◌then◌else◌, length}
 use Rattle.map.specs.Room.{Tables}
 use Rattle.map.specs.Memory.{base}
 use Rattle.summary.specs.SummaryCall.{Summing, Summed, Refused, summary_call}
 use Rattle.outcome.specs.Numbers.{short_buffer}
 use Rattle.c_values.specs.Words.{record_words, record_of}
 
--- the four lent numbers
-pub record FourNumbers : Type 0 where
-  pub sum : ℕ
-  pub pairs : ℕ
-  pub quotient : ℕ
-  pub remainder : ℕ
+-- number, the four lent numbers (sum, pairs, quotient, remainder), the tables and the counts
+abbrev pub SummaryOut : Type 0
+SummaryOut = ℕ × (ℕ × ℕ × ℕ × ℕ) × (Tables × List ℕ)
 
-abbrev pub four_numbers : ℕ → ℕ → ℕ → ℕ → FourNumbers
-four_numbers s p q r = record { sum = s; pairs = p; quotient = q; remainder = r }
+unfoldable pub summary_from : Summing → ℕ × ℕ × ℕ × ℕ → Tables × List ℕ → SummaryOut
+summary_from (Summed s p q r) old lent = (0, (s, p, q, r), lent)
+summary_from (Refused k) old lent = (k, old, lent)
 
-pub record SummaryOut : Type 0 where
-  pub refusal : ℕ
-  pub numbers : FourNumbers
-  pub lent : Tables
-  pub counts : List ℕ
-
-abbrev pub summed_out : ℕ → FourNumbers → Tables → List ℕ → SummaryOut
-summed_out r x B counts = record { refusal = r; numbers = x; lent = B; counts = counts }
-
--- the number for each case of the answer, and the lent numbers: those of the report, or what stood there
-unfoldable pub summary_from : Summing → Tables → List ℕ → FourNumbers → SummaryOut
-summary_from (Summed s p q r) B counts old = summed_out 0 (four_numbers s p q r) B counts
-summary_from (Refused k) B counts old = summed_out k old B counts
-
-unfoldable pub summary_out : List ℕ → List ℕ → Tables → List ℕ → FourNumbers → SummaryOut
+unfoldable pub summary_out : List ℕ → List ℕ → Tables → List ℕ → ℕ × ℕ × ℕ × ℕ → SummaryOut
 summary_out words links B counts old =
     let x = summary_call base (record_of words) links B counts in
-    cond (ltb (length words) record_words) (summed_out short_buffer old B counts) (summary_from x.answer x.lent x.counts old)
+    if nat_lt (length words) record_words then (short_buffer, old, (B, counts))
+    else summary_from x.answer old (x.lent, x.counts)

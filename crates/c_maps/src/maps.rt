@@ -1,7 +1,7 @@
 // The calls that empty a map, search from a depot, reckon the whole.
 ghost use Rattle.std.specs.Prelude.{◌≡◌};
 ghost use Rattle.map.specs.Slices.{tables_before, tables_after, lent_before, lent_after};
-ghost use Rattle.c_maps.specs.Outs.{empty_out, emptied_out, search_out, searched_out, reckon_out, reckoned_out};
+ghost use Rattle.c_maps.specs.Outs.{empty_out, search_out, reckon_out};
 
 use map::{Room, Scratch};
 use outcome::Refusal;
@@ -10,8 +10,7 @@ use outcome::Refusal;
 #[tactic(auto, unfolding(crate::specs::Outs::empty_out))]
 #[unsafe(no_mangle)]
 pub extern "C" fn zorpedi_empty(words: &mut [u64], links: &mut [u64], pairs: &mut [u64]) -> u8
-    ensures { emptied_out result words.new links.new pairs.new
-        ≡ empty_out words.old links.old pairs.old }
+    ensures { (result, words.new, (links.new, pairs.new)) ≡ empty_out words.old links.old pairs.old }
 {
     if words.len() < c_values::RECORD_WORDS {
         return Refusal::Short.number();
@@ -42,8 +41,8 @@ pub extern "C" fn zorpedi_search(
 ) -> u8
     ensures { let before = tables_before hops even odd in
         let after = tables_after hops even odd in
-        searched_out result eccentricity.new depth.new after
-        ≡ search_out words.now links.now before eccentricity.old depth.old code }
+        (result, (eccentricity.new, depth.new), after)
+        ≡ search_out words.now links.now before (eccentricity.old, depth.old) code }
 {
     if words.len() < c_values::RECORD_WORDS {
         return Refusal::Short.number();
@@ -76,7 +75,7 @@ pub extern "C" fn zorpedi_reckon(
 ) -> u8
     ensures { let before = lent_before pairs hops bounds skips even odd in
         let after = lent_after pairs hops bounds skips even odd in
-        reckoned_out result words.new searches.new after
+        (result, (words.new, searches.new), after)
         ≡ reckon_out words.old links.now before searches.old }
 {
     if words.len() < c_values::RECORD_WORDS {

@@ -1,7 +1,7 @@
 // The calls on depots near one.
 ghost use Rattle.std.specs.Prelude.{◌≡◌};
 ghost use Rattle.map.specs.Slices.{tables_before, tables_after};
-ghost use Rattle.c_maps.specs.Nears.{within_out, listed_out, nearest_out, chosen_out};
+ghost use Rattle.c_maps.specs.Nears.{within_out, nearest_out};
 
 use map::Scratch;
 use outcome::Refusal;
@@ -22,7 +22,7 @@ pub extern "C" fn zorpedi_within(
 ) -> u8
     ensures { let before = tables_before hops even odd in
         let after = tables_after hops even odd in
-        listed_out result count.new after codes.new
+        (result, count.new, (after, codes.new))
         ≡ within_out words.now links.now before codes.old count.old code k }
 {
     if words.len() < c_values::RECORD_WORDS {
@@ -56,8 +56,8 @@ pub extern "C" fn zorpedi_nearest(
     ensures { let before = tables_before hops even odd in
         let after = tables_after hops even odd in
         let asked = listed.now in
-        chosen_out result found.new distance.new after
-        ≡ nearest_out words.now links.now before found.old distance.old code asked }
+        (result, (found.new, distance.new), after)
+        ≡ nearest_out words.now links.now before (found.old, distance.old) code asked }
 {
     if words.len() < c_values::RECORD_WORDS {
         return Refusal::Short.number();

@@ -1,7 +1,7 @@
 // The call of the network report.
 ghost use Rattle.std.specs.Prelude.{◌≡◌};
 ghost use Rattle.map.specs.Slices.{tables_before, tables_after};
-ghost use Rattle.c_maps.specs.Summaries.{four_numbers, summary_out, summed_out};
+ghost use Rattle.c_maps.specs.Summaries.{summary_out};
 
 use map::Scratch;
 use outcome::Refusal;
@@ -24,9 +24,8 @@ pub extern "C" fn zorpedi_summary(
 ) -> u8
     ensures { let before = tables_before hops even odd in
         let after = tables_after hops even odd in
-        let old = four_numbers sum.old pair_number.old quotient.old remainder.old in
-        let new = four_numbers sum.new pair_number.new quotient.new remainder.new in
-        summed_out result new after counts.new ≡ summary_out words.now links.now before counts.old old }
+        (result, (sum.new, pair_number.new, quotient.new, remainder.new), (after, counts.new))
+        ≡ summary_out words.now links.now before counts.old (sum.old, pair_number.old, quotient.old, remainder.old) }
 {
     if words.len() < c_values::RECORD_WORDS {
         return Refusal::Short.number();

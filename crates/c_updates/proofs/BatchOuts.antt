@@ -18,7 +18,7 @@ use Rattle.batch_update.specs.BatchCall.{batch_refusal, BatchLeft, batch_given, 
 use Rattle.batch_update.proofs.Refuses.{granted}
 use Rattle.c_values.specs.Words.{record_words, record_of, clamped_of}
 use Rattle.c_values.proofs.Clamps.{network_in, links_clamp, figures_clamp, clamped_is}
-use Rattle.c_updates.specs.BatchOuts.{BatchOut, batched_out, batch_from, batch_out}
+use Rattle.c_updates.specs.BatchOuts.{BatchOut, batch_from, batch_out}
 
 module _ (l links : List ℕ) (B : Lent) (left : List ℕ) (old : ℕ) (lines : List ℕ) where
   abbrev batched : BatchLeft → BatchOut
@@ -71,6 +71,7 @@ module _ (l links : List ℕ) (B : Lent) (left : List ℕ) (old : ℕ) (lines : 
   batch_called h read e = ap batched (e ∙ ap (λ (x : Record). batch_call base x links B left lines) read) ∙ batch_clamp ∙ batch_whole h
 
 -- the tables of a room stand where they were lent
-pub batch_lent : {r n : ℕ} {l' links' left' : List ℕ} {B' B'' : Lent} {y : BatchOut} → batched_out r l' n links' B' left' ≡ y → B'' ≡ B'
-    → batched_out r l' n links' B'' left' ≡ y
-batch_lent {r} {n} {l'} {links'} {left'} e q = ap (λ (T : Lent). batched_out r l' n links' T left') q ∙ e
+pub batch_lent : {r n : ℕ} {l' links' left' : List ℕ} {B' B'' : Lent} {y : BatchOut}
+    → ◌≡◌ {A = BatchOut} (r, (l', n), (links', B', left')) y → B'' ≡ B'
+    → ◌≡◌ {A = BatchOut} (r, (l', n), (links', B'', left')) y
+batch_lent {r} {n} {l'} {links'} {left'} e q = ap (λ (T : Lent). (r, (l', n), (links', T, left'))) q ∙ e

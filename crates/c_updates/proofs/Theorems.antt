@@ -17,8 +17,9 @@ use Rattle.map.specs.Room.{Lent, sizes_of}
 use Rattle.update.specs.UpdateCall.{update_refusal, network_after, UpdateLeft, update_given, update_call}
 use Rattle.c_values.specs.Words.{record_words, record_of}
 use Rattle.c_values.proofs.Theorems.{words_read}
-use Rattle.c_updates.specs.UpdateOuts.{UpdateOut, handed_by, update_from, update_out}
+use Rattle.c_updates.specs.UpdateOuts.{handed_by, update_out}
 use Rattle.c_updates.specs.BatchOuts.{BatchOut, batch_from, batch_out}
+use Rattle.c_updates.proofs.UpdateOuts.{gives}
 use Rattle.graph.specs.Opening.{Notice}
 use Rattle.graph.specs.Updates.{Update, opens}
 use Rattle.graph.specs.Batch.{notices_of}
@@ -49,11 +50,11 @@ given_four rec links B o e (suc k) = e
 -- ---- opening and link
 
 -- the words hold the record that the call leaves, and the tables are its tables
-abbrev Holds : UpdateOut → UpdateLeft → Type 0
-Holds y x = (record_of y.handed.words ≡ x.after) × (y.links ≡ x.links) × (y.lent ≡ x.lent)
+abbrev Holds : ℕ × (List ℕ × ℕ) × (List ℕ × Lent) → UpdateLeft → Type 0
+Holds y x = (record_of y.1.0 ≡ x.after) × (y.2.0 ≡ x.links) × (y.2.1 ≡ x.lent)
 
 module _ (l links : List ℕ) (B : Lent) (o : Update) (old : ℕ) (h : record_words ≤ length l) where
-  holds_given : (k : ℕ) → let x = update_given k base (record_of l) links B o in Holds (update_from x l old) x
+  holds_given : (k : ℕ) → let x = update_given k base (record_of l) links B o in Holds (gives l links B o old x) x
   unfolding update_given handed_by
   holds_given zero =
       let four = given_four (record_of l) links B o (rows_four l h) 0 in
@@ -69,7 +70,8 @@ module _ (l links : List ℕ) (B : Lent) (o : Update) (old : ℕ) (h : record_wo
 
 -- the words hold the record that the call leaves; tables and places are its own
 abbrev HoldsBatch : BatchOut → BatchLeft → Type 0
-HoldsBatch y x = (record_of y.words ≡ x.memory.rec) × (y.links ≡ x.memory.links) × (y.lent ≡ x.memory.lent) × (y.left ≡ x.left)
+HoldsBatch y x =
+    (record_of y.1.0 ≡ x.memory.rec) × (y.2.0 ≡ x.memory.links) × (y.2.1 ≡ x.memory.lent) × (y.2.2 ≡ x.left)
 
 holds_batch : (n : ℕ) (x : BatchLeft) (l : List ℕ) (old : ℕ) → HasRows x.memory.rec → HoldsBatch (batch_from (Opened n) x l old) x
 unfolding batch_from

@@ -18,15 +18,15 @@ use Rattle.map.specs.declared.Record.{Record}
 use Rattle.update.specs.UpdateCall.{UpdateLeft, update_left, update_refusal, update_given, update_call}
 use Rattle.update.specs.declared.Returned.{Returned}
 use Rattle.c_values.specs.Words.{record_words, record_of, clamped_of}
-use Rattle.c_updates.specs.UpdateOuts.{Handed, handed, handed_by, UpdateOut, updated_out, update_from, update_out}
+use Rattle.c_updates.specs.UpdateOuts.{handed_by, update_out}
 use Rattle.c_values.proofs.Clamps.{network_in, links_clamp, figures_clamp, number_fits, figures-fit}
 use Rattle.lent_map.specs.Faults.{lent_faults}
 
 -- ---- the call
 
 module _ (l links : List ℕ) (B : Lent) (o : Update) (old : ℕ) where
-  abbrev gives : UpdateLeft → UpdateOut
-  gives x = update_from x l old
+  abbrev pub gives : UpdateLeft → ℕ × (List ℕ × ℕ) × (List ℕ × Lent)
+  gives x = let h = handed_by x.report.outcome x.after x.report.searches l old in (h.0, h.1, (x.links, x.lent))
 
   refusal-clamp : update_refusal base (clamped_of l) links B.pairs (sizes_of links B) o ≡ update_refusal base (record_of l) links B.pairs (sizes_of links B) o
   unfolding update_refusal lent_faults clamped_of record_of
@@ -75,9 +75,13 @@ module _ (l links : List ℕ) (B : Lent) (o : Update) (old : ℕ) where
     called : gives (update_left got links' B') ≡ update_out l links B o old
     called = ap gives (left ∙ ap (λ (x : Record). update_call base x links B o) read) ∙ call_clamp ∙ out_whole h
 
-    pub update_done : {r n : ℕ} {l' : List ℕ} → handed r l' n ≡ handed_by got.report.outcome got l old → updated_out r l' n links' B' ≡ update_out l links B o old
-    update_done e = ap (λ (x : Handed). record { handed = x; links = links'; lent = B' }) e ∙ called
+    pub update_done : {r n : ℕ} {l' : List ℕ}
+        → ◌≡◌ {A = ℕ × (List ℕ × ℕ)} (r, (l', n)) (handed_by got.report.outcome got.after got.report.searches l old)
+        → ◌≡◌ {A = ℕ × (List ℕ × ℕ) × (List ℕ × Lent)} (r, (l', n), (links', B')) (update_out l links B o old)
+    update_done e = ap (λ (h : ℕ × (List ℕ × ℕ)). (h.0, h.1, (links', B'))) e ∙ called
 
 -- the tables of a room stand where they were lent
-pub update_lent : {r n : ℕ} {l' links' : List ℕ} {B' B'' : Lent} {y : UpdateOut} → updated_out r l' n links' B' ≡ y → B'' ≡ B' → updated_out r l' n links' B'' ≡ y
-update_lent {r} {n} {l'} {links'} e q = ap (λ (T : Lent). updated_out r l' n links' T) q ∙ e
+pub update_lent : {r n : ℕ} {l' links' : List ℕ} {B' B'' : Lent} {y : ℕ × (List ℕ × ℕ) × (List ℕ × Lent)}
+    → ◌≡◌ {A = ℕ × (List ℕ × ℕ) × (List ℕ × Lent)} (r, (l', n), (links', B')) y → B'' ≡ B'
+    → ◌≡◌ {A = ℕ × (List ℕ × ℕ) × (List ℕ × Lent)} (r, (l', n), (links', B'')) y
+update_lent {r} {n} {l'} {links'} e q = ap (λ (T : Lent). (r, (l', n), (links', T))) q ∙ e

@@ -1,7 +1,7 @@
 // The call on openings in a batch.
 ghost use Rattle.std.specs.Prelude.{◌≡◌};
 ghost use Rattle.map.specs.Slices.{lent_before, lent_after};
-ghost use Rattle.c_updates.specs.BatchOuts.{batch_out, batched_out};
+ghost use Rattle.c_updates.specs.BatchOuts.{batch_out};
 
 use map::Room;
 use outcome::Refusal;
@@ -25,7 +25,7 @@ pub extern "C" fn zorpedi_open_batch(
     ensures { let before = lent_before pairs hops bounds skips even odd in
         let after = lent_after pairs hops bounds skips even odd in
         let asked = lines.now in
-        batched_out result words.new count.new links.new after left.new
+        (result, (words.new, count.new), (links.new, after, left.new))
         ≡ batch_out words.old links.old before left.old count.old asked }
 {
     if words.len() < c_values::RECORD_WORDS {

@@ -5,7 +5,7 @@ ghost use Rattle.graph.specs.Updates.{opens, joins};
 ghost use Rattle.graph.specs.Opening.{notice_of};
 ghost use Rattle.step.specs.Asks.{update_of};
 ghost use Rattle.c_values.specs.Words.{record_words};
-ghost use Rattle.c_updates.specs.UpdateOuts.{handed, handed_by, update_out, updated_out};
+ghost use Rattle.c_updates.specs.UpdateOuts.{handed_by, update_out};
 
 use admission::Link;
 use map::Room;
@@ -18,7 +18,9 @@ use update::Returned;
 #[tactic(auto, unfolding(crate::specs::UpdateOuts::handed_by))]
 fn hand_over(words: &mut [u64], searches: &mut u16, got: Returned) -> u8
     requires { record_words ≤ length words.old }
-    ensures { handed result words.new searches.new ≡ handed_by got.report.outcome got words.old searches.old }
+    ensures { let report = got.report in
+        (result, (words.new, searches.new))
+        ≡ handed_by report.outcome got.after report.searches words.old searches.old }
 {
     let report = got.report;
     let outcome = report.outcome;
@@ -44,7 +46,7 @@ fn change(
     ensures same { IsSameRoom room.old room.new }
     ensures left { let before = lent_in room.old in
         let after = lent_in room.new in
-        updated_out result words.new searches.new links.new after
+        (result, (words.new, searches.new), (links.new, after))
         ≡ update_out words.old links.old before (update_of asked.entry) searches.old }
 {
     if words.len() < c_values::RECORD_WORDS {
@@ -73,7 +75,7 @@ pub extern "C" fn zorpedi_open(
     ensures { let before = lent_before pairs hops bounds skips even odd in
         let after = lent_after pairs hops bounds skips even odd in
         let asked = opens (notice_of false code neighbours.now) in
-        updated_out result words.new searches.new links.new after
+        (result, (words.new, searches.new), (links.new, after))
         ≡ update_out words.old links.old before asked searches.old }
 {
     let mut room = Room {
@@ -112,7 +114,7 @@ pub extern "C" fn zorpedi_open_yard(
     ensures { let before = lent_before pairs hops bounds skips even odd in
         let after = lent_after pairs hops bounds skips even odd in
         let asked = opens (notice_of true code neighbours.now) in
-        updated_out result words.new searches.new links.new after
+        (result, (words.new, searches.new), (links.new, after))
         ≡ update_out words.old links.old before asked searches.old }
 {
     let mut room = Room {
@@ -150,7 +152,7 @@ pub extern "C" fn zorpedi_link(
     ensures { let before = lent_before pairs hops bounds skips even odd in
         let after = lent_after pairs hops bounds skips even odd in
         let asked = joins first second in
-        updated_out result words.new searches.new links.new after
+        (result, (words.new, searches.new), (links.new, after))
         ≡ update_out words.old links.old before asked searches.old }
 {
     let mut room = Room {

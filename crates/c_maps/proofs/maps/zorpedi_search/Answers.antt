@@ -8,10 +8,10 @@ use Rattle.c_maps.proofs.maps.zorpedi_search.Goals as goal
 pub returns-in-Ok : goal.returns-in-Ok
 unfolding search_from
 returns-in-Ok c =
-    search_called _ _ _ _ _ _ c.if-words-lt-RECORD_WORDS.false c.record_of-rec.ensures c.in-Ok.ensures.left (search (rules, same_tables))
+    search_called _ _ _ _ _ c.if-words-lt-RECORD_WORDS.false c.record_of-rec.ensures c.in-Ok.ensures.left (search (rules, same_tables))
 
 pub returns-in-Err : goal.returns-in-Err
 unfolding search_from
 returns-in-Err c =
-    rw c.number-in-Err.ensures (search_called _ _ _ _ _ _ c.if-words-lt-RECORD_WORDS.false
+    rw c.number-in-Err.ensures (search_called _ _ _ _ _ c.if-words-lt-RECORD_WORDS.false
     c.record_of-rec.ensures c.in-Err.ensures.left (search (rules, same_tables)))

@@ -8,10 +8,10 @@ use Rattle.c_maps.proofs.near.zorpedi_nearest.Goals as goal
 pub returns-in-Ok : goal.returns-in-Ok
 unfolding closest_from
 returns-in-Ok c =
-    nearest_called _ _ _ _ _ _ _ c.if-words-lt-RECORD_WORDS.false c.record_of-rec.ensures c.in-Ok.ensures.left (search (rules, same_tables))
+    nearest_called _ _ _ _ _ _ c.if-words-lt-RECORD_WORDS.false c.record_of-rec.ensures c.in-Ok.ensures.left (search (rules, same_tables))
 
 pub returns-in-Err : goal.returns-in-Err
 unfolding closest_from
 returns-in-Err c =
-    rw c.number-in-Err.ensures (nearest_called _ _ _ _ _ _ _ c.if-words-lt-RECORD_WORDS.false
+    rw c.number-in-Err.ensures (nearest_called _ _ _ _ _ _ c.if-words-lt-RECORD_WORDS.false
     c.record_of-rec.ensures c.in-Err.ensures.left (search (rules, same_tables)))
