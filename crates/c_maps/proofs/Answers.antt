@@ -11,7 +11,11 @@ use Rattle.map.specs.Room.{Tables, Lent, sizes_of, long_enough}
 use Rattle.map.specs.Memory.{base}
 use Rattle.map.specs.Empty.{EmptyLeft, empty_refusal, empty_given, empty_call}
 use Rattle.map.specs.declared.Record.{Record}
-use Rattle.search.specs.SearchCall.{Found, SearchLeft, search_left, search_sizes, search_refusal, search_given, search_call}
+use Rattle.std.specs.Prelude.{Result}
+use Rattle.outcome.specs.Answers.{numbered, Left, leaves}
+use Rattle.outcome.proofs.Answers.{unless_same}
+use Rattle.search.specs.declared.Reach.{Reach}
+use Rattle.search.specs.SearchCall.{search_sizes, search_refusal, search_call}
 use Rattle.reckon.specs.ReckonCall.{Reckoned, ReckonLeft, reckon_left, reckon_refusal, figured_by, reckon_given, reckon_call}
 use Rattle.reckon.proofs.Reckons.{granted_tests}
 use Rattle.c_values.specs.Words.{record_words, record_of, words_of, clamped_of}
@@ -46,26 +50,24 @@ module _ (l links pairs : List ℕ) where
 -- ---- the search
 
 module _ (l links : List ℕ) (B : Tables) (old : ℕ × ℕ) (code : ℕ) where
-  abbrev found : SearchLeft → ℕ × (ℕ × ℕ) × Tables
+  abbrev found : Left Reach Tables → ℕ × (ℕ × ℕ) × Tables
   found x = search_from x.answer old x.lent
 
   -- a number that is too large is spoilt, as the largest one is; the figures do not matter
   search_clamp : search_call base (clamped_of l) links B code ≡ search_call base (record_of l) links B code
-  unfolding search_call search_given search_refusal clamped_of record_of
+  unfolding search_call search_refusal clamped_of record_of
   search_clamp =
-      go _ _ (links_first_clamp l links (long_enough base (search_sizes base (length links) (length B.hops) (length B.even) (length B.odd)))
-      ((not ((network_in l links).is_open code), 4) ∷ []))
-    where
-      go : (j k : ℕ) → j ≡ k → search_given j base (clamped_of l) links B code ≡ search_given k base (record_of l) links B code
-      go j zero e = ap (λ (x : ℕ). search_given x base (clamped_of l) links B code) e
-      go j (suc k) e = ap (λ (x : ℕ). search_given x base (clamped_of l) links B code) e
+      unless_same _
+      (ap numbered (links_first_clamp l links (long_enough base (search_sizes base (length links) (length B.hops) (length B.even) (length B.odd)))
+      ((not ((network_in l links).is_open code), 4) ∷ [])))
+      refl
 
   search_whole : record_words ≤ length l → found (search_call base (record_of l) links B code) ≡ search_out l links B old code
   unfolding search_out
   search_whole h = rw (le-ltb (length l) record_words h)
 
-  pub search_called : record_words ≤ length l → {rec : Record} → rec ≡ clamped_of l → {got : Found} {B' B'' : Tables}
-      → search_left got B' ≡ search_call base rec links B code → B'' ≡ B' → search_from got old B'' ≡ search_out l links B old code
+  pub search_called : record_words ≤ length l → {rec : Record} → rec ≡ clamped_of l → {got : Result Reach ℕ} {B' B'' : Tables}
+      → leaves got B' ≡ search_call base rec links B code → B'' ≡ B' → search_from got old B'' ≡ search_out l links B old code
   search_called h read {got} e q =
       ap (λ (T : Tables). search_from got old T) q
       ∙ ap found (e ∙ ap (λ (x : Record). search_call base x links B code) read ∙ search_clamp)

@@ -1,8 +1,8 @@
 -- WHAT THE CALLS ON DEPOTS NEAR ONE LEAVE, way out by way out. Assumes nothing.
-use mathlib.Core.Path.{◌≡◌, ap, ◌∙◌}
+use mathlib.Core.Path.{◌≡◌, refl, ap, ◌∙◌}
 use mathlib.Core.Bool.{not, ◌&&◌}
 use mathlib.Core.List.{List, [], ◌∷◌}
-use Prim.Native.Nat.{ℕ, zero, suc, ◌≤◌}
+use Prim.Native.Nat.{ℕ, ◌≤◌}
 use lib.Dec.{leb}
 use lib.ListN.{length}
 use borrow.Author.Tests.{le-ltb}
@@ -11,8 +11,12 @@ use Rattle.map.specs.Room.{Tables, long_enough}
 use Rattle.map.specs.Memory.{base, places}
 use Rattle.map.specs.declared.Record.{Record}
 use Rattle.search.specs.SearchCall.{search_sizes}
-use Rattle.nearby.specs.WithinCall.{within_refusal, Listing, WithinLeft, within_left, within_given, within_call}
-use Rattle.nearby.specs.NearestCall.{nearest_refusal, Closest, NearestLeft, nearest_left, nearest_given, nearest_call}
+use Rattle.std.specs.Prelude.{Result}
+use Rattle.outcome.specs.Answers.{numbered, Left, leaves}
+use Rattle.outcome.proofs.Answers.{unless_same}
+use Rattle.nearby.specs.declared.NearestDepot.{NearestDepot}
+use Rattle.nearby.specs.WithinCall.{within_refusal, within_call}
+use Rattle.nearby.specs.NearestCall.{nearest_refusal, nearest_call}
 use Rattle.c_values.specs.Words.{record_words, record_of, clamped_of}
 use Rattle.c_values.proofs.Clamps.{network_in, links_first_clamp}
 use Rattle.c_maps.specs.Nears.{within_from, within_out, closest_from, nearest_out}
@@ -20,28 +24,26 @@ use Rattle.c_maps.specs.Nears.{within_from, within_out, closest_from, nearest_ou
 -- ---- the depots within k handovers
 
 module _ (l links : List ℕ) (B : Tables) (codes : List ℕ) (old code k : ℕ) where
-  abbrev listing_out : WithinLeft → ℕ × ℕ × (Tables × List ℕ)
-  listing_out x = within_from x.answer old (x.lent, x.codes)
+  abbrev listing_out : Left ℕ (Tables × List ℕ) → ℕ × ℕ × (Tables × List ℕ)
+  listing_out x = within_from x.answer old x.lent
 
   -- a number that is too large is spoilt, as the largest one is; the figures do not matter
   within_clamp_out : within_call base (clamped_of l) links B codes code k ≡ within_call base (record_of l) links B codes code k
-  unfolding within_call within_given within_refusal clamped_of record_of
+  unfolding within_call within_refusal clamped_of record_of
   within_clamp_out =
-      go _ _ (links_first_clamp l links
+      unless_same _
+      (ap numbered (links_first_clamp l links
       (long_enough base (search_sizes base (length links) (length B.hops) (length B.even) (length B.odd)) && leb (places base) (length codes))
-      ((not ((network_in l links).is_open code), 4) ∷ []))
-    where
-      go : (i j : ℕ) → i ≡ j → within_given i base (clamped_of l) links B codes code k ≡ within_given j base (record_of l) links B codes code k
-      go i zero e = ap (λ (x : ℕ). within_given x base (clamped_of l) links B codes code k) e
-      go i (suc j) e = ap (λ (x : ℕ). within_given x base (clamped_of l) links B codes code k) e
+      ((not ((network_in l links).is_open code), 4) ∷ [])))
+      refl
 
   within_whole_out : record_words ≤ length l → listing_out (within_call base (record_of l) links B codes code k) ≡ within_out l links B codes old code k
   unfolding within_out
   within_whole_out h = rw (le-ltb (length l) record_words h)
 
   -- whatever the call that it wraps answered
-  pub within_called : record_words ≤ length l → {rec : Record} → rec ≡ clamped_of l → {got : Listing} {B' B'' : Tables} {codes' : List ℕ}
-      → within_left got B' codes' ≡ within_call base rec links B codes code k → B'' ≡ B' → within_from got old (B'', codes') ≡ within_out l links B codes old code k
+  pub within_called : record_words ≤ length l → {rec : Record} → rec ≡ clamped_of l → {got : Result ℕ ℕ} {B' B'' : Tables} {codes' : List ℕ}
+      → leaves got (B', codes') ≡ within_call base rec links B codes code k → B'' ≡ B' → within_from got old (B'', codes') ≡ within_out l links B codes old code k
   within_called h read {got} {codes' = codes'} e q =
       ap (λ (T : Tables). within_from got old (T, codes')) q
       ∙ ap listing_out (e ∙ ap (λ (x : Record). within_call base x links B codes code k) read ∙ within_clamp_out)
@@ -50,25 +52,23 @@ module _ (l links : List ℕ) (B : Tables) (codes : List ℕ) (old code k : ℕ)
 -- ---- the nearest depot of a list
 
 module _ (l links : List ℕ) (B : Tables) (old : ℕ × ℕ) (code : ℕ) (listed : List ℕ) where
-  abbrev choice_out : NearestLeft → ℕ × (ℕ × ℕ) × Tables
+  abbrev choice_out : Left NearestDepot Tables → ℕ × (ℕ × ℕ) × Tables
   choice_out x = closest_from x.answer old x.lent
 
   nearest_clamp_out : nearest_call base (clamped_of l) links B code listed ≡ nearest_call base (record_of l) links B code listed
-  unfolding nearest_call nearest_given nearest_refusal clamped_of record_of
+  unfolding nearest_call nearest_refusal clamped_of record_of
   nearest_clamp_out =
-      go _ _ (links_first_clamp l links (long_enough base (search_sizes base (length links) (length B.hops) (length B.even) (length B.odd)))
-      ((not ((network_in l links).is_open code), 4) ∷ (not (anyb (network_in l links).is_open listed), 10) ∷ []))
-    where
-      go : (i j : ℕ) → i ≡ j → nearest_given i base (clamped_of l) links B code listed ≡ nearest_given j base (record_of l) links B code listed
-      go i zero e = ap (λ (x : ℕ). nearest_given x base (clamped_of l) links B code listed) e
-      go i (suc j) e = ap (λ (x : ℕ). nearest_given x base (clamped_of l) links B code listed) e
+      unless_same _
+      (ap numbered (links_first_clamp l links (long_enough base (search_sizes base (length links) (length B.hops) (length B.even) (length B.odd)))
+      ((not ((network_in l links).is_open code), 4) ∷ (not (anyb (network_in l links).is_open listed), 10) ∷ [])))
+      refl
 
   nearest_whole_out : record_words ≤ length l → choice_out (nearest_call base (record_of l) links B code listed) ≡ nearest_out l links B old code listed
   unfolding nearest_out
   nearest_whole_out h = rw (le-ltb (length l) record_words h)
 
-  pub nearest_called : record_words ≤ length l → {rec : Record} → rec ≡ clamped_of l → {got : Closest} {B' B'' : Tables}
-      → nearest_left got B' ≡ nearest_call base rec links B code listed → B'' ≡ B'
+  pub nearest_called : record_words ≤ length l → {rec : Record} → rec ≡ clamped_of l → {got : Result NearestDepot ℕ} {B' B'' : Tables}
+      → leaves got B' ≡ nearest_call base rec links B code listed → B'' ≡ B'
       → closest_from got old B'' ≡ nearest_out l links B old code listed
   nearest_called h read {got} e q =
       ap (λ (T : Tables). closest_from got old T) q

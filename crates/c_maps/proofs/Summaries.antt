@@ -1,8 +1,8 @@
 -- WHAT THE CALL OF THE NETWORK REPORT LEAVES, way out by way out. Assumes nothing.
-use mathlib.Core.Path.{◌≡◌, ap, ◌∙◌}
+use mathlib.Core.Path.{◌≡◌, refl, ap, ◌∙◌}
 use mathlib.Core.Bool.{◌&&◌}
 use mathlib.Core.List.{List, [], ◌∷◌}
-use Prim.Native.Nat.{ℕ, zero, suc, ◌≤◌}
+use Prim.Native.Nat.{ℕ, ◌≤◌}
 use lib.Dec.{leb, ltb}
 use lib.ListN.{length}
 use borrow.Author.Tests.{le-ltb}
@@ -13,34 +13,36 @@ use Rattle.map.specs.Room.{Tables, long_enough}
 use Rattle.map.specs.Memory.{base, places}
 use Rattle.map.specs.declared.Record.{Record}
 use Rattle.search.specs.SearchCall.{search_sizes}
-use Rattle.summary.specs.SummaryCall.{summary_refusal, Summing, SummaryLeft, summary_left, summary_given, summary_call}
+use Rattle.std.specs.Prelude.{Result}
+use Rattle.outcome.specs.Answers.{numbered, Left, leaves}
+use Rattle.outcome.proofs.Answers.{unless_same}
+use Rattle.summary.specs.declared.Summary.{Summary}
+use Rattle.summary.specs.SummaryCall.{summary_refusal, summary_call}
 use Rattle.c_values.specs.Words.{record_words, record_of, clamped_of}
 use Rattle.c_values.proofs.Clamps.{network_in, links_first_clamp}
 use Rattle.c_maps.specs.Summaries.{SummaryOut, summary_from, summary_out}
 
 module _ (l links : List ℕ) (B : Tables) (counts : List ℕ) (old : ℕ × ℕ × ℕ × ℕ) where
-  abbrev report_out : SummaryLeft → SummaryOut
-  report_out x = summary_from x.answer old (x.lent, x.counts)
+  abbrev report_out : Left Summary (Tables × List ℕ) → SummaryOut
+  report_out x = summary_from x.answer old x.lent
 
   -- a number that is too large is spoilt, as the largest one is; the figures do not matter
   summary_clamp_out : summary_call base (clamped_of l) links B counts ≡ summary_call base (record_of l) links B counts
-  unfolding summary_call summary_given summary_refusal clamped_of record_of
+  unfolding summary_call summary_refusal clamped_of record_of
   summary_clamp_out =
-      go _ _ (links_first_clamp l links
+      unless_same _
+      (ap numbered (links_first_clamp l links
       (long_enough base (search_sizes base (length links) (length B.hops) (length B.even) (length B.odd)) && leb (places base) (length counts))
-      ((ltb (countb (delivers (network_in l links)) (vertices (network_in l links))) 2, 15) ∷ []))
-    where
-      go : (i j : ℕ) → i ≡ j → summary_given i base (clamped_of l) links B counts ≡ summary_given j base (record_of l) links B counts
-      go i zero e = ap (λ (x : ℕ). summary_given x base (clamped_of l) links B counts) e
-      go i (suc j) e = ap (λ (x : ℕ). summary_given x base (clamped_of l) links B counts) e
+      ((ltb (countb (delivers (network_in l links)) (vertices (network_in l links))) 2, 15) ∷ [])))
+      refl
 
   summary_whole_out : record_words ≤ length l → report_out (summary_call base (record_of l) links B counts) ≡ summary_out l links B counts old
   unfolding summary_out
   summary_whole_out h = rw (le-ltb (length l) record_words h)
 
   -- whatever the call that it wraps answered
-  pub summary_called : record_words ≤ length l → {rec : Record} → rec ≡ clamped_of l → {got : Summing} {B' B'' : Tables} {counts' : List ℕ}
-      → summary_left got B' counts' ≡ summary_call base rec links B counts → B'' ≡ B' → summary_from got old (B'', counts') ≡ summary_out l links B counts old
+  pub summary_called : record_words ≤ length l → {rec : Record} → rec ≡ clamped_of l → {got : Result Summary ℕ} {B' B'' : Tables} {counts' : List ℕ}
+      → leaves got (B', counts') ≡ summary_call base rec links B counts → B'' ≡ B' → summary_from got old (B'', counts') ≡ summary_out l links B counts old
   summary_called h read {got} {counts' = counts'} e q =
       ap (λ (T : Tables). summary_from got old (T, counts')) q
       ∙ ap report_out (e ∙ ap (λ (x : Record). summary_call base x links B counts) read ∙ summary_clamp_out)

@@ -1,12 +1,13 @@
 -- EMPTYING, THE SEARCH AND THE WHOLE RECKONING for other languages. Each is the call that it wraps, on
 -- the record in the lent words: the answer's number, the lent values, and the rest of what is lent. A
 -- refused one changes nothing. Assumes nothing.
-use Rattle.std.specs.Prelude.{List, ℕ, nat_lt, if◌then◌else◌, length}
+use Rattle.std.specs.Prelude.{List, ℕ, nat_lt, if◌then◌else◌, length, Result, Ok, Err}
 use Rattle.lists.specs.Lists.{overwrite}
 use Rattle.map.specs.Room.{Tables, Lent}
 use Rattle.map.specs.Memory.{base}
 use Rattle.map.specs.Empty.{Emptying, Done, Refused as NoEmptying, EmptyLeft, empty_call}
-use Rattle.search.specs.SearchCall.{Found, Reached, Refused as NoSearch, search_call}
+use Rattle.search.specs.declared.Reach.{Reach}
+use Rattle.search.specs.SearchCall.{search_call}
 use Rattle.reckon.specs.ReckonCall.{Reckoning, Searches, Refused as NoReckoning, ReckonLeft, reckon_call}
 use Rattle.outcome.specs.Numbers.{short_buffer}
 use Rattle.c_values.specs.Words.{record_words, record_of, words_of}
@@ -25,9 +26,9 @@ empty_out words links pairs =
 
 -- ---- the search: the eccentricity and the distance of the last layer, and its tables
 
-unfoldable pub search_from : Found → ℕ × ℕ → Tables → ℕ × (ℕ × ℕ) × Tables
-search_from (Reached e d) old B = (0, (e, d), B)
-search_from (NoSearch k) old B = (k, old, B)
+unfoldable pub search_from : Result Reach ℕ → ℕ × ℕ → Tables → ℕ × (ℕ × ℕ) × Tables
+search_from (Ok r) old B = (0, (r.ecc, r.depth), B)
+search_from (Err k) old B = (k, old, B)
 
 unfoldable pub search_out : List ℕ → List ℕ → Tables → ℕ × ℕ → ℕ → ℕ × (ℕ × ℕ) × Tables
 search_out words links B old code =

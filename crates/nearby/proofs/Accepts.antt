@@ -9,11 +9,12 @@ use lib.Dec.{leb}
 use lib.ListN.{length, get_or}
 use borrow.Author.Tests.{le-leb, lt-leb}
 use Rattle.std.proofs.lemmas.Bool.{cases_Bool}
-use Rattle.std.specs.Prelude.{Option, Some, None, Err}
+use Rattle.std.proofs.lemmas.Option.{none-some}
+use Rattle.std.specs.Prelude.{Option, Some, None, Result, Ok, Err}
 use Rattle.std.specs.Option.{ok_or}
 use Rattle.std.specs.Result.{is_ok}
 use Rattle.outcome.specs.Numbers.{nobody_open}
-use Rattle.outcome.specs.Refusals.{number_of, refused_by}
+use Rattle.outcome.specs.Refusals.{number_of}
 use Rattle.outcome.specs.declared.Refusal.{Refusal}
 use Rattle.outcome.specs.declared.Refusal.TheVariants.{Nobody}
 use Rattle.lists.specs.Lists.{range, filterb, anyb, allb, first_of}
@@ -33,8 +34,10 @@ use Rattle.lent_map.specs.Faults.{lent_faults}
 use Rattle.search.specs.SearchCall.{search_refusal, search_sizes}
 use Rattle.search.proofs.Accepts.{granted, search_is}
 use Rattle.nearby.specs.Steps.{CodesListed, codes_listed, list_over, FirstListed}
-use Rattle.nearby.specs.WithinCall.{within_refusal, Listed, Refused as RefusedListing, within_left, within_given, within_call}
-use Rattle.nearby.specs.NearestCall.{nearest_refusal, At, Refused as RefusedClosest, nearest_left, nearest_given, nearest_call}
+use Rattle.nearby.specs.WithinCall.{within_refusal, within_call}
+use Rattle.nearby.specs.NearestCall.{nearest_refusal, nearest_depot, nearest_call}
+use Rattle.outcome.specs.Answers.{answer_of, refusal_in, numbered, leaves, unless}
+use Rattle.outcome.proofs.Answers.{none_is, some_is, refused_leaves, done_leaves}
 use Rattle.nearby.proofs.Choosing.{nearest_whole}
 
 -- whether a list has an element that passes, from those that do
@@ -56,22 +59,22 @@ listed_below W members listed first rest e =
 
 -- a list without a first open code, as the code asks for it
 pub nobody_listed : (open_codes : List ℕ) (first : Option ℕ) {k : Refusal} → Err k ≡ ok_or first Nobody → FirstListed open_codes first
-    → (number_of k ≡ nobody_open) × (open_codes ≡ [])
-nobody_listed open_codes None e f = (ap refused_by e, f)
+    → (Some (number_of k) ≡ Some nobody_open) × (open_codes ≡ [])
+nobody_listed open_codes None e f = (ap (λ (x : Result ℕ Refusal). refusal_in (answer_of x)) e, f)
 nobody_listed open_codes (Some v) e f = absurd (clash refl (ap is_ok (sym e)))
 
 module _ (K : Shape) (rec : Record) (links : List ℕ) (B : Tables) (code : ℕ) where
   abbrev G : Network
   G = map_network K rec links
 
-  abbrev search_refused : ℕ
+  abbrev search_refused : Option ℕ
   search_refused = search_refusal K rec links (length B.hops) (length B.even) (length B.odd) code
 
   -- ---- the refusals of a listing: the places for the codes, then those of a search
 
   module _ (codes : List ℕ) where
-    pub within_short : length codes < places K → 1 ≡ within_refusal K rec links B codes code
-    unfolding within_refusal lent_faults first_of
+    pub within_short : length codes < places K → Some 1 ≡ within_refusal K rec links B codes code
+    unfolding within_refusal lent_faults first_of numbered
     within_short l = rw (lt-leb (places K) (length codes) l, none (long_enough K (search_sizes K (length links) (length B.hops) (length B.even) (length B.odd))))
       where
         none : (b : Bool) → (b && false) ≡ false
@@ -82,46 +85,38 @@ module _ (K : Shape) (rec : Record) (links : List ℕ) (B : Tables) (code : ℕ)
     unfolding within_refusal search_refusal
     within_as_search l = rw (le-leb (places K) (length codes) l, and-with-true)
 
-    pub within_refused : (k : ℕ) {r : ℕ} → r ≡ within_refusal K rec links B codes code → (r ≡ 0 → ⊥) → within_left (RefusedListing r) B codes ≡ within_call K rec links B codes code k
-    unfolding within_call within_given
-    within_refused k {r} e n = go r n ∙ ap (λ (x : ℕ). within_given x K rec links B codes code k) e
-      where
-        go : (r : ℕ) → (r ≡ 0 → ⊥) → within_left (RefusedListing r) B codes ≡ within_given r K rec links B codes code k
-        go zero n = absurd (n refl)
-        go (suc r) n = refl
+    pub within_refused : (k : ℕ) {r : ℕ} → Some r ≡ within_refusal K rec links B codes code → leaves (Err r) (B, codes) ≡ within_call K rec links B codes code k
+    unfolding within_call
+    within_refused k e = refused_leaves (B, codes) _ e
 
   -- ---- the refusals of a choice: those of a search, then the list
 
   module _ (listed : List ℕ) where
-    pub nearest_as_search : {r : ℕ} → r ≡ search_refused → (r ≡ 0 → ⊥) → r ≡ nearest_refusal K rec links B code listed
-    unfolding nearest_refusal search_refusal lent_faults
-    nearest_as_search e n = e ∙ sym (first_kept (faults ++ (not (G.is_open code), 4) ∷ []) ((not (anyb G.is_open listed), 10) ∷ []) (λ z. n (e ∙ z)))
-      where
-        faults : List (Bool × ℕ)
-        faults = lent_faults K (long_enough K (search_sizes K (length links) (length B.hops) (length B.even) (length B.odd))) false rec links []
+    abbrev faults : List (Bool × ℕ)
+    faults = lent_faults K (long_enough K (search_sizes K (length links) (length B.hops) (length B.even) (length B.odd))) false rec links [] ++ (not (G.is_open code), 4) ∷ []
 
-    pub nearest_by_list : search_refused ≡ 0 → first_of ((not (anyb G.is_open listed), 10) ∷ []) ≡ nearest_refusal K rec links B code listed
+    abbrev last : List (Bool × ℕ)
+    last = (not (anyb G.is_open listed), 10) ∷ []
+
+    pub nearest_as_search : {r : ℕ} → Some r ≡ search_refused → Some r ≡ nearest_refusal K rec links B code listed
+    unfolding nearest_refusal search_refusal lent_faults numbered
+    nearest_as_search {r} e = e ∙ ap numbered (sym (first_kept faults last (λ z. none-some r (sym (ap numbered z) ∙ sym e))))
+
+    pub nearest_by_list : None ≡ search_refused → numbered (first_of last) ≡ nearest_refusal K rec links B code listed
     unfolding nearest_refusal search_refusal lent_faults allb
-    nearest_by_list z = sym (first_passed (faults ++ (not (G.is_open code), 4) ∷ []) ((not (anyb G.is_open listed), 10) ∷ []) refl z)
-      where
-        faults : List (Bool × ℕ)
-        faults = lent_faults K (long_enough K (search_sizes K (length links) (length B.hops) (length B.even) (length B.odd))) false rec links []
+    nearest_by_list z = ap numbered (sym (first_passed faults last refl (none_is (first_of faults) z)))
 
-    pub nearest_nobody : search_refused ≡ 0 → filterb G.is_open listed ≡ [] → 10 ≡ nearest_refusal K rec links B code listed
-    unfolding first_of
+    pub nearest_nobody : None ≡ search_refused → filterb G.is_open listed ≡ [] → Some 10 ≡ nearest_refusal K rec links B code listed
+    unfolding first_of numbered
     nearest_nobody z e = rw (any_by G.is_open listed e) at (nearest_by_list z)
 
-    pub nearest_somebody : (first : ℕ) (rest : List ℕ) → search_refused ≡ 0 → filterb G.is_open listed ≡ first ∷ rest → 0 ≡ nearest_refusal K rec links B code listed
-    unfolding first_of
+    pub nearest_somebody : (first : ℕ) (rest : List ℕ) → None ≡ search_refused → filterb G.is_open listed ≡ first ∷ rest → None ≡ nearest_refusal K rec links B code listed
+    unfolding first_of numbered
     nearest_somebody first rest z e = rw (any_of G.is_open listed first rest e) at (nearest_by_list z)
 
-    pub nearest_refused : {r : ℕ} → r ≡ nearest_refusal K rec links B code listed → (r ≡ 0 → ⊥) → nearest_left (RefusedClosest r) B ≡ nearest_call K rec links B code listed
-    unfolding nearest_call nearest_given
-    nearest_refused {r} e n = go r n ∙ ap (λ (x : ℕ). nearest_given x K rec links B code listed) e
-      where
-        go : (r : ℕ) → (r ≡ 0 → ⊥) → nearest_left (RefusedClosest r) B ≡ nearest_given r K rec links B code listed
-        go zero n = absurd (n refl)
-        go (suc r) n = refl
+    pub nearest_refused : {r : ℕ} → Some r ≡ nearest_refusal K rec links B code listed → leaves (Err r) B ≡ nearest_call K rec links B code listed
+    unfolding nearest_call
+    nearest_refused e = refused_leaves B _ e
 
 -- ---- what accepted calls leave
 
@@ -129,10 +124,10 @@ module _ (K : Shape) (shape : IsShape K) (rec : Record) (links : List ℕ) (B : 
   abbrev N : Network
   N = map_network K rec links
 
-  abbrev refusal : ℕ
+  abbrev refusal : Option ℕ
   refusal = search_refusal K rec links (length B.hops) (length B.even) (length B.odd) code
 
-  module _ (z : refusal ≡ 0) {e : ℕ} {hops even odd : List ℕ} (is : searched e (tables hops even odd) ≡ search_table K.words links code B) where
+  module _ (z : None ≡ refusal) {e : ℕ} {hops even odd : List ℕ} (is : searched e (tables hops even odd) ≡ search_table K.words links code B) where
     left : tables hops even odd ≡ search_leaves K.words N code B
     left =
         let g = granted K rec links (length B.hops) (length B.even) (length B.odd) code shape z in
@@ -145,25 +140,25 @@ module _ (K : Shape) (shape : IsShape K) (rec : Record) (links : List ℕ) (B : 
 
     pub within_accepted : (codes : List ℕ) (k : ℕ) {codes' : List ℕ} {count : ℕ} → places K ≤ length codes
         → codes_listed count codes' ≡ list_over (filterb (λ v. leb (get_or hops v 0) k) (vertices (network_of K.words rec.members []))) codes
-        → within_left (Listed count) (tables hops even odd) codes' ≡ within_call K rec links B codes code k
-    unfolding within_call within_given within_list list_over network_of
+        → leaves (Ok count) (tables hops even odd, codes') ≡ within_call K rec links B codes code k
+    unfolding within_call within_list list_over network_of
     within_accepted codes k {codes'} {count} room wrote =
         let listed : filterb (λ v. leb (get_or hops v 0) k) (vertices N) ≡ within_list N code k =
         filter-ext (λ v. leb (get_or hops v 0) k) (λ v. leb (dist N code v) k) (vertices N)
         (λ v m. ap (λ (d : ℕ). leb d k) (hop_is v (range_out (places K) (filter_out (row_bit K.words rec.members) (range (places K)) m).0))) in
         let all : codes_listed count codes' ≡ list_over (within_list N code k) codes = wrote ∙ ap (λ (l : List ℕ). list_over l codes) listed in
-        ap₂ (λ (c : CodesListed) (t : Tables). within_left (Listed c.count) t c.codes) all left
-        ∙ ap (λ (x : ℕ). within_given x K rec links B codes code k) (sym z ∙ within_as_search K rec links B code codes room)
+        ap₂ (λ (c : CodesListed) (t : Tables). leaves (Ok c.count) (t, c.codes)) all left
+        ∙ done_leaves (B, codes) _ (z ∙ within_as_search K rec links B code codes room)
 
     pub nearest_accepted : (listed : List ℕ) {first found : ℕ} (rest : List ℕ) → filterb (row_bit K.words rec.members) listed ≡ first ∷ rest
         → found ≡ nearest_from (λ u. get_or hops u 0) first (filterb (row_bit K.words rec.members) listed) → found < places K
-        → nearest_left (At found (get_or hops found 0)) (tables hops even odd) ≡ nearest_call K rec links B code listed
-    unfolding nearest_call nearest_given nearest_listed network_of
+        → leaves (Ok (nearest_depot found (get_or hops found 0))) (tables hops even odd) ≡ nearest_call K rec links B code listed
+    unfolding nearest_call nearest_listed network_of
     nearest_accepted listed {first} {found} rest some chosen low =
         let v : found ≡ nearest_listed N code listed =
         chosen ∙ nearest_whole (λ u. get_or hops u 0) (dist N code) (filterb N.is_open listed) first rest some
         (λ w m. hop_is w (network_open_below K.words rec.members links w (true→t (filter_out N.is_open listed m).1))) in
         let d : get_or hops found 0 ≡ dist N code (nearest_listed N code listed) = hop_is found low ∙ ap (dist N code) v in
-        ap₂ (λ (u x : ℕ). nearest_left (At u x) (tables hops even odd)) v d
-        ∙ ap (nearest_left (At (nearest_listed N code listed) (dist N code (nearest_listed N code listed)))) left
-        ∙ ap (λ (x : ℕ). nearest_given x K rec links B code listed) (nearest_somebody K rec links B code listed first rest z some)
+        ap₂ (λ (u x : ℕ). leaves (Ok (nearest_depot u x)) (tables hops even odd)) v d
+        ∙ ap (leaves (Ok (nearest_depot (nearest_listed N code listed) (dist N code (nearest_listed N code listed))))) left
+        ∙ done_leaves B _ (nearest_somebody K rec links B code listed first rest z some)

@@ -3,8 +3,8 @@
 -- Assumes nothing.
 use Rattle.std.specs.Prelude.{false, ℕ, T, length}
 use mathlib.Core.List.{List, [], ◌∷◌, ◌++◌, Memᴰ}
-use Rattle.lists.specs.Conditions.{Refuses}
 use Rattle.outcome.specs.Numbers.{absent_code, nobody_open}
+use Rattle.outcome.specs.Answers.{Left, Refuses}
 use Rattle.graph.specs.Network.{Network}
 use Rattle.graph.specs.Refusals.{IsAbsent}
 use Rattle.map.specs.Memory.{Shape, places, map_network}
@@ -12,8 +12,7 @@ use Rattle.map.specs.Room.{Tables}
 use Rattle.map.specs.declared.Record.{Record}
 use Rattle.lent_map.specs.Faults.{lent_conditions}
 use Rattle.search.specs.Refusals.{search_buffers, search_conditions}
-use Rattle.nearby.specs.WithinCall.{Refused as RefusedListing, WithinLeft, within_left, listing_number}
-use Rattle.nearby.specs.NearestCall.{Refused as RefusedClosest, NearestLeft, nearest_left, closest_number}
+use Rattle.nearby.specs.declared.NearestDepot.{NearestDepot}
 
 -- ---- the depots within k handovers
 
@@ -25,14 +24,10 @@ within_conditions K rec links B codes code =
     ∷ []
 
 -- Of a program whose call is `step`: refused with the first that holds, and then nothing changes
-abbrev pub WithinRefuses : Shape → (Record → List ℕ → Tables → List ℕ → ℕ → ℕ → WithinLeft) → Type 0
+abbrev pub WithinRefuses : Shape → (Record → List ℕ → Tables → List ℕ → ℕ → ℕ → Left ℕ (Tables × List ℕ)) → Type 0
 WithinRefuses K step =
     (rec : Record) (links : List ℕ) (B : Tables) (codes : List ℕ) (code k : ℕ)
-    → Refuses
-    (within_conditions K rec links B codes code)
-    (listing_number (step rec links B codes code k).answer)
-    (λ r. within_left (RefusedListing r) B codes)
-    (step rec links B codes code k)
+    → Refuses (within_conditions K rec links B codes code) (B, codes) (step rec links B codes code k)
 
 -- ---- the nearest depot of a list
 
@@ -42,13 +37,10 @@ IsNobody G listed = (v : ℕ) → Memᴰ v listed → T (G.is_open v) → ⊥
 
 -- those of a search (1 short, 2 spoilt, 3 apart, 4 absent), then 10 nobody
 abbrev pub nearest_conditions : Shape → Record → List ℕ → Tables → ℕ → List ℕ → List (Type 0 × ℕ)
-nearest_conditions K rec links B code listed = search_conditions K rec links B code ++ (IsNobody (map_network K rec links) listed, nobody_open) ∷ []
+nearest_conditions K rec links B code listed =
+    search_conditions K rec links B code ++ (IsNobody (map_network K rec links) listed, nobody_open) ∷ []
 
-abbrev pub NearestRefuses : Shape → (Record → List ℕ → Tables → ℕ → List ℕ → NearestLeft) → Type 0
+abbrev pub NearestRefuses : Shape → (Record → List ℕ → Tables → ℕ → List ℕ → Left NearestDepot Tables) → Type 0
 NearestRefuses K step =
     (rec : Record) (links : List ℕ) (B : Tables) (code : ℕ) (listed : List ℕ)
-    → Refuses
-    (nearest_conditions K rec links B code listed)
-    (closest_number (step rec links B code listed).answer)
-    (λ r. nearest_left (RefusedClosest r) B)
-    (step rec links B code listed)
+    → Refuses (nearest_conditions K rec links B code listed) B (step rec links B code listed)

@@ -4,14 +4,15 @@
 
 ghost use Rattle.std.specs.Prelude.{[], ◌≡◌, ◌<◌, ◌≤◌, leb, length, get_or};
 ghost use Rattle.lists.specs.Lists.{filterb};
+ghost use Rattle.outcome.specs.Answers.{answer_of, leaves};
 ghost use Rattle.graph.specs.Distance.{vertices};
 ghost use Rattle.graph.specs.Nearby.{nearer_of, nearest_from};
 ghost use Rattle.rows.specs.Rows.{row_bit};
 ghost use Rattle.map.specs.Slices.{tables_in, IsSameScratch};
 ghost use Rattle.map.specs.Memory.{base, places, network_of};
 ghost use Rattle.nearby.specs.Steps.{codes_listed, list_more, list_over, FirstListed};
-ghost use Rattle.nearby.specs.WithinCall.{listing_of, within_left, within_call};
-ghost use Rattle.nearby.specs.NearestCall.{closest_of, nearest_left, nearest_call};
+ghost use Rattle.nearby.specs.WithinCall.{within_call};
+ghost use Rattle.nearby.specs.NearestCall.{nearest_call};
 
 use map::{Record, Scratch};
 use outcome::Refusal;
@@ -58,7 +59,7 @@ pub fn within(
 ) -> Result<u16, Refusal>
     ensures same { IsSameScratch scratch.old scratch.new }
     ensures left { let call = within_call base rec links.now (tables_in scratch.old) codes.old code k in
-        within_left (listing_of result) (tables_in scratch.new) codes.new ≡ call }
+        leaves (answer_of result) (tables_in scratch.new, codes.new) ≡ call }
 {
     if codes.len() < map::PLACES {
         return Err(Refusal::Short);
@@ -143,7 +144,7 @@ pub fn nearest(
 ) -> Result<NearestDepot, Refusal>
     ensures same { IsSameScratch scratch.old scratch.new }
     ensures left { let call = nearest_call base rec links.now (tables_in scratch.old) code listed.now in
-        nearest_left (closest_of result) (tables_in scratch.new) ≡ call }
+        leaves (answer_of result) (tables_in scratch.new) ≡ call }
 {
     search::search_refusal(
         rec,

@@ -4,3 +4,5 @@ pub mod Outcome
 pub mod Numbers
 -- The number of each refusal, and of what a test answers.
 pub mod Refusals
+-- The answer of a call, one scheme for every call.
+pub mod Answers

@@ -12,7 +12,7 @@ use Rattle.graph.specs.Correct.{IsCovered, IsSkipped}
 use Rattle.rows.specs.Rows.{table_bit}
 use Rattle.map.specs.Memory.{Shape, places, table_words, map_network}
 use Rattle.map.specs.declared.Record.{Record}
-use Rattle.search.specs.SearchCall.{search_left, Reached}
+use Rattle.search.specs.declared.Reach.{Reach}
 use Rattle.search.specs.Correct.{KeepsPast, IsSearch}
 use Rattle.map.specs.Room.{Lent, sizes_of}
 use Rattle.reckon.specs.ReckonCall.{reckon_refusal, ReckonLeft, reckoning_number, searches_of, Searches, Refused}
@@ -40,7 +40,7 @@ pub record IsReckoning (K : Shape) (G : Network) (rec : Record) (B : Lent) (refe
   pub closed : (v : ℕ) → v < places K → (T (G.is_open v) → ⊥) → (get_or left.lent.skips v 0 ≡ K.other_mark) × (get_or left.lent.bounds v 0 ≡ unreached)
   -- hop table and layer rows hold what the last search left there, and are unchanged without a search
   pub searched : (r : ℕ) (rs : List ℕ) → references ≡ r ∷ rs
-      → (e : ℕ) × (d : ℕ) × IsSearch K G (last_or r rs) B.searched (search_left (Reached e d) left.lent.searched)
+      → (s : Reach) × IsSearch K G (last_or r rs) B.searched s left.lent.searched
   pub unsearched : references ≡ [] → left.lent.searched ≡ B.searched
   -- what stands past the named sizes stays
   pub pairs_kept : KeepsPast (table_words K) B.pairs left.lent.pairs

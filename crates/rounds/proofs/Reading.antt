@@ -26,7 +26,8 @@ use Rattle.rows.proofs.Written.{table_within}
 use Rattle.map.specs.Memory.{Shape, IsShape, places}
 use Rattle.map.specs.Room.{Lent, sizes_of, AreLong}
 use Rattle.layers.specs.Layers.{depth_from}
-use Rattle.search.specs.SearchCall.{search_left, Reached}
+use Rattle.search.specs.declared.Reach.{Reach}
+use Rattle.search.specs.SearchCall.{reach}
 use Rattle.search.specs.Correct.{IsSearch}
 use Rattle.search.proofs.Theorems.{leaves_search}
 use Rattle.rounds.specs.Leaves.{search_after}
@@ -153,11 +154,11 @@ last_in r (s ∷ rs) = Memᴰ.tail (last_in s rs)
 
 pub last_search : (K : Shape) (G : Network) → IsNet G → ((v : ℕ) → T (G.is_open v) → v < places K) → (S : State) → AreReferences G S → (links : List ℕ) (B : Lent) → AreLong K (sizes_of links B)
     → (r : ℕ) (rs : List ℕ) → S.references ≡ r ∷ rs
-    → (e : ℕ) × (d : ℕ) × IsSearch K G (last_or r rs) B.searched (search_left (Reached e d) (search_after K.words G S.references B.searched))
+    → (s : Reach) × IsSearch K G (last_or r rs) B.searched s (search_after K.words G S.references B.searched)
 unfolding search_after sizes_of
 last_search K G net below S references links B long r rs q =
     let s = last_or r rs in
     let m : T (memb s S.references) = true→t (ap (memb s) q ∙ in_memb s (r ∷ rs) (last_in r rs)) in
-    let found = Reached (ecc (chart G) s) (depth_from G s) in
+    let found = reach (ecc (chart G) s) (depth_from G s) in
     let left = leaves_search K G net below s (references.inside s m) B.searched long.hops long.even long.odd in
-    (ecc (chart G) s, depth_from G s, subst (λ (l : List ℕ). IsSearch K G s B.searched (search_left found (search_after K.words G l B.searched))) (sym q) left)
+    (found, subst (λ (l : List ℕ). IsSearch K G s B.searched found (search_after K.words G l B.searched)) (sym q) left)

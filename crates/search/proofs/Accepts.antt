@@ -23,7 +23,13 @@ use Rattle.map.specs.Memory.{Shape, places, IsShape, network_of, yard_network, m
 use Rattle.map.specs.declared.Record.{Record}
 use Rattle.map.proofs.Theorems.{network_open_below}
 use Rattle.outcome.specs.Numbers.{absent_code}
-use Rattle.search.specs.SearchCall.{search_sizes, search_refusal, search_left, search_given, search_call, last_layer, Reached, Refused}
+use Rattle.std.specs.Prelude.{Option, Some, None, Ok, Err}
+use Rattle.outcome.specs.Answers.{numbered, leaves, unless}
+use Rattle.outcome.specs.Refusals.{number_of}
+use Rattle.outcome.specs.declared.Refusal.{Refusal}
+use Rattle.outcome.proofs.Answers.{none_is, number_is, refused_leaves, done_leaves}
+use Rattle.outcome.proofs.Numbering.{refuses}
+use Rattle.search.specs.SearchCall.{search_sizes, search_refusal, reach, search_call, last_layer}
 use Rattle.map.proofs.Longs.{are_long_lem}
 use Rattle.lent_map.specs.Faults.{lent_refusal}
 use Rattle.lent_map.proofs.Passes.{lent_first, lent_then, lent-passed, passed_net}
@@ -47,10 +53,10 @@ module _ (K : Shape) (rec : Record) (links : List ℕ) (hops even odd code : ℕ
   abbrev absent : List (Bool × ℕ)
   absent = (not ((map_network K rec links).is_open code), absent_code) ∷ []
 
-  pub granted : IsShape K → search_refusal K rec links hops even odd code ≡ 0 → IsGranted K rec links hops even odd code
+  pub granted : IsShape K → None ≡ search_refusal K rec links hops even odd code → IsGranted K rec links hops even odd code
   unfolding search_refusal
   granted shape z =
-      let p = lent-passed K long false rec links [] absent z in
+      let p = lent-passed K long false rec links [] absent (none_is _ z) in
       record {
         long = are_long_lem K (search_sizes K (length links) hops even odd) p.whole;
         net = passed_net K long false rec links [] absent shape p;
@@ -62,20 +68,24 @@ module _ (K : Shape) (rec : Record) (links : List ℕ) (hops even odd code : ℕ
   lent_is : {k : ℕ} {b : Bool} → b ≡ long → k ≡ lent_refusal K b false rec links [] → k ≡ lent_refusal K long false rec links []
   lent_is q e = e ∙ ap (λ (b : Bool). lent_refusal K b false rec links []) q
 
-  pub refused_map : {k : ℕ} {b : Bool} → b ≡ long → k ≡ lent_refusal K b false rec links [] → (k ≡ 0 → ⊥) → k ≡ search_refusal K rec links hops even odd code
+  pub refused_map : (k : Refusal) {b : Bool} → b ≡ long → number_of k ≡ lent_refusal K b false rec links []
+      → Some (number_of k) ≡ search_refusal K rec links hops even odd code
   unfolding search_refusal
-  refused_map q e n = lent_first K long false rec links [] absent (lent_is q e) n
+  refused_map k q e = number_is k (lent_first K long false rec links [] absent (lent_is q e) (refuses k))
 
-  passed : {k : ℕ} {b : Bool} → b ≡ long → k ≡ lent_refusal K b false rec links [] → k ≡ 0 → first_of absent ≡ search_refusal K rec links hops even odd code
+  passed : {k : ℕ} {b : Bool} → b ≡ long → k ≡ lent_refusal K b false rec links [] → k ≡ 0
+      → numbered (first_of absent) ≡ search_refusal K rec links hops even odd code
   unfolding search_refusal
-  passed q e z = lent_then K long false rec links [] absent (sym z ∙ lent_is q e)
+  passed q e z = ap numbered (lent_then K long false rec links [] absent (sym z ∙ lent_is q e))
 
-  pub refused_absent : {k : ℕ} {b : Bool} → b ≡ long → k ≡ lent_refusal K b false rec links [] → k ≡ 0 → G.is_open code ≡ false → absent_code ≡ search_refusal K rec links hops even odd code
-  unfolding first_of
+  pub refused_absent : {k : ℕ} {b : Bool} → b ≡ long → k ≡ lent_refusal K b false rec links [] → k ≡ 0 → G.is_open code ≡ false
+      → Some absent_code ≡ search_refusal K rec links hops even odd code
+  unfolding first_of numbered
   refused_absent q e z d = rw d at (passed q e z)
 
-  pub refused_never : {k : ℕ} {b : Bool} → b ≡ long → k ≡ lent_refusal K b false rec links [] → k ≡ 0 → G.is_open code ≡ true → 0 ≡ search_refusal K rec links hops even odd code
-  unfolding first_of
+  pub refused_never : {k : ℕ} {b : Bool} → b ≡ long → k ≡ lent_refusal K b false rec links [] → k ≡ 0 → G.is_open code ≡ true
+      → None ≡ search_refusal K rec links hops even odd code
+  unfolding first_of numbered
   refused_never q e z d = rw d at (passed q e z)
 
 -- ---- the search over a map's link table is the network's
@@ -111,30 +121,27 @@ module _ (K : Shape) (shape : IsShape K) (rec : Record) (links : List ℕ) (B : 
   abbrev N : Network
   N = map_network K rec links
 
-  pub refused_call : (k : ℕ) → k ≡ search_refusal K rec links (length B.hops) (length B.even) (length B.odd) code → (k ≡ 0 → ⊥) → search_left (Refused k) B ≡ search_call K rec links B code
-  unfolding search_call search_given
-  refused_call k e n = go k e n ∙ ap (λ (x : ℕ). search_given x K rec links B code) e
-    where
-      go : (k : ℕ) → k ≡ search_refusal K rec links (length B.hops) (length B.even) (length B.odd) code → (k ≡ 0 → ⊥) → search_left (Refused k) B ≡ search_given k K rec links B code
-      go zero e n = absurd (n refl)
-      go (suc k) e n = refl
+  pub refused_call : (k : ℕ) → Some k ≡ search_refusal K rec links (length B.hops) (length B.even) (length B.odd) code
+      → leaves (Err k) B ≡ search_call K rec links B code
+  unfolding search_call
+  refused_call k e = refused_leaves B _ e
 
   -- an accepted call goes by the row of the depots that deliver
-  pub accepted_call : 0 ≡ search_refusal K rec links (length B.hops) (length B.even) (length B.odd) code
+  pub accepted_call : None ≡ search_refusal K rec links (length B.hops) (length B.even) (length B.odd) code
       → {row : List ℕ} → row ≡ overwrite (encode_row K.words (delivers (map_network K rec []))) rec.members
       → {e d : ℕ} {hops even odd : List ℕ}
       → (searched d (tables hops even odd) ≡ search_table K.words links code B)
       × (e ≡ max_of (dist (table_network K.words links) code) (vertices (network_of K.words row [])))
-      → search_left (Reached e d) (tables hops even odd) ≡ search_call K rec links B code
-  unfolding search_call search_given
+      → leaves (Ok (reach e d)) (tables hops even odd) ≡ search_call K rec links B code
+  unfolding search_call
   accepted_call z {row} kept {e} {d} {hops} {even} {odd} is =
-      let g = granted K rec links (length B.hops) (length B.even) (length B.odd) code shape (sym z) in
+      let g = granted K rec links (length B.hops) (length B.even) (length B.odd) code shape z in
       let found = search_is K shape rec.members rec.yards links g.net code (true→t g.present) B d (tables hops even odd) is.0 in
       let far : e ≡ ecc (chart N) code =
       is.1 ∙ ecc_over K.words (few K shape) rec.members rec.yards links g.net code (true→t g.present) kept in
-      ap (λ (x : ℕ). search_left (Reached x d) (tables hops even odd)) far
-      ∙ ap₂ (λ (x : ℕ) (t : Tables). search_left (Reached (ecc (chart N) code) x) t) found.0 found.1
-      ∙ ap (λ (x : ℕ). search_given x K rec links B code) z
+      ap (λ (x : ℕ). leaves (Ok (reach x d)) (tables hops even odd)) far
+      ∙ ap₂ (λ (x : ℕ) (t : Tables). leaves (Ok (reach (ecc (chart N) code) x)) t) found.0 found.1
+      ∙ done_leaves B _ z
 
 -- ---- the row handed back, by the parity
 

@@ -13,7 +13,10 @@ use borrow.Author.Tests.{eqb-false, eq-eqb, ne_eqb}
 use Rattle.std.proofs.lemmas.Bool.{cases_Bool, cases_lt}
 use Rattle.lists.specs.Lists.{range, allb, mapl, overwrite}
 use Rattle.lists.proofs.Tests.{true→t, false→not}
-use Rattle.lists.proofs.Conditions.{all_fit, Tells, decides_test, decides_not, decides_short, refuses_by}
+use Rattle.lists.proofs.Conditions.{all_fit, Tells, decides_test, decides_not, decides_short}
+use Rattle.outcome.specs.Answers.{Left, leaves, unless}
+use Rattle.outcome.proofs.Answers.{done_leaves, refuses_by}
+use Rattle.std.specs.Prelude.{None, Ok}
 use Rattle.lists.proofs.Fills.{length_fill, overwrite_length, fill_at}
 use Rattle.graph.specs.Network.{Network, IsDist}
 use Rattle.graph.specs.Distance.{unreached, dist}
@@ -30,13 +33,15 @@ use Rattle.map.specs.Room.{Tables, long_enough}
 use Rattle.layers.proofs.Theorems.{depth_is, depth_low, layer_is_lem}
 use Rattle.map.specs.Memory.{Shape, places, IsShape, map_network, table_words}
 use Rattle.map.proofs.Theorems.{network_open_below}
-use Rattle.search.specs.SearchCall.{search_refusal, SearchLeft, search_left, search_given, search_call, last_layer, search_number, Reached, search_sizes}
+use Rattle.search.specs.SearchCall.{search_refusal, reach, search_call, last_layer, search_sizes}
 use Rattle.search.specs.Refusals.{search_buffers, search_conditions, SearchRefuses}
 use Rattle.search.specs.Correct.{HoldsLayer, HoldsBefore, KeepsPast, IsSearch, SearchCorrect}
 use Rattle.outcome.specs.Numbers.{absent_code}
 use Rattle.search.proofs.Reaches.{part_is}
 use Rattle.search.proofs.Accepts.{granted}
+use Rattle.lent_map.specs.Faults.{lent_faults}
 use Rattle.lent_map.proofs.Refuses.{lent_tells}
+use Rattle.search.specs.declared.Reach.{Reach}
 use native.Mathlib.Nat.{le_refl}
 use borrow.Author.Tests.{le-leb}
 
@@ -49,7 +54,7 @@ unfolding long_enough allb
 room_is K links B = simp (le-leb (table_words K) (table_words K) (le_refl (table_words K)), le-leb (places K) (places K) (le_refl (places K)), and_assoc, and-with-true)
 
 pub search_refusals : (K : Shape) → IsShape K → SearchRefuses K (search_call K)
-unfolding search_call search_refusal search_given
+unfolding search_call search_refusal lent_faults allb
 search_refusals K shape rec links B code =
     let G = map_network K rec links in
     let b = G.is_open code in
@@ -58,11 +63,7 @@ search_refusals K shape rec links B code =
     refuses_by _ (search_conditions K rec links B code)
     (lent_tells K shape (long_enough K (search_sizes K (length links) (length B.hops) (length B.even) (length B.odd))) false (search_buffers K links B)
     (rw (← room_is K links B) at (decides_short (search_buffers K links B))) rec links [] test ((IsAbsent G code, absent_code) ∷ []) absent)
-    (λ k. search_given k K rec links B code) _ (λ l. search_number l.answer) numbered (λ k. refl)
-  where
-    numbered : (k : ℕ) → search_number (search_given k K rec links B code).answer ≡ k
-    numbered zero = refl
-    numbered (suc k) = refl
+    refl B _ refl
 
 -- ---- WHAT AN ACCEPTED SEARCH LEAVES
 
@@ -131,12 +132,9 @@ module _ (W : ℕ) (G : Network) (net : IsNet G) (inside : (v : ℕ) → T (G.is
 module _ (K : Shape) (G : Network) (net : IsNet G) (inside : (v : ℕ) → T (G.is_open v) → v < places K) (s : ℕ) (o : T (G.is_open s)) (B : Tables)
     (hops-fit : places K ≤ length B.hops) (even-fit : K.words ≤ length B.even) (odd-fit : K.words ≤ length B.odd) where
   -- what a search from s leaves, in any network that a map of this shape can hold
-  pub leaves_search : IsSearch K G s B (search_left (Reached (ecc (chart G) s) (depth_from G s)) (search_leaves K.words G s B))
+  pub leaves_search : IsSearch K G s B (reach (ecc (chart G) s) (depth_from G s)) (search_leaves K.words G s B)
   unfolding search_leaves
   leaves_search = record {
-    ecc = ecc (chart G) s;
-    depth = d;
-    answer = refl;
     is_ecc = eccentricity_is G net s o;
     is_depth = depth_is G net s o;
     is_hop = λ v ov. subst (λ (d : ℕ). IsDist G s v d) (sym (hop v (inside v ov))) (hop_open G net s o v ov);
@@ -168,10 +166,11 @@ module _ (K : Shape) (G : Network) (net : IsNet G) (inside : (v : ℕ) → T (G.
       before parity old q = row_before K.words G net inside s o d parity old (depth_low G net s o) q
 
 pub search_correct : (K : Shape) → IsShape K → SearchCorrect K
-unfolding search_call search_given
+unfolding search_call unless
 search_correct K shape rec links B code z =
     let G = map_network K rec links in
-    let g = granted K rec links (length B.hops) (length B.even) (length B.odd) code shape z in
-    subst (λ (left : SearchLeft). IsSearch K G code B left) (ap (λ (k : ℕ). search_given k K rec links B code) (sym z))
-    (leaves_search K G g.net (network_open_below K.words rec.members links) code (true→t g.present)
-    B g.long.hops g.long.even g.long.odd)
+    let g = granted K rec links (length B.hops) (length B.even) (length B.odd) code shape (sym z) in
+    let r = reach (ecc (chart G) code) (depth_from G code) in
+    subst (λ (left : Left Reach Tables). (r : Reach) × (left.answer ≡ Ok r) × IsSearch K G code B r left.lent)
+    (done_leaves B (leaves (Ok r) (search_leaves K.words G code B)) (sym z))
+    (r, refl, leaves_search K G g.net (network_open_below K.words rec.members links) code (true→t g.present) B g.long.hops g.long.even g.long.odd)

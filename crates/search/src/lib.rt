@@ -7,12 +7,12 @@ ghost use Rattle.lists.specs.Lists.{max_of};
 ghost use Rattle.graph.specs.Distance.{vertices, unreached, dist};
 ghost use Rattle.layers.specs.Begin.{HoldsEnds};
 ghost use Rattle.layers.specs.Layers.{searched, search_table};
-ghost use Rattle.outcome.specs.Refusals.{refused_by};
-ghost use Rattle.map.specs.Room.{AreLong};
+ghost use Rattle.outcome.specs.Answers.{answer_of, refusal_in, leaves};
+ghost use Rattle.map.specs.Room.{AreLong, tables};
 ghost use Rattle.map.specs.Slices.{tables_at, tables_in, scratch_sizes, IsSameScratch};
 ghost use Rattle.map.specs.Memory.{base, places, network_of, table_network};
 ghost use Rattle.targets.specs.Hops.{IsLastLayer};
-ghost use Rattle.search.specs.SearchCall.{search_refusal, found_of, search_left, search_call, last_layer, last_of, rows_left, rows_of};
+ghost use Rattle.search.specs.SearchCall.{search_refusal, search_call, last_layer, last_of};
 
 use map::{Lengths, Record, Scratch};
 use outcome::Refusal;
@@ -106,7 +106,7 @@ pub fn search_refusal(
     odd: usize,
     code: u8,
 ) -> Result<(), Refusal>
-    ensures { refused_by result ≡ search_refusal base rec links.now hops even odd code }
+    ensures { refusal_in (answer_of result) ≡ search_refusal base rec links.now hops even odd code }
 {
     let lengths = Lengths {
         hops,
@@ -132,7 +132,7 @@ pub fn search_from(
     code: u8,
 ) -> Result<Reach, Refusal>
     ensures same { IsSameScratch scratch.old scratch.new }
-    ensures left { search_left (found_of result) (tables_in scratch.new) ≡ search_call base rec links.now (tables_in scratch.old) code }
+    ensures left { leaves (answer_of result) (tables_in scratch.new) ≡ search_call base rec links.now (tables_in scratch.old) code }
 {
     search_refusal(
         rec,
@@ -170,7 +170,7 @@ pub struct Rows<'a> {
 
 // The part that is handed back, which of a refused call is empty.
 fn last_part<'a>(found: Result<Reach, Refusal>, even: &'a [u64], odd: &'a [u64]) -> &'a [u64]
-    ensures { result.now ≡ last_of base.words (found_of found) even.now odd.now }
+    ensures { result.now ≡ last_of base.words (answer_of found) even.now odd.now }
 {
     match found {
         Ok(reach) => last_layer(even, odd, reach.depth),
@@ -180,7 +180,6 @@ fn last_part<'a>(found: Result<Reach, Refusal>, even: &'a [u64], odd: &'a [u64])
 
 // The search with its last layer (rule 3.3): the part of the row that holds it, beside both rows, so that no word is left unsaid. Of a refused call the
 // part is empty. The three buffers are lent one by one, since the part is handed back with its lender's lifetime.
-#[tactic(auto, unfolding(crate::specs::SearchCall::rows_of))]
 pub fn search_rows<'a>(
     rec: Record,
     links: &[u64],
@@ -189,8 +188,11 @@ pub fn search_rows<'a>(
     odd: &'a mut [u64],
     code: u8,
 ) -> Rows<'a>
-    ensures { let left = search_call base rec links.now (tables_at hops.entry even.entry odd.entry) code in
-        rows_left (found_of result.found) hops.new result.last.now result.even.now result.odd.now ≡ rows_of base.words left }
+    ensures left { let left = tables hops.new result.even.now result.odd.now in
+        leaves (answer_of result.found) left
+        ≡ search_call base rec links.now (tables_at hops.entry even.entry odd.entry) code }
+    ensures last { let found = answer_of result.found in
+        result.last.now ≡ last_of base.words found result.even.now result.odd.now }
 {
     let mut scratch = Scratch {
         hops: &mut *hops,

@@ -11,7 +11,8 @@ use Rattle.decimal.specs.Placed.{Placed}
 use Rattle.decimal.proofs.Decimals.{decimal_long, decimal_byte}
 use Rattle.decimal.proofs.Places.{placed_byte, placed_join}
 use Rattle.decimal.proofs.Numbers.{field-length}
-use Rattle.summary.specs.SummaryCall.{Summed, Refused}
+use Rattle.std.specs.Prelude.{Ok, Err}
+use Rattle.summary.specs.declared.Summary.{Summary}
 use Rattle.summaries.specs.Run.{summing_text}
 use Rattle.line_buffer.specs.Lines.{pasted}
 
@@ -23,14 +24,14 @@ field_most n h = omega (arith, field-length (decimal n), decimal_long n h)
 -- what is known of the lengths that a line is made of
 pub ruleset widths = (decimal_long, decimal_byte, field_most, length-set)
 
-pub numbers_placed : (s p q r : ℕ) {at e₁ e₂ e₃ e₄ : ℕ} {out b₁ b₂ b₃ b₄ : List ℕ}
-    → Placed (decimal s) at out e₁ b₁ → Placed (field (decimal p)) e₁ b₁ e₂ b₂ → Placed (field (decimal q)) e₂ b₂ e₃ b₃ → Placed (field (decimal r)) e₃ b₃ e₄ b₄
-    → at ≤ length out → e₄ < length b₄ → Placed (summing_text (Summed s p q r)) at out (e₄ + 1) (set b₄ e₄ 10)
+pub numbers_placed : (x : Summary) {at e₁ e₂ e₃ e₄ : ℕ} {out b₁ b₂ b₃ b₄ : List ℕ}
+    → Placed (decimal x.sum) at out e₁ b₁ → Placed (field (decimal x.pairs)) e₁ b₁ e₂ b₂ → Placed (field (decimal x.quotient)) e₂ b₂ e₃ b₃ → Placed (field (decimal x.remainder)) e₃ b₃ e₄ b₄
+    → at ≤ length out → e₄ < length b₄ → Placed (summing_text (Ok x)) at out (e₄ + 1) (set b₄ e₄ 10)
 unfolding summing_text
-numbers_placed s p q r {e₄ = e₄} {b₄ = b₄} a b c d h l = placed_join (placed_join (placed_join (placed_join a b h) c h) d h) (placed_byte e₄ b₄ 10 l) h
+numbers_placed x {e₄ = e₄} {b₄ = b₄} a b c d h l = placed_join (placed_join (placed_join (placed_join a b h) c h) d h) (placed_byte e₄ b₄ 10 l) h
 
 pub refusal_placed : (n at : ℕ) (out : List ℕ) {end : ℕ} {new : List ℕ} → Placed (decimal n) (at + 1) (set out at 82) end new
-    → at < length out → end < length new → Placed (summing_text (Refused n)) at out (end + 1) (set new end 10)
+    → at < length out → end < length new → Placed (summing_text (Err n)) at out (end + 1) (set new end 10)
 unfolding summing_text
 refusal_placed n at out {end} {new} w h l = placed_join (placed_join (placed_byte at out 82 h) w (omega arith)) (placed_byte end new 10 l) (omega arith)
 

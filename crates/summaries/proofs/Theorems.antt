@@ -7,7 +7,7 @@ use native.Mathlib.Nat.{mul-le-mul, le_refl}
 use native.Mathlib.Omega.{arith}
 use lib.ListN.{length, take, length-append}
 use lib.Seq.{length-take-le, take-take}
-use Rattle.std.specs.Prelude.{Result, Ok, Err}
+use Rattle.std.specs.Prelude.{Option, Some, None, Result, Ok, Err}
 use Rattle.std.specs.Result.{MatchResult, IsErrAnd}
 use Rattle.outcome.specs.Refusals.{number_of}
 use Rattle.outcome.specs.declared.Refusal.{Refusal}
@@ -26,32 +26,33 @@ use Rattle.map.specs.declared.Record.{Record}
 use Rattle.map.proofs.Theorems.{base_shape, network_most}
 use Rattle.line_buffer.specs.Lines.{pasted}
 use Rattle.decimal.proofs.Decimals.{decimal_long, decimal_byte}
-use Rattle.summary.specs.SummaryCall.{summary_refusal, Summing, Summed, Refused, summing_of, SummaryLeft, summary_left, summary_given, summary_call}
+use Rattle.outcome.specs.Answers.{answer_of, Left, leaves, unless}
+use Rattle.summary.specs.SummaryCall.{summary_refusal, summary_call}
 use Rattle.summary.proofs.Accepts.{granted}
 use Rattle.summary.specs.declared.Summary.{Summary}
 use Rattle.summaries.specs.declared.Totals.{Totals}
 use Rattle.summaries.specs.Run.{room, no_totals, summing_text, with_file, totals_from, total_line, file_lines, run_text}
 use Rattle.summaries.specs.declared.FilePut.{FilePut}
-use Rattle.summaries.specs.Calls.{answered, most_pairs, most_sum, IsOfFile, AreOfFiles, FileLeft, file_left, file_call, total_call}
+use Rattle.summaries.specs.Calls.{most_pairs, most_sum, IsOfFile, AreOfFiles, FileLeft, file_left, file_call, total_call}
 use Rattle.summaries.proofs.Lines.{field_most}
 
 -- ---- ROOM
 
-pub numbers_most : (s p q r : ℕ) → s < 2 ^ 64 → p < 2 ^ 64 → q < 2 ^ 64 → r < 2 ^ 64 → length (summing_text (Summed s p q r)) ≤ room
+pub numbers_most : (x : Summary) → x.sum < 2 ^ 64 → x.pairs < 2 ^ 64 → x.quotient < 2 ^ 64 → x.remainder < 2 ^ 64 → length (summing_text (Ok x)) ≤ room
 unfolding summing_text
-numbers_most s p q r hs hp hq hr =
-    simp length-append (omega (arith, decimal_long s hs, field_most p hp, field_most q hq, field_most r hr))
+numbers_most x hs hp hq hr =
+    simp length-append (omega (arith, decimal_long x.sum hs, field_most x.pairs hp, field_most x.quotient hq, field_most x.remainder hr))
 
-pub refusal_most : (n : ℕ) → n < 2 ^ 8 → length (summing_text (Refused n)) ≤ 5
+pub refusal_most : (n : ℕ) → n < 2 ^ 8 → length (summing_text (Err n)) ≤ 5
 unfolding summing_text
 refusal_most n h = simp length-append (omega (arith, decimal_byte n h))
 
 -- ---- TOTALS OF SO MANY FILES
 
-pub more_of_files : (a : Summing) (t : Totals) → IsOfFile a → AreOfFiles t → AreOfFiles (with_file a t)
+pub more_of_files : (a : Result Summary ℕ) (t : Totals) → IsOfFile a → AreOfFiles t → AreOfFiles (with_file a t)
 unfolding with_file IsOfFile
-more_of_files (Summed s p q r) t h k = record { sum = omega (arith, h.0, k.sum); pairs = omega (arith, h.1, k.pairs) }
-more_of_files (Refused n) t h k = record { sum = omega (arith, k.sum); pairs = omega (arith, k.pairs) }
+more_of_files (Ok s) t h k = record { sum = omega (arith, h.0, k.sum); pairs = omega (arith, h.1, k.pairs) }
+more_of_files (Err n) t h k = record { sum = omega (arith, k.sum); pairs = omega (arith, k.pairs) }
 
 -- ---- THE NUMBERS OF A FILE
 
@@ -68,41 +69,41 @@ network_of_file G net most =
 
 -- whatever the memory, the call answers with the numbers of a file
 pub call_of_file : (rec : Record) (links : List ℕ) (B : Tables) (counts : List ℕ) → IsOfFile (summary_call base rec links B counts).answer
-unfolding summary_call summary_given IsOfFile
-call_of_file rec links B counts = go (summary_refusal base rec links (length B.hops) (length B.even) (length B.odd) (length counts)) refl
+unfolding summary_call unless IsOfFile
+call_of_file rec links B counts =
+    go (summary_refusal base rec links (length B.hops) (length B.even) (length B.odd) (length counts)) _
+    (λ z. network_of_file (map_network base rec links)
+    (granted base rec links (length B.hops) (length B.even) (length B.odd) (length counts) base_shape (sym z)).net
+    (network_most base.words rec.members links))
   where
-    go : (k : ℕ) → summary_refusal base rec links (length B.hops) (length B.even) (length B.odd) (length counts) ≡ k
-        → IsOfFile (summary_given k base rec links B counts).answer
-    go zero z =
-        network_of_file (map_network base rec links)
-        (granted base rec links (length B.hops) (length B.even) (length B.odd) (length counts) base_shape z).net
-        (network_most base.words rec.members links)
-    go (suc k) e = tt
+    go : (k : Option ℕ) (done : Left Summary (Tables × List ℕ)) → (k ≡ None → IsOfFile done.answer) → IsOfFile (unless k (B, counts) done).answer
+    go None done f = f refl
+    go (Some k) done f = tt
 
-answered_of_file : (rec : Record) (links : List ℕ) (B : Tables) (counts : List ℕ) {a : Summing} {B' : Tables} {counts' : List ℕ}
-    → summary_left a B' counts' ≡ summary_call base rec links B counts → IsOfFile a
-answered_of_file rec links B counts e = subst (λ (l : SummaryLeft). IsOfFile l.answer) (sym e) (call_of_file rec links B counts)
+answered_of_file : (rec : Record) (links : List ℕ) (B : Tables) (counts : List ℕ) {a : Result Summary ℕ} {B' : Tables} {counts' : List ℕ}
+    → leaves a (B', counts') ≡ summary_call base rec links B counts → IsOfFile a
+answered_of_file rec links B counts e = subst (λ (l : Left Summary (Tables × List ℕ)). IsOfFile l.answer) (sym e) (call_of_file rec links B counts)
 
 -- a report's answer with its refusal as a number, as `map_err(Refusal::number)` makes it, is the same answer
 answered_number : (r : Result Summary Refusal) (x : Result Summary ℕ) {P : Refusal → ℕ → Type 0} → MatchResult r (λ s. x ≡ Ok s) (λ k. IsErrAnd x (P k))
-    → ((k : Refusal) (n : ℕ) → P k n → n ≡ number_of k) → answered x ≡ summing_of r
-answered_number (Ok s) x h is = ap answered h
-answered_number (Err k) (Err n) h is = ap (λ (n : ℕ). Refused n) (is k n h)
+    → ((k : Refusal) (n : ℕ) → P k n → n ≡ number_of k) → x ≡ answer_of r
+answered_number (Ok s) x h is = h
+answered_number (Err k) (Err n) h is = ap Err (is k n h)
 answered_number (Err k) (Ok s) h is = absurd h
 
 pub answered_as : (rec : Record) (links : List ℕ) (B : Tables) (counts : List ℕ) (r : Result Summary Refusal) (x : Result Summary ℕ) {B' : Tables} {counts' : List ℕ}
-    {P : Refusal → ℕ → Type 0} → summary_left (summing_of r) B' counts' ≡ summary_call base rec links B counts
-    → MatchResult r (λ s. x ≡ Ok s) (λ k. IsErrAnd x (P k)) → ((k : Refusal) (n : ℕ) → P k n → n ≡ number_of k) → IsOfFile (answered x)
+    {P : Refusal → ℕ → Type 0} → leaves (answer_of r) (B', counts') ≡ summary_call base rec links B counts
+    → MatchResult r (λ s. x ≡ Ok s) (λ k. IsErrAnd x (P k)) → ((k : Refusal) (n : ℕ) → P k n → n ≡ number_of k) → IsOfFile x
 answered_as rec links B counts r x e h is = rw (answered_number r x h is) (answered_of_file rec links B counts e)
 
 -- ---- A FILE'S LINE AND ITS TOTALS
 
-more_files : (a : Summing) (t : Totals) → (with_file a t).files ≡ t.files + 1
+more_files : (a : Result Summary ℕ) (t : Totals) → (with_file a t).files ≡ t.files + 1
 unfolding with_file
-more_files (Summed s p q r) t = refl
-more_files (Refused n) t = refl
+more_files (Ok s) t = refl
+more_files (Err n) t = refl
 
-pub put_of_files : (t : Totals) (a : Summing) (at : ℕ) (out : List ℕ) {r : FilePut} {new : List ℕ} → file_left r new ≡ file_call t a at out → AreOfFiles t → IsOfFile a
+pub put_of_files : (t : Totals) (a : Result Summary ℕ) (at : ℕ) (out : List ℕ) {r : FilePut} {new : List ℕ} → file_left r new ≡ file_call t a at out → AreOfFiles t → IsOfFile a
     → AreOfFiles r.totals × (r.totals.files ≡ t.files + 1)
 unfolding file_call
 put_of_files t a at out e h k =
@@ -113,7 +114,7 @@ pasted_long : (text out : List ℕ) → 0 + length text ≤ length (pasted text 
 unfolding pasted overwrite
 pasted_long text out = simp length-append (omega arith)
 
-pub file_fits : (t : Totals) (a : Summing) (out : List ℕ) → (file_call t a 0 out).at ≤ length (file_call t a 0 out).out
+pub file_fits : (t : Totals) (a : Result Summary ℕ) (out : List ℕ) → (file_call t a 0 out).at ≤ length (file_call t a 0 out).out
 unfolding file_call
 file_fits t a out = pasted_long (summing_text a) out
 

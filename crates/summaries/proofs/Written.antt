@@ -28,7 +28,11 @@ use Rattle.transcript.specs.Manner.{as_reports}
 use Rattle.stream.specs.Pieces.{Standing, stands_told}
 use Rattle.stream.proofs.Runs.{pasted_read}
 use Rattle.stream.proofs.Theorems.{IsMapOf, pieces_network}
-use Rattle.summary.specs.SummaryCall.{summary_refusal, Summing, Summed, Refused, summary_given, summary_call}
+use Rattle.std.specs.Prelude.{Result, Ok, Err}
+use Rattle.outcome.specs.Answers.{numbered, Left, unless}
+use Rattle.map.specs.Room.{Tables}
+use Rattle.summary.specs.declared.Summary.{Summary}
+use Rattle.summary.specs.SummaryCall.{summary_refusal, summary_call}
 use Rattle.summaries.specs.declared.Totals.{Totals}
 use Rattle.summaries.specs.Run.{files_limit, no_totals, summing_of, summing_text, file_line, with_file, totals_from, total_line, file_lines, run_text}
 use Rattle.summaries.specs.Calls.{file_call, total_call}
@@ -53,7 +57,7 @@ module _ (G : Network) (s : Standing) (is : IsMapOf G s) (counts : List ℕ) (ro
 
   -- nothing refuses it but too few depots
   refusal_is : summary_refusal base s.progress.rec s.links (length s.lent.searched.hops) (length s.lent.searched.even) (length s.lent.searched.odd) (length counts)
-      ≡ cond few too_few 0
+      ≡ numbered (cond few too_few 0)
   unfolding summary_refusal lent_faults first_of
   refusal_is =
       let sound = figures_are_sound_lem base base_shape G is.is_held in
@@ -64,11 +68,10 @@ module _ (G : Network) (s : Standing) (is : IsMapOf G s) (counts : List ℕ) (ro
         connected_pass base base_shape G is.is_held (diameter G) (farthest G) sound s.progress.rec s.links s.lent.pairs is.is_said,
       )
 
-  given_is : (b : Bool) → (summary_given (cond b too_few 0) base s.progress.rec s.links s.lent.searched counts).answer
-      ≡ (let sum = distance_sum (chart M) in let pairs = pair_number (chart M) in cond b (Refused too_few) (Summed sum pairs (sum / pairs) (sum % pairs)))
-  unfolding summary_given
-  given_is true = refl
-  given_is false = refl
+  given_is : (b : Bool) (old : Tables × List ℕ) (done : Left Summary (Tables × List ℕ)) → (unless (numbered (cond b too_few 0)) old done).answer ≡ cond b (Err too_few) done.answer
+  unfolding unless numbered
+  given_is true old done = refl
+  given_is false old done = refl
 
   number_is : length (destinations (chart M)) ≡ countb (delivers M) (vertices M)
   unfolding destinations chart
@@ -76,7 +79,7 @@ module _ (G : Network) (s : Standing) (is : IsMapOf G s) (counts : List ℕ) (ro
 
   summing_is : (summary_call base s.progress.rec s.links s.lent.searched counts).answer ≡ summing_of M
   unfolding summary_call summing_of
-  summing_is = rw (refusal_is, number_is) (given_is few)
+  summing_is = rw (refusal_is, number_is) (given_is few _ _)
 
   pub map_summed : (summary_call base s.progress.rec s.links s.lent.searched counts).answer ≡ summing_of G
   map_summed = summing_is ∙ ap summing_of is.is_said.network
@@ -107,7 +110,7 @@ written_more : (t : Totals) (f : File) (fs : List File) (out : List ℕ) (bs : L
 unfolding written_from file_call file_lines totals_from file_line
 written_more t f fs out bs is rest =
     ap₂ (λ (x y : List ℕ). x ++ y) (part_is (summing_text (answer_of f)) f.out) rest
-    ∙ ap (λ (a : Summing). summing_text a ++ text_from (with_file a t) bs) (answer_is f is)
+    ∙ ap (λ (a : Result Summary ℕ). summing_text a ++ text_from (with_file a t) bs) (answer_is f is)
     ∙ sym (append_append (file_line (bytes_of f)) (file_lines bs) (total_line (totals_from (with_file (summing_of (network_in (bytes_of f))) t) bs)))
 
 written_is : (n : ℕ) (t : Totals) (fs : List File) (out : List ℕ) → ((f : File) → Memᴰ f fs → IsBegun f)

@@ -1,18 +1,10 @@
 -- THE LINES OF A RUN in lent memory: each call whole, its answer and the bytes that it leaves. Assumes nothing.
 use Rattle.std.specs.Prelude.{List, ℕ, ◌+◌, ◌*◌, ◌≤◌, length, Result, Ok, Err}
 use Rattle.line_buffer.specs.Lines.{pasted}
-use Rattle.summary.specs.SummaryCall.{Summing, Summed, Refused}
 use Rattle.summary.specs.declared.Summary.{Summary}
 use Rattle.summaries.specs.Run.{summing_text, with_file, total_line}
 use Rattle.summaries.specs.declared.Totals.{Totals}
 use Rattle.summaries.specs.declared.FilePut.{FilePut}
-
--- ---- the answer of a file
-
--- as a call is passed it: the values of a report, or any number of eight bits
-abbrev pub answered : Result Summary ℕ → Summing
-answered (Ok s) = Summed s.sum s.pairs s.quotient s.remainder
-answered (Err n) = Refused n
 
 -- ---- how great the numbers are
 
@@ -24,9 +16,9 @@ abbrev pub most_sum : ℕ
 most_sum = 255 * 32640
 
 -- an answer with the numbers that one file can have
-unfoldable pub IsOfFile : Summing → Type 0
-IsOfFile (Summed s p q r) = (s ≤ most_sum) × (p ≤ most_pairs)
-IsOfFile (Refused n) = Unit {0}
+unfoldable pub IsOfFile : Result Summary ℕ → Type 0
+IsOfFile (Ok s) = (s.sum ≤ most_sum) × (s.pairs ≤ most_pairs)
+IsOfFile (Err n) = Unit {0}
 
 -- totals with the numbers that so many files can have
 pub record AreOfFiles (t : Totals) : Type 0 where
@@ -44,7 +36,7 @@ pub record FileLeft : Type 0 where
 abbrev pub file_left : FilePut → List ℕ → FileLeft
 file_left r out = record { at = r.at; totals = r.totals; out = out }
 
-unfoldable pub file_call : Totals → Summing → ℕ → List ℕ → FileLeft
+unfoldable pub file_call : Totals → Result Summary ℕ → ℕ → List ℕ → FileLeft
 file_call t a at out = let line = summing_text a in record { at = at + length line; totals = with_file a t; out = pasted line at out }
 
 -- what the last line leaves: the place behind it, and the bytes

@@ -1,12 +1,13 @@
 -- WHAT A RUN WRITES, by the definitions that the contracts cite, in the order of the program: each file is followed from an empty map, its report is
 -- answered, its line is written; behind the last file comes the total. `run_written_lem` (proofs/Written) says that it is `run_text` of the bytes read.
 -- Assumes nothing.
-use Rattle.std.specs.Prelude.{◌≡◌, ℕ, ◌≤◌, length, take}
+use Rattle.std.specs.Prelude.{◌≡◌, ℕ, ◌≤◌, length, take, Result}
 use mathlib.Core.List.{List, [], ◌∷◌, ◌++◌, map, Memᴰ}
 use Rattle.map.specs.Memory.{base, places}
 use Rattle.transcript.specs.Manner.{as_reports}
 use Rattle.stream.specs.Pieces.{Standing, Turn, stands_told, used_told, HasBegun}
-use Rattle.summary.specs.SummaryCall.{Summing, summary_call}
+use Rattle.summary.specs.declared.Summary.{Summary}
+use Rattle.summary.specs.SummaryCall.{summary_call}
 use Rattle.summaries.specs.Run.{files_limit, no_totals, run_text}
 use Rattle.summaries.specs.Calls.{file_call, total_call}
 use Rattle.summaries.specs.declared.Totals.{Totals}
@@ -28,7 +29,7 @@ abbrev pub bytes_of : File → List ℕ
 bytes_of f = used_told as_reports f.begun f.turns
 
 -- the report of the map that they leave
-unfoldable pub answer_of : File → Summing
+unfoldable pub answer_of : File → Result Summary ℕ
 answer_of f = let s = stands_told as_reports f.begun f.turns in (summary_call base s.progress.rec s.links s.lent.searched f.counts).answer
 
 -- the lines of files and of the total, each as the part of its buffer that is written

@@ -2,11 +2,10 @@
 
 #![tactic(auto)]
 
-ghost use Rattle.std.specs.Prelude.{◌≡◌, ◌+◌, ◌-◌, ◌≤◌, ◌<◌, min, length, Ok};
+ghost use Rattle.std.specs.Prelude.{◌≡◌, ◌+◌, ◌-◌, ◌≤◌, ◌<◌, min, length, Ok, Err};
 ghost use Rattle.decimal.specs.Placed.{Placed};
-ghost use Rattle.summary.specs.SummaryCall.{Refused};
 ghost use Rattle.summaries.specs.Run.{room, files_limit, summing_text, with_file, total_of};
-ghost use Rattle.summaries.specs.Calls.{answered, IsOfFile, AreOfFiles, file_left, file_call, total_left, total_call};
+ghost use Rattle.summaries.specs.Calls.{IsOfFile, AreOfFiles, file_left, file_call, total_left, total_call};
 
 use summary::Summary;
 
@@ -45,7 +44,7 @@ pub fn files_read(arguments: usize) -> u32
 #[tactic(auto, using(crate::proofs::Lines::widths))]
 fn put_numbers(out: &mut [u8], at: usize, numbers: Summary) -> usize
     requires { at + room ≤ length out.old }
-    ensures { Placed (summing_text (answered (Ok numbers))) at out.old result out.new }
+    ensures { Placed (summing_text (Ok numbers)) at out.old result out.new }
 {
     let a = decimal::put_number(out, at, numbers.sum);
     let b = decimal::put_field(out, a, numbers.pairs);
@@ -59,7 +58,7 @@ fn put_numbers(out: &mut [u8], at: usize, numbers: Summary) -> usize
 #[tactic(auto, using(crate::proofs::Lines::widths))]
 fn put_refusal(out: &mut [u8], at: usize, n: u8) -> usize
     requires { at + room ≤ length out.old }
-    ensures { Placed (summing_text (Refused n)) at out.old result out.new }
+    ensures { Placed (summing_text (Err n)) at out.old result out.new }
 {
     out[at] = b'R';
     let end = decimal::put_number(out, at + 1, n as u64);
@@ -70,7 +69,7 @@ fn put_refusal(out: &mut [u8], at: usize, n: u8) -> usize
 // Puts the line of an answer at a place.
 fn put_answer(out: &mut [u8], at: usize, answer: Result<Summary, u8>) -> usize
     requires { at + room ≤ length out.old }
-    ensures { Placed (summing_text (answered answer)) at out.old result out.new }
+    ensures { Placed (summing_text answer) at out.old result out.new }
 {
     match answer {
         Ok(numbers) => put_numbers(out, at, numbers),
@@ -83,8 +82,8 @@ fn put_answer(out: &mut [u8], at: usize, answer: Result<Summary, u8>) -> usize
 // The totals with one file more. A refused map adds nothing.
 #[tactic(auto, unfolding(crate::specs::Run::with_file, crate::specs::Calls::IsOfFile))]
 fn with_file(totals: Totals, answer: Result<Summary, u8>) -> Totals
-    requires { AreOfFiles totals × IsOfFile (answered answer) × (totals.files < files_limit) }
-    ensures { result ≡ with_file (answered answer) totals }
+    requires { AreOfFiles totals × IsOfFile answer × (totals.files < files_limit) }
+    ensures { result ≡ with_file answer totals }
 {
     match answer {
         Ok(numbers) => Totals {
@@ -103,7 +102,7 @@ fn with_file(totals: Totals, answer: Result<Summary, u8>) -> Totals
 // The totals as the numbers of a report: the mean of all pairs, 0 and 0 where there are none.
 #[tactic(auto, unfolding(crate::specs::Run::total_of))]
 fn total_of(totals: Totals) -> Summary
-    ensures { answered (Ok result) ≡ total_of totals }
+    ensures { result ≡ total_of totals }
 {
     if totals.pairs == 0 {
         return Summary {
@@ -127,8 +126,8 @@ fn total_of(totals: Totals) -> Summary
 // of a `Refusal` alone: a line shows any.
 #[tactic(auto, using(crate::proofs::Lines::pasted_text), unfolding(crate::specs::Calls::file_call))]
 pub fn put_file(out: &mut [u8], at: usize, totals: Totals, answer: Result<Summary, u8>) -> FilePut
-    requires { (at + room ≤ length out.old) × AreOfFiles totals × IsOfFile (answered answer) × (totals.files < files_limit) }
-    ensures { file_left result out.new ≡ file_call totals (answered answer) at out.old }
+    requires { (at + room ≤ length out.old) × AreOfFiles totals × IsOfFile answer × (totals.files < files_limit) }
+    ensures { file_left result out.new ≡ file_call totals answer at out.old }
 {
     let next = with_file(totals, answer);
     let end = put_answer(out, at, answer);

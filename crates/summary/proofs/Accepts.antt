@@ -26,7 +26,13 @@ use Rattle.layers.specs.Layers.{search_leaves}
 use Rattle.lent_map.specs.Faults.{lent_faults, lent_refusal}
 use Rattle.lent_map.proofs.Passes.{lent_first, lent_then, lent-passed, passed_net}
 use Rattle.search.specs.SearchCall.{search_sizes}
-use Rattle.summary.specs.SummaryCall.{summary_refusal, Summed, Refused, summary_left, summary_given, summary_call}
+use Rattle.std.specs.Prelude.{Option, Some, None, Ok, Err}
+use Rattle.outcome.specs.Answers.{numbered, leaves, unless}
+use Rattle.outcome.specs.Refusals.{number_of}
+use Rattle.outcome.specs.declared.Refusal.{Refusal}
+use Rattle.outcome.proofs.Answers.{none_is, number_is as refusal_is, refused_leaves, done_leaves}
+use Rattle.outcome.proofs.Numbering.{refuses}
+use Rattle.summary.specs.SummaryCall.{summary_refusal, summed, summary_call}
 use Rattle.summary.specs.Steps.{Totalled, totalled, total_over}
 use Rattle.summary.proofs.Leaving.{number_is, total_is}
 
@@ -49,10 +55,10 @@ module _ (K : Shape) (rec : Record) (links : List ℕ) (hops even odd counts : �
   abbrev few : List (Bool × ℕ)
   few = (ltb (countb (delivers (map_network K rec links)) (vertices (map_network K rec links))) 2, too_few) ∷ []
 
-  pub granted : IsShape K → summary_refusal K rec links hops even odd counts ≡ 0 → IsGranted K rec links hops even odd counts
+  pub granted : IsShape K → None ≡ summary_refusal K rec links hops even odd counts → IsGranted K rec links hops even odd counts
   unfolding summary_refusal
   granted shape z =
-      let p = lent-passed K (long && leb (places K) counts) false rec links [] few z in
+      let p = lent-passed K (long && leb (places K) counts) false rec links [] few (none_is _ z) in
       let whole = and_parts long (leb (places K) counts) p.whole in
       let two : 2 ≤ countb (delivers G) (vertices G) = ltb-false (countb (delivers G) (vertices G)) 2 (first_zero (ltb (countb (delivers G) (vertices G)) 2) 14 [] p.others).0 in
       record {
@@ -64,8 +70,8 @@ module _ (K : Shape) (rec : Record) (links : List ℕ) (hops even odd counts : �
 
   -- ---- each refusal, by its test: the counts, those of the lent map, then the number of destinations
 
-  pub refused_counts : counts < places K → short_buffer ≡ summary_refusal K rec links hops even odd counts
-  unfolding summary_refusal lent_faults first_of
+  pub refused_counts : counts < places K → Some short_buffer ≡ summary_refusal K rec links hops even odd counts
+  unfolding summary_refusal lent_faults first_of numbered
   refused_counts l = rw (lt-leb (places K) counts l, none long)
     where
       none : (b : Bool) → (b && false) ≡ false
@@ -76,48 +82,41 @@ module _ (K : Shape) (rec : Record) (links : List ℕ) (hops even odd counts : �
       → k ≡ lent_refusal K (long && leb (places K) counts) false rec links []
   lent_is l q e = rw (le-leb (places K) counts l, and-with-true) (e ∙ ap (λ (b : Bool). lent_refusal K b false rec links []) q)
 
-  pub refused_map : {k : ℕ} {b : Bool} → places K ≤ counts → b ≡ long → k ≡ lent_refusal K b false rec links [] → (k ≡ 0 → ⊥)
-      → k ≡ summary_refusal K rec links hops even odd counts
+  pub refused_map : (k : Refusal) {b : Bool} → places K ≤ counts → b ≡ long → number_of k ≡ lent_refusal K b false rec links []
+      → Some (number_of k) ≡ summary_refusal K rec links hops even odd counts
   unfolding summary_refusal
-  refused_map l q e n = lent_first K (long && leb (places K) counts) false rec links [] few (lent_is l q e) n
+  refused_map k l q e = refusal_is k (lent_first K (long && leb (places K) counts) false rec links [] few (lent_is l q e) (refuses k))
 
-  passed : {b : Bool} → places K ≤ counts → b ≡ long → 0 ≡ lent_refusal K b false rec links [] → first_of few ≡ summary_refusal K rec links hops even odd counts
+  passed : {b : Bool} → places K ≤ counts → b ≡ long → 0 ≡ lent_refusal K b false rec links [] → numbered (first_of few) ≡ summary_refusal K rec links hops even odd counts
   unfolding summary_refusal
-  passed l q e = lent_then K (long && leb (places K) counts) false rec links [] few (lent_is l q e)
+  passed l q e = ap numbered (lent_then K (long && leb (places K) counts) false rec links [] few (lent_is l q e))
 
   -- the number is that of a row of the depots that deliver
   module _ {row : List ℕ} (kept : row ≡ overwrite (encode_row K.words (delivers (map_network K rec []))) rec.members) where
     pub refused_few : {n : ℕ} {b : Bool} → places K ≤ counts → b ≡ long → 0 ≡ lent_refusal K b false rec links []
-        → n ≡ countb (table_bit K.words row 0) (range (64 * K.words)) → n < 2 → too_few ≡ summary_refusal K rec links hops even odd counts
-    unfolding first_of
+        → n ≡ countb (table_bit K.words row 0) (range (64 * K.words)) → n < 2 → Some too_few ≡ summary_refusal K rec links hops even odd counts
+    unfolding first_of numbered
     refused_few l q e d s =
         rw (lt-ltb (countb (delivers G) (vertices G)) 2 (omega (arith, d, s, number_is K.words rec.members rec.yards links kept))) at (passed l q e)
 
     pub refused_never : {n : ℕ} {b : Bool} → places K ≤ counts → b ≡ long → 0 ≡ lent_refusal K b false rec links []
-        → n ≡ countb (table_bit K.words row 0) (range (64 * K.words)) → 2 ≤ n → 0 ≡ summary_refusal K rec links hops even odd counts
-    unfolding first_of
+        → n ≡ countb (table_bit K.words row 0) (range (64 * K.words)) → 2 ≤ n → None ≡ summary_refusal K rec links hops even odd counts
+    unfolding first_of numbered
     refused_never l q e d s =
         rw (le-ltb (countb (delivers G) (vertices G)) 2 (omega (arith, d, s, number_is K.words rec.members rec.yards links kept))) at (passed l q e)
 
 -- ---- the call
 
 module _ (K : Shape) (rec : Record) (links : List ℕ) (B : Tables) (counts : List ℕ) where
-  abbrev refusal : ℕ
-  refusal = summary_refusal K rec links (length B.hops) (length B.even) (length B.odd) (length counts)
-
   abbrev M : Network
   M = map_network K rec links
 
-  pub summary_refused : {r : ℕ} → r ≡ summary_refusal K rec links (length B.hops) (length B.even) (length B.odd) (length counts) → (r ≡ 0 → ⊥)
-      → summary_left (Refused r) B counts ≡ summary_call K rec links B counts
-  unfolding summary_call summary_given
-  summary_refused {r} e n = go r n ∙ ap (λ (x : ℕ). summary_given x K rec links B counts) e
-    where
-      go : (r : ℕ) → (r ≡ 0 → ⊥) → summary_left (Refused r) B counts ≡ summary_given r K rec links B counts
-      go zero n = absurd (n refl)
-      go (suc r) n = refl
+  pub summary_refused : {r : ℕ} → Some r ≡ summary_refusal K rec links (length B.hops) (length B.even) (length B.odd) (length counts)
+      → leaves (Err r) (B, counts) ≡ summary_call K rec links B counts
+  unfolding summary_call
+  summary_refused e = refused_leaves (B, counts) _ e
 
-  module _ (shape : IsShape K) (z : summary_refusal K rec links (length B.hops) (length B.even) (length B.odd) (length counts) ≡ 0) where
+  module _ (shape : IsShape K) (z : None ≡ summary_refusal K rec links (length B.hops) (length B.even) (length B.odd) (length counts)) where
     grants : IsGranted K rec links (length B.hops) (length B.even) (length B.odd) (length counts)
     grants = granted K rec links (length B.hops) (length B.even) (length B.odd) (length counts) shape z
 
@@ -135,11 +134,11 @@ module _ (K : Shape) (rec : Record) (links : List ℕ) (B : Tables) (counts : Li
           let e : pairs ≡ pair_number (chart M) = ap (λ (t : Totalled). t.pairs) whole in
           omega (arith, e, pairs_positive M grants.net grants.two)
 
-      pub summary_accepted : summary_left (Summed sum pairs (sum / pairs) (sum % pairs)) B' counts' ≡ summary_call K rec links B counts
-      unfolding summary_call summary_given
+      pub summary_accepted : leaves (Ok (summed sum pairs)) (B', counts') ≡ summary_call K rec links B counts
+      unfolding summary_call
       summary_accepted =
-          ap (λ (t : Totalled). summary_left (Summed t.sum t.pairs (t.sum / t.pairs) (t.sum % t.pairs)) t.lent t.counts) whole
-          ∙ ap (λ (x : ℕ). summary_given x K rec links B counts) (sym z)
+          ap (λ (t : Totalled). leaves (Ok (summed t.sum t.pairs)) (t.lent, t.counts)) whole
+          ∙ done_leaves (B, counts) _ z
 
 -- what the check is told of the refusals
 pub ruleset refused = (refused_counts, refused_map, refused_few, refused_never)

@@ -15,7 +15,10 @@ use Rattle.lists.specs.Lists.{range, filterb, countb, allb, last_or, mapl, overw
 use Rattle.lists.proofs.Tests.{t→true, true→t}
 use Rattle.lists.proofs.Members.{filter_in, filter_out}
 use Rattle.lists.proofs.Counts.{length_count}
-use Rattle.lists.proofs.Conditions.{all_fit, Tells, decides_iff, decides_short, refuses_by}
+use Rattle.lists.proofs.Conditions.{all_fit, Tells, decides_iff, decides_short}
+use Rattle.std.specs.Prelude.{None, Ok}
+use Rattle.outcome.specs.Answers.{Left, leaves, unless}
+use Rattle.outcome.proofs.Answers.{done_leaves, refuses_by}
 use Rattle.lists.proofs.Fills.{length_fill, fill_at}
 use Rattle.graph.specs.Network.{Network, delivers}
 use Rattle.graph.specs.Distance.{vertices}
@@ -31,10 +34,13 @@ use Rattle.map.specs.Room.{Tables, long_enough}
 use Rattle.map.proofs.Theorems.{network_rising, network_open_below, network_most}
 use Rattle.layers.specs.Layers.{depth_from}
 use Rattle.lent_map.proofs.Refuses.{lent_tells}
-use Rattle.search.specs.SearchCall.{search_sizes}
+use Rattle.search.specs.SearchCall.{search_sizes, reach}
+use Rattle.summary.specs.declared.Summary.{Summary}
+use Rattle.lent_map.specs.Faults.{lent_faults}
+use Rattle.layers.specs.Layers.{search_leaves}
 use Rattle.search.specs.Refusals.{search_buffers}
 use Rattle.search.proofs.Theorems.{over_keeps, leaves_search}
-use Rattle.summary.specs.SummaryCall.{summary_refusal, summary_given, summary_call, summing_number}
+use Rattle.summary.specs.SummaryCall.{summary_refusal, summed, summary_call}
 use Rattle.summary.specs.Refusals.{AreTooFew, summary_conditions, SummaryRefuses}
 use Rattle.summary.specs.Correct.{IsSummaryLeft, SummaryCorrect}
 use Rattle.summary.proofs.Accepts.{IsGranted, granted}
@@ -54,7 +60,7 @@ module _ (K : Shape) (links : List ℕ) (B : Tables) (counts : List ℕ) where
   room = simp (le-leb (table_words K) (table_words K) (le_refl (table_words K)), le-leb (places K) (places K) (le_refl (places K)), and_assoc, and-with-true)
 
 pub summary_refusals : (K : Shape) → IsShape K → SummaryRefuses K (summary_call K)
-unfolding summary_call summary_refusal summary_given
+unfolding summary_call summary_refusal lent_faults allb
 summary_refusals K shape rec links B counts =
     let G = map_network K rec links in
     let n = countb (delivers G) (vertices G) in
@@ -63,11 +69,7 @@ summary_refusals K shape rec links B counts =
     refuses_by _ (summary_conditions K rec links B counts)
     (lent_tells K shape (fits K links B counts) false (buffers K links B counts) (rw (← room K links B counts) at (decides_short (buffers K links B counts)))
     rec links [] test ((AreTooFew G, too_few) ∷ []) few)
-    (λ r. summary_given r K rec links B counts) _ (λ l. summing_number l.answer) numbered (λ r. refl)
-  where
-    numbered : (r : ℕ) → summing_number (summary_given r K rec links B counts).answer ≡ r
-    numbered zero = refl
-    numbered (suc r) = refl
+    refl (B, counts) _ refl
 
 -- ---- the last of a rising list
 
@@ -97,32 +99,35 @@ last_of (x ∷ xs) some up = (last_in x xs, last_high x xs up)
 -- ---- WHAT AN ACCEPTED REPORT ANSWERS AND LEAVES
 
 pub summary_correct : (K : Shape) → IsShape K → SummaryCorrect K
-unfolding summary_call summary_given destinations chart
+unfolding summary_call unless destinations chart
 summary_correct K shape rec links B counts z =
-    subst (IsSummaryLeft K G B counts) (ap (λ (r : ℕ). summary_given r K rec links B counts) (sym z))
-    (record {
-      sum = distance_sum (chart G);
-      pairs = pair_number (chart G);
-      quotient = distance_sum (chart G) / pair_number (chart G);
-      remainder = distance_sum (chart G) % pair_number (chart G);
-      answer = refl;
-      is_summary = summary_is G grants.net (places K) (λ e. get_or new e 0) few grants.two (λ e h. fill_at (ecc_count (chart G)) counts (places K) e 0 h);
-      most = sum_bound G grants.net (places K - 1) (omega (arith, few));
-      kept = over_keeps (places K) (mapl (ecc_count (chart G)) (range (places K))) counts (length_fill (ecc_count (chart G)) (places K)) grants.room;
-      last = last_or 0 ds;
-      is_last = (true→t is_destination, λ v t. highest.1 v (filter_in (delivers G) (vertices G) (vertices_in G grants.net.sound v (delivers_open G v t)) (t→true (delivers G v) t)));
-      ecc = ecc (chart G) (last_or 0 ds);
-      depth = depth_from G (last_or 0 ds);
-      searched =
+    subst
+    (λ (l : Left Summary (Tables × List ℕ)). (s : Summary) × (l.answer ≡ Ok s) × IsSummaryLeft K G B counts s l.lent.0 l.lent.1)
+    (done_leaves (B, counts) (leaves (Ok s) (search_leaves K.words G (last_or 0 ds) B, new)) (sym z)) (
+      s,
+      refl,
+      record {
+        is_summary = summary_is G grants.net (places K) (λ e. get_or new e 0) few grants.two (λ e h. fill_at (ecc_count (chart G)) counts (places K) e 0 h);
+        most = sum_bound G grants.net (places K - 1) (omega (arith, few));
+        kept = over_keeps (places K) (mapl (ecc_count (chart G)) (range (places K))) counts (length_fill (ecc_count (chart G)) (places K)) grants.room;
+        last = last_or 0 ds;
+        is_last = (true→t is_destination, λ v t. highest.1 v (filter_in (delivers G) (vertices G) (vertices_in G grants.net.sound v (delivers_open G v t)) (t→true (delivers G v) t)));
+        searched = (
+          reach (ecc (chart G) (last_or 0 ds)) (depth_from G (last_or 0 ds)),
           leaves_search K G grants.net (network_open_below K.words rec.members links) (last_or 0 ds) (delivers_open G (last_or 0 ds) (true→t is_destination))
-          B grants.long.hops grants.long.even grants.long.odd;
-    })
+              B grants.long.hops grants.long.even grants.long.odd,
+        );
+      },
+    )
   where
     G : Network
     G = map_network K rec links
 
+    s : Summary
+    s = summed (distance_sum (chart G)) (pair_number (chart G))
+
     grants : IsGranted K rec links (length B.hops) (length B.even) (length B.odd) (length counts)
-    grants = granted K rec links (length B.hops) (length B.even) (length B.odd) (length counts) shape z
+    grants = granted K rec links (length B.hops) (length B.even) (length B.odd) (length counts) shape (sym z)
 
     new : List ℕ
     new = overwrite (mapl (ecc_count (chart G)) (range (places K))) counts

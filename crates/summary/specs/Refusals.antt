@@ -3,15 +3,15 @@
 -- Assumes nothing.
 use Rattle.std.specs.Prelude.{false, List, [], ◌∷◌, ◌++◌, ℕ, ◌<◌, length}
 use Rattle.lists.specs.Lists.{countb}
-use Rattle.lists.specs.Conditions.{Refuses}
 use Rattle.outcome.specs.Numbers.{too_few}
+use Rattle.outcome.specs.Answers.{Left, Refuses}
 use Rattle.graph.specs.Network.{Network, delivers}
 use Rattle.map.specs.Memory.{Shape, places, map_network}
 use Rattle.map.specs.Room.{Tables}
 use Rattle.map.specs.declared.Record.{Record}
 use Rattle.lent_map.specs.Faults.{lent_conditions}
 use Rattle.search.specs.Refusals.{search_buffers}
-use Rattle.summary.specs.SummaryCall.{Refused, SummaryLeft, summary_left, summing_number}
+use Rattle.summary.specs.declared.Summary.{Summary}
 
 -- 15, too few: fewer than two destinations
 abbrev pub AreTooFew : Network → Type 0
@@ -25,11 +25,7 @@ summary_conditions K rec links B counts =
     ∷ []
 
 -- Of a program whose call is `step`: refused with the first that holds, and then nothing changes
-abbrev pub SummaryRefuses : Shape → (Record → List ℕ → Tables → List ℕ → SummaryLeft) → Type 0
+abbrev pub SummaryRefuses : Shape → (Record → List ℕ → Tables → List ℕ → Left Summary (Tables × List ℕ)) → Type 0
 SummaryRefuses K step =
     (rec : Record) (links : List ℕ) (B : Tables) (counts : List ℕ)
-    → Refuses
-    (summary_conditions K rec links B counts)
-    (summing_number (step rec links B counts).answer)
-    (λ r. summary_left (Refused r) B counts)
-    (step rec links B counts)
+    → Refuses (summary_conditions K rec links B counts) (B, counts) (step rec links B counts)

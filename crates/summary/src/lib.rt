@@ -6,14 +6,14 @@
 ghost use Rattle.std.specs.Prelude.{[], ◌≡◌, ◌<◌, ◌≤◌, ltb, length, get_or};
 ghost use Rattle.lists.specs.Lists.{filterb, sum_of, max_of};
 ghost use Rattle.graph.specs.Distance.{vertices, unreached, dist};
-ghost use Rattle.outcome.specs.Refusals.{refused_by};
+ghost use Rattle.outcome.specs.Answers.{answer_of, refusal_in, leaves};
 ghost use Rattle.map.specs.Room.{AreLong};
 ghost use Rattle.map.specs.Slices.{tables_in, scratch_sizes, IsSameScratch};
 ghost use Rattle.map.specs.Memory.{base, places, network_of, table_network};
 ghost use Rattle.layers.specs.Begin.{HoldsEnds};
 ghost use Rattle.layers.specs.Layers.{search_leaves};
 ghost use Rattle.summary.specs.Steps.{tally_of, count_one, AreNear, totalled, total_over};
-ghost use Rattle.summary.specs.SummaryCall.{summary_refusal, summing_of, summary_left, summary_call};
+ghost use Rattle.summary.specs.SummaryCall.{summary_refusal, summary_call};
 
 use map::{Record, Scratch};
 use outcome::Refusal;
@@ -129,7 +129,7 @@ fn summary_refusal(
     counts: usize,
 ) -> Result<(), Refusal>
     ensures { let T = tables_in scratch.now in
-        refused_by result ≡ summary_refusal base rec links.now (length T.hops) (length T.even) (length T.odd) counts }
+        refusal_in (answer_of result) ≡ summary_refusal base rec links.now (length T.hops) (length T.even) (length T.odd) counts }
 {
     if counts < map::PLACES {
         return Err(Refusal::Short);
@@ -154,7 +154,7 @@ pub fn summarise(
 ) -> Result<Summary, Refusal>
     ensures same { IsSameScratch scratch.old scratch.new }
     ensures left { let call = summary_call base rec links.now (tables_in scratch.old) counts.old in
-        summary_left (summing_of result) (tables_in scratch.new) counts.new ≡ call }
+        leaves (answer_of result) (tables_in scratch.new, counts.new) ≡ call }
 {
     summary_refusal(rec, links, &*scratch, counts.len())?;
     let members = rec.members;

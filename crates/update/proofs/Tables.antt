@@ -17,7 +17,7 @@ use Rattle.map.specs.Memory.{Shape, IsShape, places}
 use Rattle.map.specs.declared.Record.{Record}
 use Rattle.map.specs.Room.{Lent, sizes_of, AreLong}
 use Rattle.map.proofs.Longs.{are_long_lem}
-use Rattle.search.specs.SearchCall.{search_left, Reached}
+use Rattle.search.specs.declared.Reach.{Reach}
 use Rattle.search.specs.Correct.{IsSearch}
 use Rattle.search.proofs.Theorems.{over_keeps}
 use Rattle.rounds.specs.Leaves.{rounds_leave, search_after}
@@ -68,13 +68,13 @@ module _ (K : Shape) (shape : IsShape K) (rec : Record) (links : List ℕ) (B : 
       (granted_lawful K shape rec links B.pairs (sizes_of links B) u ok).settled rec.chain (table_bit K.words B.pairs)
       (granted_chain K shape rec links B.pairs (sizes_of links B) u ok)
 
-  last : (e : ℕ) × (d : ℕ) × IsSearch K H (last_or 0 S.references) B.searched (search_left (Reached e d) (search_after K.words H S.references B.searched))
+  last : (r : Reach) × IsSearch K H (last_or 0 S.references) B.searched r (search_after K.words H S.references B.searched)
   unfolding last_or
   last =
       let f = searches_first u in
       let q = says.first ∙ ap (λ (l : List ℕ). l ++ says.later) f.2 in
       let g = last_search K H held.net below S references links B long f.0 (f.1 ++ says.later) q in
-      (g.0, g.1, subst (λ (l : List ℕ). IsSearch K H (last_or 0 l) B.searched (search_left (Reached g.0 g.1) (search_after K.words H S.references B.searched))) (sym q) g.2)
+      (g.0, subst (λ (l : List ℕ). IsSearch K H (last_or 0 l) B.searched g.0 (search_after K.words H S.references B.searched)) (sym q) g.1)
 
   given_tables : AreTables K H (first_searches u) S.references links B (update_given zero K rec links B u)
   unfolding update_given rounds_leave sizes_of

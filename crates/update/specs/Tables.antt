@@ -9,7 +9,7 @@ use Rattle.graph.specs.Correct.{IsSkipped}
 use Rattle.graph.specs.Updates.{Update, first_searches}
 use Rattle.map.specs.Memory.{Shape, places, table_words}
 use Rattle.map.specs.declared.Record.{Record}
-use Rattle.search.specs.SearchCall.{search_left, Reached}
+use Rattle.search.specs.declared.Reach.{Reach}
 use Rattle.search.specs.Correct.{KeepsPast, IsSearch}
 use Rattle.map.specs.Room.{Lent, sizes_of}
 use Rattle.outcome.specs.declared.Change.{Change}
@@ -38,7 +38,7 @@ pub record AreTables (K : Shape) (H : Network) (firsts references links : List �
   pub others : (l.report.outcome ≡ Accepted Shrank → ⊥) → (v : ℕ) → v < places K → T (not (memb v firsts)) → IsBlank K l v
   pub closed : (v : ℕ) → v < places K → (T (H.is_open v) → ⊥) → IsBlank K l v
   -- hop table and layer rows hold what the last search left there
-  pub searched : (e : ℕ) × (d : ℕ) × IsSearch K H (last_or 0 references) B.searched (search_left (Reached e d) l.lent.searched)
+  pub searched : (r : Reach) × IsSearch K H (last_or 0 references) B.searched r l.lent.searched
   -- what stands past the named sizes stays
   pub links_kept : KeepsPast (table_words K) links l.links
   pub pairs_kept : KeepsPast (table_words K) B.pairs l.lent.pairs

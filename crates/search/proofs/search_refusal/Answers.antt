@@ -5,7 +5,6 @@ use Rattle.map.specs.Memory.{base, network_of}
 use Rattle.map.proofs.Longs.{are_long_lem}
 use Rattle.search.proofs.Accepts.{refused_map, refused_absent, refused_never}
 use Rattle.std.proofs.lemmas.Result.{err_from_is_err_and}
-use Rattle.outcome.proofs.Numbering.{refuses}
 use Rattle.search.proofs.search_refusal.Goals as goal
 
 pub map_refusal-requires : goal.map_refusal-requires
@@ -15,7 +14,7 @@ map_refusal-requires c =
 pub returns-in_err-map_refusal : goal.returns-in_err-map_refusal
 returns-in_err-map_refusal c =
     let p = err_from_is_err_and c.from_residual.result c.from_residual.ensures.1 in
-    rw (p.1, p.2) (refused_map base _ _ _ _ _ _ c.are_long.ensures c.in_err-map_refusal.ensures (refuses _))
+    rw (p.1, p.2) (refused_map base _ _ _ _ _ _ _ c.are_long.ensures c.in_err-map_refusal.ensures)
 
 pub returns-then-not-is_open : goal.returns-then-not-is_open
 unfolding network_of

@@ -5,4 +5,4 @@ use Rattle.summaries.proofs.put_numbers.Goals as goal
 
 pub returns : goal.returns
 returns c =
-    numbers_placed _ _ _ _ c.put_number-a.ensures c.put_field-b.ensures c.put_field-c.ensures c.put_field-d.ensures (omega arith) (grind (arith, widths))
+    numbers_placed _ c.put_number-a.ensures c.put_field-b.ensures c.put_field-c.ensures c.put_field-d.ensures (omega arith) (grind (arith, widths))

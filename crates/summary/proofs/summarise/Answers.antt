@@ -1,9 +1,7 @@
 -- `summary::summarise` meets its contract: refused, nothing is changed; without a refusal the totals are the network's, and there is a pair to divide by.
-use mathlib.Core.Path.{sym}
 use Prim.Native.Nat.{◌<◌}
 use native.Mathlib.Omega.{arith}
 use Rattle.std.proofs.lemmas.Result.{err_from_is_err_and}
-use Rattle.outcome.proofs.Numbering.{refuses}
 use Rattle.map.specs.Memory.{base}
 use Rattle.map.proofs.Theorems.{base_shape}
 use Rattle.layers.proofs.Ends.{yards_hold_ends}
@@ -15,11 +13,11 @@ use Rattle.summary.proofs.summarise.Goals.{After-total_over-t}
 pub returns-in_err-summary_refusal-clause-left : goal.returns-in_err-summary_refusal-clause-left
 returns-in_err-summary_refusal-clause-left c =
     let p = err_from_is_err_and c.from_residual.result c.from_residual.ensures.1 in
-    rw (p.1, p.2) (summary_refused base _ _ _ _ c.in_err-summary_refusal.ensures (refuses _))
+    rw (p.1, p.2) (summary_refused base _ _ _ _ c.in_err-summary_refusal.ensures)
 
 pub total_over-t-requires : goal.total_over-t-requires
 total_over-t-requires c =
-    let g = granted base _ _ _ _ _ _ base_shape (sym c.in_ok-summary_refusal.ensures) in (
+    let g = granted base _ _ _ _ _ _ base_shape c.in_ok-summary_refusal.ensures in (
       g.long,
       g.room,
       are_near 4 _ _ _ c.keep_delivering.ensures base_shape.most g.net,
@@ -29,7 +27,7 @@ total_over-t-requires c =
 -- there is a pair
 paired : (c : After-total_over-t) → 0 < c.total_over-t.result.pairs
 paired c =
-    some_pair base _ _ _ _ base_shape (sym c.in_ok-summary_refusal.ensures) c.keep_delivering.ensures c.total_over-t.ensures.left
+    some_pair base _ _ _ _ base_shape c.in_ok-summary_refusal.ensures c.keep_delivering.ensures c.total_over-t.ensures.left
 
 pub nonzero_div-result : goal.nonzero_div-result
 nonzero_div-result c =
@@ -41,4 +39,4 @@ nonzero_rem-result c =
 
 pub returns-clause-left : goal.returns-clause-left
 returns-clause-left c =
-    summary_accepted base _ _ _ _ base_shape (sym c.in_ok-summary_refusal.ensures) c.keep_delivering.ensures c.total_over-t.ensures.left
+    summary_accepted base _ _ _ _ base_shape c.in_ok-summary_refusal.ensures c.keep_delivering.ensures c.total_over-t.ensures.left
