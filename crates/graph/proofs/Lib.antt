@@ -30,7 +30,10 @@ pub mod Apart
 pub mod Refusals
 pub mod Rising
 pub mod Nearby
+pub mod Paths
+pub mod NearCases
 pub mod Summary
+pub mod SummaryCases
 pub mod Closed
 pub mod Renamed
 pub mod Relabelled
