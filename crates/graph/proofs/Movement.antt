@@ -8,7 +8,7 @@ use native.Mathlib.Omega.{arith}
 use lib.Dec.{T, eqb}
 use lib.ListN.{length}
 use borrow.Author.Tests.{eqb-true, eq-eqb}
-use Rattle.std.proofs.lemmas.Bool.{and_from, or_cases, or_left}
+use Rattle.std.proofs.lemmas.Bool.{and_from, or_cases, or_left, or_right}
 use Rattle.lists.specs.Lists.{memb, first_of}
 use Rattle.lists.proofs.Tests.{t→true, true→t}
 use Rattle.graph.specs.Network.{Network, HasNoYard, delivers, Walk, stay, step, IsDist, IsEcc, IsDiameter}
@@ -18,11 +18,11 @@ use Rattle.graph.specs.Opening.{Notice, add_depot, by_code, with_depot, open_fau
 use Rattle.graph.specs.Linking.{add_link, link_faults}
 use Rattle.graph.specs.Correct.{IsNet}
 use Rattle.graph.specs.Movement.{RisesByOne, HalvesAtMost, OpeningMoves, LinkingMoves}
-use Rattle.graph.proofs.Walks.{dist-sym}
+use Rattle.graph.proofs.Walks.{snoc}
 use Rattle.graph.proofs.Delivers.{delivers_open, delivers_of}
 use Rattle.graph.proofs.Insertion.{walk_old, opened_grown}
 use Rattle.graph.proofs.Charts.{depot_in, chart-dist, chart-only, chart_metric, chart-ecc}
-use Rattle.graph.proofs.Opened.{IsAdmitted, admitted_of, opened_net}
+use Rattle.graph.proofs.Opened.{known_of, joined_of}
 use Rattle.graph.proofs.Linked.{IsLinkable, linkable_of, either_link, grown_first, linkable_net}
 
 first_step : {G : Network} {k u v : ℕ} → Walk G (suc k) u v → (w : ℕ) × T (G.linked u w) × Walk G k w v
@@ -36,6 +36,7 @@ module _ (G : Network) (net : IsNet G) (D : ℕ) (dia : IsDiameter G (delivers G
       let e = chart-ecc G net u ou in
       omega (arith, e.upper k (v, delivers_of G v ov (without v), p), dia.upper _ (u, delivers_of G u ou (without u), e))
 
+module _ (G : Network) (D : ℕ) (dia : IsDiameter G (delivers G) D) where
   distance_at : (D ≡ 0) ⊎ ((u v : ℕ) × T (G.is_open u) × T (G.is_open v) × IsDist G u v D)
   distance_at = go dia.attained
     where
@@ -49,7 +50,7 @@ module _ (G : Network) (net : IsNet G) (D : ℕ) (dia : IsDiameter G (delivers G
 
 -- ---- AN OPENING: from the new depot a link leads to a neighbour, and from there at most D go on
 
-module _ (G : Network) (net : IsNet G) (without : HasNoYard G) (o : Notice) (room : suc (length (vertices G)) < unreached) (ok : first_of (open_faults G o) ≡ 0) where
+module _ (G : Network) (net : IsNet G) (without : HasNoYard G) (o : Notice) (ok : first_of (open_faults G o) ≡ 0) where
   abbrev a : ℕ
   a = o.code
 
@@ -59,13 +60,6 @@ module _ (G : Network) (net : IsNet G) (without : HasNoYard G) (o : Notice) (roo
   abbrev beside : ℕ → Bool
   beside v = memb v o.neighbours
 
-  good : IsAdmitted G o.code beside
-  good = admitted_of G net o room ok
-
-  net_after : IsNet H
-  unfolding with_depot
-  net_after = opened_net by_code G net o.yard o.code beside good
-
   old_walk : {k u v : ℕ} → Walk G k u v → Walk H k u v
   unfolding with_depot
   old_walk p = walk_old G H a (opened_grown by_code G o.yard o.code beside) p
@@ -73,6 +67,10 @@ module _ (G : Network) (net : IsNet G) (without : HasNoYard G) (o : Notice) (roo
   first_link : (w : ℕ) → memb w o.neighbours ≡ true → T (H.linked a w)
   unfolding with_depot add_depot
   first_link w m = true→t (or_left _ (G.linked a w) (or_left _ (eqb w a && memb a o.neighbours) (and_from _ _ (eq-eqb a a refl) m)))
+
+  last_link : (w : ℕ) → memb w o.neighbours ≡ true → T (H.linked w a)
+  unfolding with_depot add_depot
+  last_link w m = true→t (or_left _ (G.linked w a) (or_right (eqb w a && memb a o.neighbours) _ (and_from _ _ (eq-eqb a a refl) m)))
 
   open_cases : (v : ℕ) → T (H.is_open v) → (v ≡ a) ⊎ T (G.is_open v)
   unfolding with_depot add_depot
@@ -86,20 +84,27 @@ module _ (G : Network) (net : IsNet G) (without : HasNoYard G) (o : Notice) (roo
     from_new : (v k : ℕ) → (v ≡ a) ⊎ T (G.is_open v) → IsDist H a v k → k ≤ D + 1
     from_new v k (inl q) p = omega (arith, p.least 0 (subst (λ (w : ℕ). Walk H 0 a w) (sym q) stay))
     from_new v k (inr ov) p =
-        let w = good.joined v ov in
-        let ow = good.known w.0 w.1 in
+        let w = joined_of G net.sound o ok v ov in
+        let ow = known_of G o ok w.0 w.1 in
         let d = chart-dist G net w.0 v ow ov in
         omega (arith, p.least _ (step (first_link w.0 w.1) (old_walk d.walk)), distance_le G net D dia without w.0 v _ ow ov d)
 
+    to_new : (v k : ℕ) → T (G.is_open v) → IsDist H v a k → k ≤ D + 1
+    to_new v k ov p =
+        let w = joined_of G net.sound o ok v ov in
+        let ow = known_of G o ok w.0 w.1 in
+        let d = chart-dist G net v w.0 ov ow in
+        omega (arith, p.least _ (snoc (old_walk d.walk) (last_link w.0 w.1)), distance_le G net D dia without v w.0 _ ov ow d)
+
     raised : (u v k : ℕ) → (u ≡ a) ⊎ T (G.is_open u) → (v ≡ a) ⊎ T (G.is_open v) → IsDist H u v k → k ≤ D + 1
     raised u v k (inl q) y p = from_new v k y (subst (λ (w : ℕ). IsDist H w v k) q p)
-    raised u v k (inr ou) (inl q) p = from_new u k (inr ou) (dist-sym net_after.sound (subst (λ (w : ℕ). IsDist H u w k) q p))
+    raised u v k (inr ou) (inl q) p = to_new u k ou (subst (λ (w : ℕ). IsDist H u w k) q p)
     raised u v k (inr ou) (inr ov) p =
         let d = chart-dist G net u v ou ov in
         omega (arith, p.least _ (old_walk d.walk), distance_le G net D dia without u v _ ou ov d)
 
   opened_moves : RisesByOne G H
-  opened_moves = record { most = λ D E was is. go D E was (distance_at H net_after E is) }
+  opened_moves = record { most = λ D E was is. go D E was (distance_at H E is) }
     where
       go : (D E : ℕ) → IsDiameter G (delivers G) D → (E ≡ 0) ⊎ ((u v : ℕ) × T (H.is_open u) × T (H.is_open v) × IsDist H u v E) → E ≤ D + 1
       go D E was (inl z) = omega arith
@@ -261,7 +266,7 @@ module _ (G : Network) (net : IsNet G) (without : HasNoYard G) (a₁ b₁ : ℕ)
 
   linked_moves : HalvesAtMost G K
   unfolding d'
-  linked_moves = record { never = λ D E was is. never D E was (distance_at K net_linked E is); twice = λ D E was is. twice D E is (distance_at G net D was) }
+  linked_moves = record { never = λ D E was is. never D E was (distance_at K E is); twice = λ D E was is. twice D E is (distance_at G D was) }
     where
       never : (D E : ℕ) → IsDiameter G (delivers G) D → (E ≡ 0) ⊎ ((u v : ℕ) × T (K.is_open u) × T (K.is_open v) × IsDist K u v E) → E ≤ D
       never D E was (inl z) = omega arith
@@ -283,7 +288,7 @@ module _ (G : Network) (net : IsNet G) (without : HasNoYard G) (a₁ b₁ : ℕ)
 -- ---- THE THEOREMS
 
 pub opening_moves : OpeningMoves
-opening_moves G net without o room ok = opened_moves G net without o room ok
+opening_moves G net without o ok = opened_moves G net without o ok
 
 pub linking_moves : LinkingMoves
 linking_moves G net without a b ok = linked_moves G net without a b ok

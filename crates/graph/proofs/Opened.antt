@@ -33,25 +33,34 @@ pub record IsAdmitted (G : Network) (a : ℕ) (beside : ℕ → Bool) : Type 0 w
   pub known : (v : ℕ) → beside v ≡ true → T (G.is_open v)
   pub joined : (v : ℕ) → T (G.is_open v) → (w : ℕ) × (beside w ≡ true)
 
-pub admitted_of : (G : Network) (net : IsNet G) (o : Notice) → suc (length (vertices G)) < unreached → first_of (open_faults G o) ≡ 0
-    → IsAdmitted G o.code (λ v. memb v o.neighbours)
+-- the four tests of an opening, none of which is true
+open_tests : (G : Network) (o : Notice) → first_of (open_faults G o) ≡ 0
+    → (G.is_open o.code ≡ false) × ((is_empty o.neighbours && ltb 0 (length (vertices G))) ≡ false) × (allb G.is_open o.neighbours ≡ true)
 unfolding open_faults notice_faults
-admitted_of G net o room ok =
+open_tests G o ok =
     let f5 = first_zero (G.is_open o.code) 4 _ ok in
     let f6 = first_zero (is_empty o.neighbours && ltb 0 (length (vertices G))) 5 _ f5.1 in
     let f7 = first_zero (not (strictly_rising o.neighbours)) 6 _ f6.1 in
     let f8 = first_zero (not (allb G.is_open o.neighbours)) 7 [] f7.1 in
-    record {
-      room = room;
-      fresh = f5.0;
-      known = λ v m. true→t (all_elim G.is_open o.neighbours (not-false (allb G.is_open o.neighbours) f8.0) (memb_in v o.neighbours m));
-      joined = λ v p. some o.neighbours (vertices G) (vertices_in G net.sound v p) f6.0;
-    }
+    (f5.0, f6.0, not-false (allb G.is_open o.neighbours) f8.0)
+
+-- its neighbours are open
+pub known_of : (G : Network) (o : Notice) → first_of (open_faults G o) ≡ 0 → (v : ℕ) → memb v o.neighbours ≡ true → T (G.is_open v)
+known_of G o ok v m = true→t (all_elim G.is_open o.neighbours (open_tests G o ok).2 (memb_in v o.neighbours m))
+
+-- where a depot is open, it has a neighbour
+pub joined_of : (G : Network) → IsSound G → (o : Notice) → first_of (open_faults G o) ≡ 0 → (v : ℕ) → T (G.is_open v) → (w : ℕ) × (memb w o.neighbours ≡ true)
+unfolding is_empty
+joined_of G sound o ok v p = some o.neighbours (vertices G) (vertices_in G sound v p) (open_tests G o ok).1
   where
     some : (xs vs : List ℕ) {v : ℕ} → Memᴰ v vs → (is_empty xs && ltb 0 (length vs)) ≡ false → (w : ℕ) × (memb w xs ≡ true)
     some [] [] m e = absurd (Memᴰ.not-nil m)
     some [] (y ∷ ys) m e = absurd (clash (lt-ltb 0 (suc (length ys)) (omega arith)) e)
     some (x ∷ xs) vs m e = (x, in_memb x (x ∷ xs) (Memᴰ.head refl))
+
+pub admitted_of : (G : Network) (net : IsNet G) (o : Notice) → suc (length (vertices G)) < unreached → first_of (open_faults G o) ≡ 0
+    → IsAdmitted G o.code (λ v. memb v o.neighbours)
+admitted_of G net o room ok = record { room = room; fresh = (open_tests G o ok).0; known = known_of G o ok; joined = joined_of G net.sound o ok }
 
 module _ (key : ℕ → ℕ) (G : Network) (net : IsNet G) (y : Bool) (a : ℕ) (beside : ℕ → Bool) (good : IsAdmitted G a beside) where
   abbrev H : Network

@@ -1,4 +1,4 @@
--- HOW FAR CALLS CAN MOVE THE CHAIN where no yard was opened, over the lists of calls of `HistoriesAgree`: the chain is the record's, from which planners publish.
+-- HOW FAR CALLS CAN MOVE THE CHAIN of a map that has no yard yet, over the lists of calls of `HistoriesAgree`: the chain is the record's, from which planners publish.
 -- `histories_move` (proofs/Movement) shows it of every program whose histories agree, of the rules' own therefore (`histories_move_base`).
 -- Assumes nothing.
 use Rattle.std.specs.Prelude.{◌≡◌, false, ℕ, suc, ◌+◌, ◌≤◌, length}
@@ -38,9 +38,10 @@ pub record Moves (K : Shape) (P : Program) : Type 0 where
   -- and it falls to no less than half (`MovesBy`).
   pub once : (cs : List Call) (u : Update) (c : Lending) → AreCalls K (cs ++ (call_for u c ∷ [])) → AcceptsNoYard (plain_after_all K cs)
       → MovesBy u (chain_after_all K P cs) (chain_after_all K P (cs ++ (call_for u c ∷ [])))
-  -- Any calls ds after the calls cs, batches among them: each opening accepted in ds raises the chain by at most 1, and nothing else raises it.
-  pub rises : (cs ds : List Call) → AreCalls K (cs ++ ds) → AcceptsNoYard (plain_after_all K (cs ++ ds))
+  -- Any calls ds after the calls cs, batches and yards among them: each opening accepted in ds raises the chain by at most 1, and nothing else raises it.
+  -- (Behind a yard one opening may raise it by more, but not above the openings together.)
+  pub rises : (cs ds : List Call) → AreCalls K (cs ++ ds) → AcceptsNoYard (plain_after_all K cs)
       → chain_after_all K P (cs ++ ds) ≤ chain_after_all K P cs + openings_in (accepted_then K cs ds)
   -- So n accepted notices, of whatever kind, leave it at most n greater.
-  pub most : (cs ds : List Call) → AreCalls K (cs ++ ds) → AcceptsNoYard (plain_after_all K (cs ++ ds))
+  pub most : (cs ds : List Call) → AreCalls K (cs ++ ds) → AcceptsNoYard (plain_after_all K cs)
       → chain_after_all K P (cs ++ ds) ≤ chain_after_all K P cs + length (accepted_then K cs ds)

@@ -18,18 +18,18 @@ use Rattle.update.proofs.Grants.{granted_net, granted_notice}
 use Rattle.update.proofs.Theorems.{update_correct}
 
 -- a network that a map can hold
-pub update_moves : (G : Network) → IsNet G → HasNoYard G → (u : Update) → suc (length (vertices G)) < unreached → first_of (update_faults G u) ≡ 0
+pub update_moves : (G : Network) → IsNet G → HasNoYard G → (u : Update) → first_of (update_faults G u) ≡ 0
     → (D E : ℕ) → IsDiameter G (delivers G) D → IsDiameter (applied G u) (delivers (applied G u)) E → MovesBy u D E
 unfolding update_faults applied
-update_moves G net without (opens o) room ok D E was is = (opening_moves G net without o room ok).most D E was is
-update_moves G net without (joins a b) room ok D E was is = let m = linking_moves G net without a b ok in (m.never D E was is, m.twice D E was is)
+update_moves G net without (opens o) ok D E was is = (opening_moves G net without o ok).most D E was is
+update_moves G net without (joins a b) ok D E was is = let m = linking_moves G net without a b ok in (m.never D E was is, m.twice D E was is)
 
 -- the words of a map
 pub map_moves : (K : Shape) → IsShape K → MapMoves K
 unfolding network_after
 map_moves K shape rec links u sound connected without ok D E was is =
     let few = network_most K.words rec.members links in
-    update_moves (map_network K rec links) (record { sound = sound; connected = connected; small = omega (arith, few, shape.most) }) without u (omega (arith, few, shape.most)) ok D E was is
+    update_moves (map_network K rec links) (record { sound = sound; connected = connected; small = omega (arith, few, shape.most) }) without u ok D E was is
 
 -- a chain that stays
 pub stays : (u : Update) (D : ℕ) → MovesBy u D D
