@@ -2,6 +2,8 @@
 
 #![tactic(auto)]
 
+pub mod promises;
+
 use map::Record;
 
 // What an accepted batch leaves beside the lent memory: how many lines are left over, and the record.

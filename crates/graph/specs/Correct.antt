@@ -6,8 +6,8 @@ use Rattle.std.specs.Prelude.{◌≡◌, not, List, ◌++◌, ℕ, ◌+◌, ◌<
 use Rattle.lists.specs.Lists.{countb, memb}
 use Rattle.graph.specs.Network.{Network, IsSound, IsConnected, IsDist, delivers, IsEcc, AreTrue}
 use Rattle.graph.specs.Distance.{vertices, unreached}
-use Rattle.graph.specs.Chart.{Pairs}
-use Rattle.graph.specs.Rounds.{Status, waiting, skipped, searched, is_waiting, State}
+use Rattle.graph.specs.Chart.{chart, Pairs}
+use Rattle.graph.specs.Rounds.{Status, waiting, skipped, searched, is_waiting, State, reckon}
 use Rattle.graph.specs.Opening.{Opened}
 use Rattle.outcome.specs.declared.Change.{Change}
 use Rattle.outcome.specs.declared.Change.TheVariants.{Grew, Kept, Shrank}
@@ -71,6 +71,10 @@ pub record IsReckoned (G : Network) (S : State) : Type 0 where
   pub figures : AreTrue G (delivers G) S.candidate S.pairs
   pub references : AreReferences G S
   pub cover : AllCovered G S
+
+-- of every network that a map can hold
+abbrev pub ReckonsRight : Type 0
+ReckonsRight = (G : Network) → IsNet G → IsReckoned G (reckon (chart G))
 
 -- how the letter says that the chain moved from D to E
 abbrev pub Moved : Change → ℕ → ℕ → Type 0

@@ -1,7 +1,8 @@
 -- WHAT A CALL ASKS OF THE NETWORK, as one type: the opening of a depot, or a link between two. What stands above the network (calls, histories, the
 -- stream) is stated over it, once. Each kind of update owes the five promises of `Owes`, and nothing else. `update_lawful` (proofs/Lawful) has them.
 -- Assumes nothing.
-use Rattle.std.specs.Prelude.{Bool, List, [], ◌∷◌, ℕ, ◌≤◌, max, min, length}
+use Rattle.std.specs.Prelude.{◌≡◌, Bool, List, [], ◌∷◌, ℕ, suc, ◌≤◌, ◌<◌, max, min, length}
+use Rattle.lists.specs.Lists.{first_of}
 use Rattle.graph.specs.Network.{Network, delivers, AreTrue}
 use Rattle.graph.specs.Distance.{vertices, unreached}
 use Rattle.graph.specs.Chart.{Chart, chart, Pairs}
@@ -57,3 +58,7 @@ pub record Owes (G H : Network) (firsts : List ℕ) (step : ℕ → Pairs → Op
 -- the update u of G keeps these promises
 abbrev pub IsLawful : Network → Update → Type 0
 IsLawful G u = Owes G (applied G u) (first_searches u) (λ D P. steps (chart (applied G u)) u D P)
+
+-- every update that is not refused does, with room for one depot more
+abbrev pub UpdatesLawful : Type 0
+UpdatesLawful = (G : Network) → IsNet G → (u : Update) → suc (length (vertices G)) < unreached → first_of (update_faults G u) ≡ 0 → IsLawful G u

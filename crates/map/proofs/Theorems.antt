@@ -25,7 +25,7 @@ use Rattle.graph.proofs.Rising.{range_rising, filter_rising}
 use Rattle.rows.specs.Rows.{row_bit, table_bit, encode_row}
 use Rattle.rows.proofs.Written.{row_within}
 use Rattle.map.specs.Memory.{Shape, network_of, yard_network, IsShape, base}
-use Rattle.map.specs.Empty.{empty_record, empty_refusal, empty_given, empty_call, IsEmpty, emptying_number, empty_buffers, EmptyRefuses, Done}
+use Rattle.map.specs.Empty.{empty_record, empty_refusal, empty_given, empty_call, IsEmpty, emptying_number, empty_buffers, EmptyRefuses, LeavesEmpty, Done}
 use Rattle.map.specs.declared.Record.{Record}
 use Rattle.map.proofs.Empties.{row_zeros, table_zeros}
 
@@ -129,7 +129,7 @@ empty_refusals K rec links pairs =
     numbered zero = refl
     numbered (suc k) = refl
 
-pub emptied_is_empty : (K : Shape) (rec : Record) (links pairs : List ℕ) → (empty_call K rec links pairs).answer ≡ Done → IsEmpty K.words (empty_call K rec links pairs)
+pub emptied_is_empty : (K : Shape) → LeavesEmpty K (empty_call K)
 unfolding empty_call empty_given empty_record network_of
 emptied_is_empty K rec links pairs h = go (empty_refusal K links pairs) h
   where

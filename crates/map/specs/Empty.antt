@@ -78,3 +78,9 @@ pub record IsEmpty (W : ℕ) (left : EmptyLeft) : Type 0 where
   pub number : left.after.number ≡ 0
   pub chain : left.after.chain ≡ 0
   pub count : left.after.count ≡ 0
+
+-- Of a program whose emptying is `step`: what it accepts, it leaves empty (`emptied_is_empty`)
+abbrev pub LeavesEmpty : Shape → (Record → List ℕ → List ℕ → EmptyLeft) → Type 0
+LeavesEmpty K step =
+    (rec : Record) (links pairs : List ℕ)
+    → (step rec links pairs).answer ≡ Done → IsEmpty K.words (step rec links pairs)

@@ -2,6 +2,8 @@
 
 #![tactic(auto)]
 
+pub mod promises;
+
 ghost use Rattle.std.specs.Prelude.{[], ◌≡◌, ◌<◌, ◌≤◌, leb, length, get_or};
 ghost use Rattle.lists.specs.Lists.{filterb};
 ghost use Rattle.outcome.specs.Answers.{answer_of, leaves};

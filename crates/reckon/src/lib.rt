@@ -2,6 +2,8 @@
 
 #![tactic(auto)]
 
+pub mod promises;
+
 ghost use Rattle.std.specs.Prelude.{◌≡◌, length};
 ghost use Rattle.graph.specs.Chart.{chart};
 ghost use Rattle.graph.specs.Rounds.{reckon};

@@ -2,6 +2,8 @@
 
 #![tactic(auto)]
 
+pub mod promises;
+
 ghost use Rattle.std.specs.Prelude.{◌≡◌, [], ◌<◌, ◌≤◌, length, get_or};
 ghost use Rattle.lists.specs.Lists.{max_of};
 ghost use Rattle.graph.specs.Distance.{vertices, unreached, dist};

@@ -3,6 +3,8 @@
 
 #![tactic(auto)]
 
+pub mod promises;
+
 ghost use Rattle.std.specs.Prelude.{[], ◌≡◌, ◌<◌, ◌≤◌, ltb, length, get_or};
 ghost use Rattle.lists.specs.Lists.{filterb, sum_of, max_of};
 ghost use Rattle.graph.specs.Distance.{vertices, unreached, dist};

@@ -2,6 +2,8 @@
 
 #![tactic(auto)]
 
+pub mod promises;
+
 ghost use Rattle.std.specs.Prelude.{◌≡◌, length};
 ghost use Rattle.map.specs.Memory.{base};
 ghost use Rattle.outcome.specs.Refusals.{refused_by};
