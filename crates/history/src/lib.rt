@@ -11,12 +11,10 @@ ghost use Rattle.history.specs.Movement.{Moves};
 #[tactic(auto, using(crate::proofs::Theorems::histories_agree_base))]
 pub fn histories()
     ensures { HistoriesAgree base (rules_program base) }
-{
-}
+{}
 
 // How far any calls move the chain of a map that has no yard yet (rule 11.8).
 #[tactic(auto, using(crate::proofs::Movement::histories_move_base))]
 pub fn movements()
     ensures { Moves base (rules_program base) }
-{
-}
+{}

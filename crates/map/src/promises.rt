@@ -7,12 +7,10 @@ ghost use Rattle.map.specs.Empty.{empty_call, EmptyRefuses, LeavesEmpty};
 #[tactic(auto, using(crate::proofs::Theorems::empty_refusals))]
 pub fn refusals()
     ensures { EmptyRefuses base (empty_call base) }
-{
-}
+{}
 
 // A map that was emptied has no open code, no link, no pair.
 #[tactic(auto, using(crate::proofs::Theorems::emptied_is_empty))]
 pub fn emptied()
     ensures { LeavesEmpty base (empty_call base) }
-{
-}
+{}

@@ -28,27 +28,11 @@ use Rattle.transcript.specs.Transcript.{lines_limit, update_in, Followed, follow
 use Rattle.transcript.specs.Manner.{Manner, as_reports, frame_in, told_from, told_in}
 use Rattle.transcript.proofs.Manners.{told_transcript}
 use Rattle.narration.specs.Narration.{event_in, named_by, said_on, sentence_text, as_sentences, narration}
+use Rattle.narration.specs.Answers.{Answer, answers_from, answers_in, TellsOf, TellAlike}
 use Rattle.narration.proofs.Widths.{IsTold, line_told, said_within}
 
--- ---- the answers of an input, before they are told
+-- ---- whatever the manner, each answer is told, one after the other
 
--- the answer of a line: the frame that it spells, if any, and what its report has
-pub record Answer : Type 0 where
-  pub read : Option (List ℕ)
-  pub report : ReportFields
-
--- those of the lines behind the first n, on the map of the network G
-unfoldable pub answers_from : ℕ → Network → List (List ℕ) → List Answer
-answers_from n G [] = []
-answers_from n G (l ∷ ls) =
-    let x = follow_line G (read_line l) in
-    record { read = frame_in (read_line l); report = report_on (n + 1) x } ∷ answers_from (n + 1) x.network ls
-
--- and of an input, from an empty map
-unfoldable pub answers_in : List ℕ → List Answer
-answers_in input = answers_from 0 empty_network (take lines_limit (lines_of input))
-
--- whatever the manner, each answer is told, one after the other
 told_each : (M : Manner) (n : ℕ) (G : Network) (ls : List (List ℕ)) → told_from M n G ls ≡ flat_map (λ a. M.text a.read a.report) (answers_from n G ls)
 unfolding told_from answers_from
 told_each M n G [] = refl
@@ -89,12 +73,6 @@ events_same f = by_kind (opens_depot (get_or f 0 0))
         ≡ named_by (cond opening (opens (notice_of yard code (drop 3 f))) (joins code second))
     by_kind true = refl
     by_kind false = refl
-
--- a text that tells what a report does, of an event: it is a line, and what stands before its end reads as event, outcome and figures of the report
-pub record TellsOf (e : Event) (r : ReportFields) (text : List ℕ) : Type 0 where
-  pub sentence : List ℕ
-  pub is : text ≡ sentence ++ line_end ∷ []
-  pub reads : read_sentence sentence ≡ Ok (said_on e r)
 
 -- of a line that spells a frame it is a sentence that reads as what the report says, if that lies within its widths
 pub texts_same : (f : List ℕ) (r : ReportFields) → IsWithin (said_on (event_in f) r) → TellsOf (event_in f) r (sentence_text (Some f) r)
@@ -140,3 +118,8 @@ answers_same input a f m p =
 pub garbled_same : (r : ReportFields) → sentence_text None r ≡ report_line r
 unfolding sentence_text
 garbled_same r = refl
+
+-- ---- as one promise
+
+pub tells_alike : TellAlike
+tells_alike = record { sentences = narration_tells; reports = transcript_tells; same = answers_same; garbled = garbled_same; events = events_same }

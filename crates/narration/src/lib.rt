@@ -2,6 +2,8 @@
 
 #![tactic(auto)]
 
+pub mod promises;
+
 ghost use Rattle.std.specs.Prelude.{◌≡◌, [], ◌∷◌, ◌++◌, ◌+◌, ◌≤◌, length};
 ghost use Rattle.decimal.specs.Placed.{Placed};
 ghost use Rattle.notice.specs.Lines.{line_end};

@@ -9,12 +9,10 @@ ghost use Rattle.reckon.specs.Correct.{ReckonCorrect};
 #[tactic(auto, using(crate::proofs::Theorems::reckon_refusals, map::proofs::Theorems::base_shape))]
 pub fn refusals()
     ensures { ReckonRefuses base (reckon_call base) }
-{
-}
+{}
 
 // The figures are true, and every other depot is covered.
 #[tactic(auto, using(crate::proofs::Theorems::reckon_correct_base))]
 pub fn figures()
     ensures { ReckonCorrect base (reckon_call base) }
-{
-}
+{}

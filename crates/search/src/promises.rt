@@ -9,12 +9,10 @@ ghost use Rattle.search.specs.Correct.{SearchCorrect};
 #[tactic(auto, using(crate::proofs::Theorems::search_refusals, map::proofs::Theorems::base_shape))]
 pub fn refusals()
     ensures { SearchRefuses base (search_call base) }
-{
-}
+{}
 
 // What an accepted search leaves, by walks.
 #[tactic(auto, using(crate::proofs::Theorems::search_correct, map::proofs::Theorems::base_shape))]
 pub fn figures()
     ensures { SearchCorrect base }
-{
-}
+{}

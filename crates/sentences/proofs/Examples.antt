@@ -16,47 +16,48 @@ use Rattle.sentences.specs.declared.Event.{Event}
 use Rattle.sentences.specs.declared.Event.TheVariants.{Depot, Yard, Link, Closing}
 use Rattle.sentences.specs.declared.Said.{Said}
 
--- an event and an outcome, with the figures of every example
+-- an event and an outcome, with the figures of every example, four that differ
 abbrev said : Event → Outcome → Said
-said e o = record { event = e; outcome = o; depots = 6; chain = 3; pairs = 2; searches = 6 }
+said e o = record { event = e; outcome = o; depots = 7; chain = 3; pairs = 2; searches = 6 }
 
--- ---- written
+-- ---- written. Wrong: two middles or two starts alike; a separator, or the number of a refusal, left out; the codes of a link or two of the figures
+-- in the other order
 
-pub depot_written : sentence_of (said (Depot 5) (Accepted Shrank)) ≡ ascii "Opening depot 5 shrank the chain: 6 open, chain 3, pairs 2, searches 6."
+pub depot_written : sentence_of (said (Depot 5) (Accepted Shrank)) ≡ ascii "Opening depot 5 shrank the chain: 7 open, chain 3, pairs 2, searches 6."
 unfolding sentence_of start_of middle_of figures_of decimal spell
 depot_written = refl
 
-pub yard_written : sentence_of (said (Yard 5) (Accepted Kept)) ≡ ascii "Opening yard 5 kept the chain: 6 open, chain 3, pairs 2, searches 6."
+pub yard_written : sentence_of (said (Yard 5) (Accepted Kept)) ≡ ascii "Opening yard 5 kept the chain: 7 open, chain 3, pairs 2, searches 6."
 unfolding sentence_of start_of middle_of figures_of decimal spell
 yard_written = refl
 
-pub link_written : sentence_of (said (Link 3 5) (Refused 7)) ≡ ascii "Linking 3 and 5 was refused with 7: 6 open, chain 3, pairs 2, searches 6."
+pub link_written : sentence_of (said (Link 3 5) (Refused 7)) ≡ ascii "Linking 3 and 5 was refused with 7: 7 open, chain 3, pairs 2, searches 6."
 unfolding sentence_of start_of middle_of figures_of decimal spell
 link_written = refl
 
-pub closing_written : sentence_of (said (Closing 5) (Accepted Grew)) ≡ ascii "Closing 5 grew the chain: 6 open, chain 3, pairs 2, searches 6."
+pub closing_written : sentence_of (said (Closing 5) (Accepted Grew)) ≡ ascii "Closing 5 grew the chain: 7 open, chain 3, pairs 2, searches 6."
 unfolding sentence_of start_of middle_of figures_of decimal spell
 closing_written = refl
 
 -- ---- read
 
-pub depot_read : read_sentence (ascii "Opening depot 5 shrank the chain: 6 open, chain 3, pairs 2, searches 6.") ≡ Ok (said (Depot 5) (Accepted Shrank))
+pub depot_read : read_sentence (ascii "Opening depot 5 shrank the chain: 7 open, chain 3, pairs 2, searches 6.") ≡ Ok (said (Depot 5) (Accepted Shrank))
 unfolding read_sentence read_said read_event read_link read_outcome behind part strip_decimal strip_more goes_on
 depot_read = refl
 
-pub yard_read : read_sentence (ascii "Opening yard 5 kept the chain: 6 open, chain 3, pairs 2, searches 6.") ≡ Ok (said (Yard 5) (Accepted Kept))
+pub yard_read : read_sentence (ascii "Opening yard 5 kept the chain: 7 open, chain 3, pairs 2, searches 6.") ≡ Ok (said (Yard 5) (Accepted Kept))
 unfolding read_sentence read_said read_event read_link read_outcome behind part strip_decimal strip_more goes_on
 yard_read = refl
 
-pub link_read : read_sentence (ascii "Linking 3 and 5 was refused with 7: 6 open, chain 3, pairs 2, searches 6.") ≡ Ok (said (Link 3 5) (Refused 7))
+pub link_read : read_sentence (ascii "Linking 3 and 5 was refused with 7: 7 open, chain 3, pairs 2, searches 6.") ≡ Ok (said (Link 3 5) (Refused 7))
 unfolding read_sentence read_said read_event read_link read_outcome behind part strip_decimal strip_more goes_on
 link_read = refl
 
-pub closing_read : read_sentence (ascii "Closing 5 grew the chain: 6 open, chain 3, pairs 2, searches 6.") ≡ Ok (said (Closing 5) (Accepted Grew))
+pub closing_read : read_sentence (ascii "Closing 5 grew the chain: 7 open, chain 3, pairs 2, searches 6.") ≡ Ok (said (Closing 5) (Accepted Grew))
 unfolding read_sentence read_said read_event read_link read_outcome behind part strip_decimal strip_more goes_on
 closing_read = refl
 
-pub greatest_read : read_sentence (ascii "Linking 65535 and 0 was refused with 255: 6 open, chain 3, pairs 2, searches 6.") ≡ Ok (said (Link 65535 0) (Refused 255))
+pub greatest_read : read_sentence (ascii "Linking 65535 and 0 was refused with 255: 7 open, chain 3, pairs 2, searches 6.") ≡ Ok (said (Link 65535 0) (Refused 255))
 unfolding read_sentence read_said read_event read_link read_outcome behind part strip_decimal strip_more goes_on
 greatest_read = refl
 
@@ -66,31 +67,31 @@ greatest_read = refl
 abbrev IsGarbled : List ℕ → Type 0
 IsGarbled text = read_sentence text ≡ Err Garbled
 
-pub leading_zero : IsGarbled (ascii "Opening depot 05 shrank the chain: 6 open, chain 3, pairs 2, searches 6.")
+pub leading_zero : IsGarbled (ascii "Opening depot 05 shrank the chain: 7 open, chain 3, pairs 2, searches 6.")
 unfolding read_sentence read_said read_event read_link read_outcome behind part strip_decimal strip_more goes_on
 leading_zero = refl
 
-pub code_too_large : IsGarbled (ascii "Closing 65536 kept the chain: 6 open, chain 3, pairs 2, searches 6.")
+pub code_too_large : IsGarbled (ascii "Closing 65536 kept the chain: 7 open, chain 3, pairs 2, searches 6.")
 unfolding read_sentence read_said read_event read_link read_outcome behind part strip_decimal strip_more goes_on
 code_too_large = refl
 
-pub refusal_too_large : IsGarbled (ascii "Closing 5 was refused with 256: 6 open, chain 3, pairs 2, searches 6.")
+pub refusal_too_large : IsGarbled (ascii "Closing 5 was refused with 256: 7 open, chain 3, pairs 2, searches 6.")
 unfolding read_sentence read_said read_event read_link read_outcome behind part strip_decimal strip_more goes_on
 refusal_too_large = refl
 
-pub pairs_too_large : IsGarbled (ascii "Closing 5 kept the chain: 6 open, chain 3, pairs 4294967296, searches 6.")
+pub pairs_too_large : IsGarbled (ascii "Closing 5 kept the chain: 7 open, chain 3, pairs 4294967296, searches 6.")
 unfolding read_sentence read_said read_event read_link read_outcome behind part strip_decimal strip_more goes_on
 pairs_too_large = refl
 
-pub no_full_stop : IsGarbled (ascii "Opening depot 5 shrank the chain: 6 open, chain 3, pairs 2, searches 6")
+pub no_full_stop : IsGarbled (ascii "Opening depot 5 shrank the chain: 7 open, chain 3, pairs 2, searches 6")
 unfolding read_sentence read_said read_event read_link read_outcome behind part strip_decimal strip_more goes_on
 no_full_stop = refl
 
-pub line_end : IsGarbled (ascii "Opening depot 5 shrank the chain: 6 open, chain 3, pairs 2, searches 6.\n")
+pub line_end : IsGarbled (ascii "Opening depot 5 shrank the chain: 7 open, chain 3, pairs 2, searches 6.\n")
 unfolding read_sentence read_said read_event read_link read_outcome behind part strip_decimal strip_more goes_on
 line_end = refl
 
-pub lower_case : IsGarbled (ascii "opening depot 5 shrank the chain: 6 open, chain 3, pairs 2, searches 6.")
+pub lower_case : IsGarbled (ascii "opening depot 5 shrank the chain: 7 open, chain 3, pairs 2, searches 6.")
 unfolding read_sentence read_said read_event read_link read_outcome behind part strip_decimal strip_more goes_on
 lower_case = refl
 

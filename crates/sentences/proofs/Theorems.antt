@@ -24,7 +24,7 @@ use Rattle.outcome.specs.declared.Outcome.TheVariants.{Accepted, Refused}
 use Rattle.outcome.specs.declared.Refusal.TheVariants.{Garbled}
 use Rattle.sentences.specs.Sentence.{start_of, middle_of, figures_of, sentence_of, half_limit, word_limit, IsWithin}
 use Rattle.sentences.specs.Readers.{literal, part}
-use Rattle.sentences.specs.Reading.{read_event, read_outcome, read_said, heard, read_sentence}
+use Rattle.sentences.specs.Reading.{read_event, read_outcome, read_said, heard, read_sentence, AreInverse}
 use Rattle.sentences.specs.declared.Event.{Event}
 use Rattle.sentences.specs.declared.Event.TheVariants.{Depot, Yard, Link, Closing}
 use Rattle.sentences.specs.declared.Said.{Said}
@@ -181,6 +181,16 @@ pub sentence_injective : (s t : Said) → IsWithin s → IsWithin t → sentence
 sentence_injective s t v w e =
     let h : Ok s ≡ Ok t = sym (reads_written s v) ∙ ap read_sentence e ∙ reads_written t w in
     cc
+
+-- ---- writing and reading undo each other
+
+pub sentences_inverse : AreInverse
+sentences_inverse = record {
+  reads = reads_written;
+  writes = λ text s e. let x = written_reads text e in (x.within, x.is);
+  garbled = λ text none. others_garbled text (λ s x. none s x.within x.is);
+  injective = sentence_injective;
+}
 
 -- ---- a sentence is one line
 

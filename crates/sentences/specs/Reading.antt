@@ -1,12 +1,12 @@
 -- What a sentence says: the whole text is one, or it is garbled. Assumes nothing.
-use Rattle.std.specs.Prelude.{List, [], ◌∷◌, ℕ, Some, None, Result, Ok, Err, codes as ascii}
+use Rattle.std.specs.Prelude.{◌≡◌, List, [], ◌∷◌, ℕ, Some, None, Result, Ok, Err, codes as ascii}
 use Rattle.outcome.specs.declared.Change.TheVariants.{Grew, Kept, Shrank}
 use Rattle.outcome.specs.declared.Outcome.{Outcome}
 use Rattle.outcome.specs.declared.Outcome.TheVariants.{Accepted, Refused}
 use Rattle.outcome.specs.declared.Refusal.{Refusal}
 use Rattle.outcome.specs.declared.Refusal.TheVariants.{Garbled}
 use Rattle.decimal.specs.Front.{Front}
-use Rattle.sentences.specs.Sentence.{byte_limit, half_limit, word_limit}
+use Rattle.sentences.specs.Sentence.{sentence_of, byte_limit, half_limit, word_limit, IsWithin}
 use Rattle.sentences.specs.Readers.{Reader, ◌>>=◌, ◌or◌, give, literal, part}
 use Rattle.sentences.specs.declared.Event.{Event}
 use Rattle.sentences.specs.declared.Event.TheVariants.{Depot, Yard, Link, Closing}
@@ -56,3 +56,13 @@ heard (Some (s, c ∷ cs)) = Err Garbled
 -- the whole text as one sentence
 unfoldable pub read_sentence : List ℕ → Result Said Refusal
 read_sentence text = heard (read_said text)
+
+-- ---- what is proved: writing and reading undo each other
+
+pub record AreInverse : Type 0 where
+  pub reads : (s : Said) → IsWithin s → read_sentence (sentence_of s) ≡ Ok s
+  pub writes : (text : List ℕ) (s : Said) → read_sentence text ≡ Ok s
+      → IsWithin s × (text ≡ sentence_of s)
+  pub garbled : (text : List ℕ) → ((s : Said) → IsWithin s → text ≡ sentence_of s → ⊥)
+      → read_sentence text ≡ Err Garbled
+  pub injective : (s t : Said) → IsWithin s → IsWithin t → sentence_of s ≡ sentence_of t → s ≡ t

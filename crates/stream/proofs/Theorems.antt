@@ -20,7 +20,7 @@ use Rattle.transcript.specs.Transcript.{lines_limit, transcript, network_in}
 use Rattle.transcript.specs.Manner.{Manner, as_reports, told_in}
 use Rattle.transcript.proofs.Manners.{told_transcript}
 use Rattle.stream.specs.Feeding.{Begun, begin_call, IsReady, Feeding, stopped, feed_bytes}
-use Rattle.stream.specs.Pieces.{Standing, Turn, turn_told, stands_told, used_told, written_told, last_told, HasBegun}
+use Rattle.stream.specs.Pieces.{Standing, Turn, turn_told, stands_told, used_told, written_told, last_told, HasBegun, PiecesAlike}
 use Rattle.stream.specs.declared.Progress.{Progress}
 use Rattle.line_buffer.proofs.Stops.{stopped_lines}
 use Rattle.stream.proofs.Lines.{open_none}
@@ -152,6 +152,11 @@ turn_uses s out b bs l room = told_uses as_reports s out b bs l room
 
 pub turn_all : (s : Standing) (t : Turn) → (stopped as_reports (turn_told as_reports s t) ≡ true) ⊎ ((turn_told as_reports s t).fed.used ≡ length t.piece)
 turn_all s t = told_all as_reports s t
+
+-- ---- in any manner, as one promise
+
+pub pieces_promised : PiecesAlike
+pieces_promised = record { told = pieces_told; unread = rest_untold; reports = told_transcript }
 
 -- ---- a stream that has begun is ready, on buffers that have their named sizes
 

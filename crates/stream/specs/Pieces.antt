@@ -5,7 +5,8 @@ use Rattle.std.specs.Prelude.{◌≡◌, true, List, [], ◌∷◌, ◌++◌, �
 use Rattle.map.specs.Memory.{base}
 use Rattle.map.specs.Room.{Lent, sizes_of, long_enough}
 use Rattle.notice.specs.Lines.{line_limit}
-use Rattle.transcript.specs.Manner.{Manner}
+use Rattle.transcript.specs.Transcript.{lines_limit, transcript}
+use Rattle.transcript.specs.Manner.{Manner, as_reports, told_in}
 use Rattle.stream.specs.Feeding.{Begun, begin_call, Feeding, feed_call, finish_call}
 use Rattle.stream.specs.declared.Progress.{Progress}
 
@@ -55,3 +56,17 @@ pub record HasBegun (s : Standing) : Type 0 where
   pub begun : ◌≡◌ {A = Begun} (s.progress, s.links, s.lent.pairs) (begin_call links pairs)
   pub long : long_enough base (sizes_of s.links s.lent) ≡ true
   pub room : line_limit ≤ length s.line
+
+-- ---- what is proved
+
+-- However the input is cut, and whatever buffers are lent for the answers, what is written is the
+-- whole output of the bytes used; behind the last line of a stream nothing is read. Told as reports,
+-- the output is the transcript.
+pub record PiecesAlike : Type 0 where
+  pub told : (M : Manner) (s : Standing) → HasBegun s → (ts : List Turn) (out : List ℕ)
+      → M.room ≤ length out
+      → written_told M s ts ++ last_told M (stands_told M s ts) out ≡ told_in M (used_told M s ts)
+  pub unread : (M : Manner) (s : Standing) → HasBegun s → (ts : List Turn) (rest : List ℕ)
+      → lines_limit ≤ (stands_told M s ts).progress.lines
+      → written_told M s ts ≡ told_in M (used_told M s ts ++ rest)
+  pub reports : (input : List ℕ) → told_in as_reports input ≡ transcript input

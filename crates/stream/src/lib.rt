@@ -2,6 +2,8 @@
 
 #![tactic(auto)]
 
+pub mod promises;
+
 ghost use Rattle.std.specs.Prelude.{◌≡◌, List, ℕ, take, ◌+◌, ◌≤◌, ◌<◌, length, IfSome, option_copied};
 ghost use Rattle.map.specs.Memory.{base, table_words};
 ghost use Rattle.map.specs.Slices.{lent_in, room_sizes, IsSameRoom};

@@ -9,12 +9,10 @@ ghost use Rattle.summary.specs.Correct.{SummaryCorrect};
 #[tactic(auto, using(crate::proofs::Theorems::summary_refusals, map::proofs::Theorems::base_shape))]
 pub fn refusals()
     ensures { SummaryRefuses base (summary_call base) }
-{
-}
+{}
 
 // What the report says, by the published distances.
 #[tactic(auto, using(crate::proofs::Theorems::summary_correct, map::proofs::Theorems::base_shape))]
 pub fn figures()
     ensures { SummaryCorrect base }
-{
-}
+{}
