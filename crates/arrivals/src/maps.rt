@@ -63,7 +63,6 @@ impl Map {
             skips: &mut skips,
             even: &mut even,
             odd: &mut odd,
-            likely: [0u64; map::WORDS],
         };
         let got = step::step(self.rec, &mut self.links, &mut room, asked);
         self.rec = got.after;
@@ -102,7 +101,6 @@ impl Map {
             skips: &mut skips,
             even: &mut even,
             odd: &mut odd,
-            likely: [0u64; map::WORDS],
         };
         let batched = batch_opening::open_batch(
             self.rec,

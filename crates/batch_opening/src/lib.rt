@@ -70,12 +70,14 @@ fn next_fit(rec: Record, frame: &mut [u8], taken: u64, openings: Openings<'_>) -
     openings.first_fit(&members, frame, map::WORDS, taken)
 }
 
-// Opens the notice that stands in the frame, and marks its line as taken. Record, links and room are lent apart, so that nothing refuses them is asked.
+// Opens the notice that stands in the frame, and marks its line as taken. Record, links and room are lent apart, so that nothing refuses them is asked. Of
+// `likely` nothing is promised.
 #[tactic(auto, unfolding(batch_update::specs::BatchCall::opening_on))]
 fn take_line(
     progress: BatchProgress,
     links: &mut [u64],
     room: &mut Room<'_>,
+    likely: &mut [u64; map::WORDS],
     frame: &[u8],
     fit: Fit,
 ) -> BatchProgress
@@ -95,7 +97,7 @@ fn take_line(
         code: frame[1],
         neighbours: &frame[3..fit.length],
     };
-    let got = opening::open_sound(progress.after, links, room, asked);
+    let got = opening::open_sound(progress.after, links, room, likely, asked);
     BatchProgress {
         after: got.after,
         taken: words::with_bit(progress.taken, fit.number as usize),
@@ -117,6 +119,7 @@ fn open_lines(
         batch_standing result links.new (lent_in room.new) lines ≡ turns_on openings.entry.count base before }
 {
     let mut frame = [0u8; notice::FRAME_LIMIT];
+    let mut likely = [0u64; map::WORDS];
     let mut progress = BatchProgress {
         after: rec,
         taken: 0,
@@ -125,7 +128,7 @@ fn open_lines(
         let Some(fit) = next_fit(progress.after, &mut frame, progress.taken, openings) else {
             return progress;
         };
-        progress = take_line(progress, links, room, &frame, fit);
+        progress = take_line(progress, links, room, &mut likely, &frame, fit);
     }
     progress
 }

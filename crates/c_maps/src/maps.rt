@@ -89,7 +89,6 @@ pub extern "C" fn zorpedi_reckon(
         skips,
         even,
         odd,
-        likely: [0u64; map::WORDS],
     };
     match reckon::reckon_all(rec, links, &mut room) {
         Ok(reckoned) => {

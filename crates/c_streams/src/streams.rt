@@ -60,7 +60,6 @@ pub extern "C" fn zorpedi_feed(
         skips,
         even,
         odd,
-        likely: [0u64; map::WORDS],
     };
     let rec = c_values::record_of(&*words);
     let progress = Progress {
@@ -136,7 +135,6 @@ pub extern "C" fn zorpedi_finish(
         skips,
         even,
         odd,
-        likely: [0u64; map::WORDS],
     };
     let rec = c_values::record_of(&*words);
     let progress = Progress {

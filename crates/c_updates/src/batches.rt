@@ -39,7 +39,6 @@ pub extern "C" fn zorpedi_open_batch(
         skips,
         even,
         odd,
-        likely: [0u64; map::WORDS],
     };
     match batch_opening::open_batch(rec, links, &mut room, left, lines) {
         Ok(batched) => {

@@ -85,7 +85,6 @@ pub extern "C" fn zorpedi_open(
         skips,
         even,
         odd,
-        likely: [0u64; map::WORDS],
     };
     let notice = Notice {
         yard: false,
@@ -124,7 +123,6 @@ pub extern "C" fn zorpedi_open_yard(
         skips,
         even,
         odd,
-        likely: [0u64; map::WORDS],
     };
     let notice = Notice {
         yard: true,
@@ -162,7 +160,6 @@ pub extern "C" fn zorpedi_link(
         skips,
         even,
         odd,
-        likely: [0u64; map::WORDS],
     };
     let link = Link { first, second };
     change(words, links, &mut room, searches, Asked::Link(link))

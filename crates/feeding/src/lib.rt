@@ -171,7 +171,6 @@ pub fn run<T: Tells>(rt: &HostRuntime, tell: &mut T, names: Names<'_>) {
         skips: &mut skips,
         even: &mut even,
         odd: &mut odd,
-        likely: [0u64; map::WORDS],
     };
     answer_input(
         rt, progress, &mut links, &mut room, &mut line, &mut out, &mut input, tell, names,

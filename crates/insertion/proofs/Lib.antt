@@ -1,3 +1,4 @@
+pub mod Noted
 pub mod Once
 pub mod Dropping
 pub mod Shrinking

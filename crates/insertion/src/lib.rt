@@ -2,10 +2,10 @@
 
 #![tactic(auto)]
 
-ghost use Rattle.std.specs.Prelude.{◌≡◌, ◌<◌, ◌≤◌, length};
-ghost use Rattle.lists.specs.Lists.{range};
+ghost use Rattle.std.specs.Prelude.{Bool, ℕ, ◌≡◌, ◌&&◌, ◌||◌, ◌<◌, ◌≤◌, eqb, ltb, length};
+ghost use Rattle.lists.specs.Lists.{range, overwrite};
 ghost use Rattle.graph.specs.Chart.{chart, count_pairs};
-ghost use Rattle.rows.specs.Rows.{table_bit};
+ghost use Rattle.rows.specs.Rows.{row_bit, table_bit, encode_row};
 ghost use Rattle.graph.specs.Rounds.{round, rounds, start};
 ghost use Rattle.map.specs.Room.{AreLong};
 ghost use Rattle.map.specs.Memory.{base, places};
@@ -34,20 +34,22 @@ pub struct Figures {
     pub searches: u16,
 }
 
-// ---- the rows that are thought to have a pair (`Room`)
+// ---- the rows that are thought to have a pair: a row of codes that a call is lent as a hint
 
-// Adds those of a's own pairs: its own row, and those of its partners below it. Nothing is promised of what is thought.
-fn note_own(likely: &mut [u64], partners: &[u64], a: usize)
-    requires { (base.words ≤ length likely.old)
-        × (base.words ≤ length partners.now)
-        × (a < places base) }
+// Adds those of a's own pairs: its own row, and those of its partners below it.
+#[tactic(auto, using(crate::proofs::Noted::noted))]
+fn note_own(likely: &mut [u64; map::WORDS], partners: &[u64], a: usize)
+    requires { (base.words ≤ length partners.now) × (a < places base) }
+    ensures { let W = base.words in
+        let before = likely.old in
+        let had : (ℕ → Bool) = row_bit W before in
+        let near : (ℕ → Bool) = row_bit W partners.now in
+        likely.new ≡ overwrite (encode_row W (λ v. eqb v a || (had v || (near v && ltb v a)))) before }
 {
-    let last = a / 64;
-    for j in 0..last {
-        likely[j] |= partners[j];
+    for j in 0..map::WORDS {
+        likely[j] |= pairs::lower_part(partners[j], j, a);
     }
-    let w = likely[last] | words::below(partners[last], a % 64);
-    likely[last] = words::with_bit(w, a % 64);
+    rows::row_set(likely, map::WORDS, 0, a);
 }
 
 // ---- a call that searched from a alone
@@ -169,9 +171,11 @@ fn shrink(
 // ---- the whole step
 
 // The figures where what is a's own is not above the chain, without the stale pairs. A yard has nothing of its own: it keeps only a chain that was 0.
+// Of `likely` nothing is promised.
 fn settle_low(
     plan: Plan<'_>,
     room: &mut Room<'_>,
+    likely: &mut [u64; map::WORDS],
     partners: &mut [u64],
     a: usize,
     span: Span,
@@ -191,13 +195,7 @@ fn settle_low(
 {
     let pairs = &mut *room.pairs;
     let hops = &mut *room.hops;
-    let left = stale_pairs::drop_stale::<TABLE>(
-        pairs,
-        &mut room.likely,
-        &*hops,
-        map::WORDS,
-        stored,
-    );
+    let left = stale_pairs::drop_stale::<TABLE>(pairs, likely, &*hops, map::WORDS, stored);
     let chain = stored.chain;
     if span.own == chain {
         let found = Finished {
@@ -209,7 +207,7 @@ fn settle_low(
             count: left.count,
         };
         let sum = join(room.pairs, room.bounds, room.skips, a, found, staying);
-        note_own(&mut room.likely, &*partners, a);
+        note_own(likely, &*partners, a);
         return Figures {
             change: Change::Kept,
             chain,
@@ -234,7 +232,7 @@ fn settle_low(
             searches: 1,
         };
     }
-    rows::clear(&mut room.likely, map::WORDS);
+    rows::clear(likely, map::WORDS);
     let got = shrink(plan, room, partners, a, span, left.way);
     Figures {
         change: Change::Shrank,
@@ -245,8 +243,15 @@ fn settle_low(
 }
 
 // The figures after a's links are in place, by the stored chain and the count of the stored pairs: the search from a and what it says of a, then the
-// pairs, the marks and, if the chain shrank, the rounds. The targets are the depots that deliver.
-pub fn refigure(plan: Plan<'_>, room: &mut Room<'_>, a: usize, stored: Farthest) -> Figures
+// pairs, the marks and, if the chain shrank, the rounds. The targets are the depots that deliver. A hint, `likely`, says which rows of the pair table are
+// thought to have a pair: of it nothing is asked and nothing promised.
+pub fn refigure(
+    plan: Plan<'_>,
+    room: &mut Room<'_>,
+    likely: &mut [u64; map::WORDS],
+    a: usize,
+    stored: Farthest,
+) -> Figures
     requires { AreLong base (room_sizes (length plan.links.now) room.old)
         × IsFigurable base plan.members.now plan.targets.now plan.links.now (lent_in room.old) a stored.chain stored.count
         × (a < places base) }
@@ -280,8 +285,8 @@ pub fn refigure(plan: Plan<'_>, room: &mut Room<'_>, a: usize, stored: Farthest)
             partners: &partners,
         };
         let own = join(room.pairs, room.bounds, room.skips, a, found, stored);
-        rows::clear(&mut room.likely, map::WORDS);
-        note_own(&mut room.likely, &partners, a);
+        rows::clear(likely, map::WORDS);
+        note_own(likely, &partners, a);
         return Figures {
             change: Change::Grew,
             chain: span.own,
@@ -289,5 +294,5 @@ pub fn refigure(plan: Plan<'_>, room: &mut Room<'_>, a: usize, stored: Farthest)
             searches: 1,
         };
     }
-    settle_low(plan, room, &mut partners, a, span, stored)
+    settle_low(plan, room, likely, &mut partners, a, span, stored)
 }

@@ -39,8 +39,14 @@ fn keep_targets(targets: &mut [u64], yards: &[u64])
     map::keep_delivering(targets, yards, map::WORDS);
 }
 
-// The figures after the link of two codes, the lower one's search first.
-fn relink_codes(plan: Plan<'_>, room: &mut Room<'_>, link: Link, stored: Farthest) -> Figures
+// The figures after the link of two codes, the lower one's search first. Of `likely`, here and below, nothing is promised.
+fn relink_codes(
+    plan: Plan<'_>,
+    room: &mut Room<'_>,
+    likely: &mut [u64; map::WORDS],
+    link: Link,
+    stored: Farthest,
+) -> Figures
     requires { let low = min link.first link.second in
         let high = max link.first link.second in
         AreLong base (room_sizes (length plan.links.now) room.old)
@@ -55,12 +61,18 @@ fn relink_codes(plan: Plan<'_>, room: &mut Room<'_>, link: Link, stored: Farthes
 {
     let low = link.first.min(link.second);
     let high = link.first.max(link.second);
-    relink::relink(plan, room, low as usize, high as usize, stored)
+    relink::relink(plan, room, likely, low as usize, high as usize, stored)
 }
 
 // A link that nothing refuses: put in place, then the figures, the lower code's search first. It is kept apart, as the opening of a notice is.
 #[inline(never)]
-fn link_map(rec: Record, links: &mut [u64], room: &mut Room<'_>, link: Link) -> Returned
+fn link_map(
+    rec: Record,
+    links: &mut [u64],
+    room: &mut Room<'_>,
+    likely: &mut [u64; map::WORDS],
+    link: Link,
+) -> Returned
     requires { let long = room_sizes (length links.old) room.old in
         update_refusal base rec links.old room.old.pairs.now long (joins link.first link.second) ≡ 0 }
     ensures same { IsSameRoom room.old room.new }
@@ -81,7 +93,7 @@ fn link_map(rec: Record, links: &mut [u64], room: &mut Room<'_>, link: Link) -> 
         chain: rec.chain,
         count: rec.count,
     };
-    let got = relink_codes(plan, room, link, stored);
+    let got = relink_codes(plan, room, likely, link, stored);
     let mut after = rec;
     after.chain = got.chain;
     after.count = got.count;
@@ -95,7 +107,13 @@ fn link_map(rec: Record, links: &mut [u64], room: &mut Room<'_>, link: Link) -> 
 // The link for callers that hold a proved map, whose memory nothing refuses, on a record that is lent: the same answer without checking the memory again.
 // That is a fact of record, links and room together, which are lent apart. A refused call does not touch the record.
 #[tactic(auto, using(crate::proofs::Joined::judged, crate::proofs::Joined::called))]
-pub fn link_lent(rec: &mut Record, links: &mut [u64], room: &mut Room<'_>, link: Link) -> Report
+pub fn link_lent(
+    rec: &mut Record,
+    links: &mut [u64],
+    room: &mut Room<'_>,
+    likely: &mut [u64; map::WORDS],
+    link: Link,
+) -> Report
     requires { let long = room_sizes (length links.old) room.old in
         map_refusal base rec.old links.old room.old.pairs.now long ≡ 0 }
     ensures same { IsSameRoom room.old room.new }
@@ -104,7 +122,7 @@ pub fn link_lent(rec: &mut Record, links: &mut [u64], room: &mut Room<'_>, link:
 {
     match admission::link_refusal(&rec.members, &*links, map::WORDS, link) {
         Ok(()) => {
-            let got = link_map(*rec, links, room, link);
+            let got = link_map(*rec, links, room, likely, link);
             *rec = got.after;
             got.report
         }
@@ -113,7 +131,13 @@ pub fn link_lent(rec: &mut Record, links: &mut [u64], room: &mut Room<'_>, link:
 }
 
 // The same by value.
-pub fn link_sound(rec: Record, links: &mut [u64], room: &mut Room<'_>, link: Link) -> Returned
+pub fn link_sound(
+    rec: Record,
+    links: &mut [u64],
+    room: &mut Room<'_>,
+    likely: &mut [u64; map::WORDS],
+    link: Link,
+) -> Returned
     requires { let long = room_sizes (length links.old) room.old in
         map_refusal base rec links.old room.old.pairs.now long ≡ 0 }
     ensures same { IsSameRoom room.old room.new }
@@ -121,6 +145,6 @@ pub fn link_sound(rec: Record, links: &mut [u64], room: &mut Room<'_>, link: Lin
         ≡ update_call base rec links.old (lent_in room.old) (joins link.first link.second) }
 {
     let mut after = rec;
-    let report = link_lent(&mut after, links, room, link);
+    let report = link_lent(&mut after, links, room, likely, link);
     Returned { report, after }
 }

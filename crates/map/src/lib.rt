@@ -210,9 +210,8 @@ impl Scratch<'_> {
     }
 }
 
-// What a reckoning, an opening or a link is lent beside the link table: pair, hop, bound and skip table, and the two layer rows. Whoever makes it also keeps
-// in it, from call to call, which rows of the pair table are thought to have a pair, so that an opening or a link need not look for them. Nothing is promised
-// of that, and a new room may begin with none: what is thought wrong costs time and changes no answer.
+// What a reckoning, an opening or a link is lent beside the link table: pair, hop, bound and
+// skip table, and the two layer rows.
 #[derive(Drop)]
 pub struct Room<'a> {
     pub pairs: &'a mut [u64],
@@ -221,7 +220,6 @@ pub struct Room<'a> {
     pub skips: &'a mut [u16],
     pub even: &'a mut [u64],
     pub odd: &'a mut [u64],
-    pub likely: [u64; WORDS],
 }
 
 impl Room<'_> {

@@ -52,13 +52,14 @@ fn put_yard(yards: &mut [u64], yard: bool, code: u8)
 
 // The opening of a notice that nothing refuses: its links in place, then the figures. It takes the notice apart (a `Notice` was tried): that the neighbours are
 // bytes is known of an argument at each place below, and of a struct's field only as long as it is used. It is kept apart, so that a notice that is refused
-// sets up none of the memory that it works in.
+// sets up none of the memory that it works in. Of `likely`, the rows that are thought to have a pair, nothing is promised.
 #[tactic(auto, using(crate::proofs::Placed::room_for_one))]
 #[inline(never)]
 fn open_map(
     rec: Record,
     links: &mut [u64],
     room: &mut Room<'_>,
+    likely: &mut [u64; map::WORDS],
     yard: bool,
     code: u8,
     neighbours: &[u8],
@@ -85,7 +86,7 @@ fn open_map(
         chain: rec.chain,
         count: rec.count,
     };
-    let got = insertion::refigure(plan, room, code as usize, stored);
+    let got = insertion::refigure(plan, room, likely, code as usize, stored);
     let mut after = rec;
     after.members = members;
     after.number = rec.number + 1;
@@ -100,12 +101,13 @@ fn open_map(
 }
 
 // The opening for callers that hold a proved map, whose memory nothing refuses, on a record that is lent: the same answer without checking the memory
-// again. That is a fact of record, links and room together, which are lent apart. A refused call does not touch the record.
+// again. That is a fact of record, links and room together, which are lent apart. A refused call does not touch the record. Of `likely` nothing is promised.
 #[tactic(auto, using(crate::proofs::Placed::judged, crate::proofs::Placed::called))]
 pub fn open_lent(
     rec: &mut Record,
     links: &mut [u64],
     room: &mut Room<'_>,
+    likely: &mut [u64; map::WORDS],
     notice: Notice<'_>,
 ) -> Report
     requires { let long = room_sizes (length links.old) room.old in
@@ -120,6 +122,7 @@ pub fn open_lent(
                 *rec,
                 links,
                 room,
+                likely,
                 notice.yard,
                 notice.code,
                 notice.neighbours,
@@ -136,6 +139,7 @@ pub fn open_sound(
     rec: Record,
     links: &mut [u64],
     room: &mut Room<'_>,
+    likely: &mut [u64; map::WORDS],
     notice: Notice<'_>,
 ) -> Returned
     requires { let long = room_sizes (length links.old) room.old in
@@ -145,6 +149,6 @@ pub fn open_sound(
         ≡ update_call base rec links.old (lent_in room.old) (asked notice.entry) }
 {
     let mut after = rec;
-    let report = open_lent(&mut after, links, room, notice);
+    let report = open_lent(&mut after, links, room, likely, notice);
     Returned { report, after }
 }

@@ -33,7 +33,7 @@ fn put_pair(pairs: &mut [u64], words: usize, low: usize, high: usize, count: u32
 
 // The members below high of x, which is word j of a row. The bound on j keeps their numbers in a usize.
 #[tactic(auto, using(crate::proofs::WordPairs::part_some))]
-fn lower_part(x: u64, j: usize, high: usize) -> u64
+pub fn lower_part(x: u64, j: usize, high: usize) -> u64
     requires { j < 512 }
     ensures { result ≡ word_of 64 (λ b. bit x b && ltb (64 * j + b) high) }
 {

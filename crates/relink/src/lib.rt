@@ -219,10 +219,11 @@ fn shrink(
 
 // ---- the whole step
 
-// The figures by the finished searches of both ends, without the stale pairs.
+// The figures by the finished searches of both ends, without the stale pairs. Of `likely` nothing is promised.
 fn settle(
     plan: Plan<'_>,
     room: &mut Room<'_>,
+    likely: &mut [u64; map::WORDS],
     low: Low<'_>,
     high: High,
     fars: &mut [u64],
@@ -241,7 +242,6 @@ fn settle(
         ≡ relinked_by base G low.entry.code high.code stored.chain (lent_in room.old) }
 {
     let pairs = &mut *room.pairs;
-    let likely = &mut room.likely;
     let hops = &mut *room.hops;
     let near = low.hops;
     let left = stale_pairs::drop_stale_either::<TABLE>(
@@ -272,7 +272,7 @@ fn settle(
             searches: 2,
         };
     }
-    rows::clear(&mut room.likely, map::WORDS);
+    rows::clear(likely, map::WORDS);
     let got = shrink(plan, room, low, high, fars, left.way);
     Figures {
         change: Change::Shrank,
@@ -284,10 +284,11 @@ fn settle(
 
 // The figures after the link of low and high is in place, by the stored chain and the count of the stored pairs: the search from low on local tables and the
 // one from high on the lent ones, what each says of its end, then the pairs, the marks and, if the chain shrank, the rounds. The targets are the depots that
-// deliver.
+// deliver. A hint, `likely`, says which rows of the pair table are thought to have a pair: of it nothing is asked and nothing promised.
 pub fn relink(
     plan: Plan<'_>,
     room: &mut Room<'_>,
+    likely: &mut [u64; map::WORDS],
     low: usize,
     high: usize,
     stored: Farthest,
@@ -355,5 +356,5 @@ pub fn relink(
         code: high,
         span: f,
     };
-    settle(plan, room, lower, higher, &mut fars, stored)
+    settle(plan, room, likely, lower, higher, &mut fars, stored)
 }

@@ -22,11 +22,13 @@ pub enum Asked<'a> {
 }
 
 // The step for callers that hold a proved map, whose memory nothing refuses, on a record that is lent: the same answer without checking the memory again. A
-// refused call does not touch the record.
+// refused call does not touch the record. A caller of many steps keeps `likely` between them, the rows of the pair table that are thought to have a pair; it
+// begins with none. Of it nothing is asked and nothing promised: what is thought wrong costs time and changes no answer.
 pub fn step_lent(
     rec: &mut Record,
     links: &mut [u64],
     room: &mut Room<'_>,
+    likely: &mut [u64; map::WORDS],
     asked: Asked<'_>,
 ) -> Report
     requires { let long = room_sizes (length links.old) room.old in
@@ -36,13 +38,19 @@ pub fn step_lent(
         ≡ update_call base rec.old links.old (lent_in room.old) (update_of asked.entry) }
 {
     match asked {
-        Asked::Opening(notice) => opening::open_lent(rec, links, room, notice),
-        Asked::Link(link) => linking::link_lent(rec, links, room, link),
+        Asked::Opening(notice) => opening::open_lent(rec, links, room, likely, notice),
+        Asked::Link(link) => linking::link_lent(rec, links, room, likely, link),
     }
 }
 
 // The same by value.
-pub fn step_sound(rec: Record, links: &mut [u64], room: &mut Room<'_>, asked: Asked<'_>) -> Returned
+pub fn step_sound(
+    rec: Record,
+    links: &mut [u64],
+    room: &mut Room<'_>,
+    likely: &mut [u64; map::WORDS],
+    asked: Asked<'_>,
+) -> Returned
     requires { let long = room_sizes (length links.old) room.old in
         map_refusal base rec links.old room.old.pairs.now long ≡ 0 }
     ensures same { IsSameRoom room.old room.new }
@@ -50,8 +58,8 @@ pub fn step_sound(rec: Record, links: &mut [u64], room: &mut Room<'_>, asked: As
         ≡ update_call base rec links.old (lent_in room.old) (update_of asked.entry) }
 {
     match asked {
-        Asked::Opening(notice) => opening::open_sound(rec, links, room, notice),
-        Asked::Link(link) => linking::link_sound(rec, links, room, link),
+        Asked::Opening(notice) => opening::open_sound(rec, links, room, likely, notice),
+        Asked::Link(link) => linking::link_sound(rec, links, room, likely, link),
     }
 }
 
@@ -62,7 +70,7 @@ pub fn step(rec: Record, links: &mut [u64], room: &mut Room<'_>, asked: Asked<'_
         ≡ update_call base rec links.old (lent_in room.old) (update_of asked.entry) }
 {
     match update::room_refusal(rec, &*links, &*room) {
-        Ok(()) => step_sound(rec, links, room, asked),
+        Ok(()) => step_sound(rec, links, room, &mut [0u64; map::WORDS], asked),
         Err(refusal) => update::refused(rec, refusal.number()),
     }
 }

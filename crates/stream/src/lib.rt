@@ -54,7 +54,7 @@ pub fn begin(links: &mut [u64], pairs: &mut [u64]) -> Progress
     }
 }
 
-// ---- a line's answer
+// ---- a line's answer. Of `likely`, the rows that are thought to have a pair, nothing is promised: a piece's lines hand it on to each other.
 
 // The frame that a buffer begins with, of the length that was found, if any was.
 #[tactic(auto, using(crate::proofs::Answers::readings))]
@@ -68,7 +68,13 @@ fn frame_read(buffer: &[u8], count: Option<usize>) -> Option<&[u8]>
 
 // Answers a frame by its kind: the opening of a depot or a yard, or the link of two depots.
 #[tactic(auto, using(notice::proofs::Readings::behind), unfolding(transcript::specs::Transcript::update_in))]
-fn answer_frame(rec: &mut Record, links: &mut [u64], room: &mut Room<'_>, frame: &[u8]) -> Report
+fn answer_frame(
+    rec: &mut Record,
+    links: &mut [u64],
+    room: &mut Room<'_>,
+    likely: &mut [u64; map::WORDS],
+    frame: &[u8],
+) -> Report
     requires { let long = room_sizes (length links.old) room.old in
         (map_refusal base rec.old links.old room.old.pairs.now long ≡ 0) × (3 ≤ length frame.now) }
     ensures same { IsSameRoom room.old room.new }
@@ -88,7 +94,7 @@ fn answer_frame(rec: &mut Record, links: &mut [u64], room: &mut Room<'_>, frame:
             second: frame[2],
         })
     };
-    step::step_lent(rec, links, room, asked)
+    step::step_lent(rec, links, room, likely, asked)
 }
 
 // Answers a line by the frame that it spells: what the frame asks for, or the refusal where there is none.
@@ -97,6 +103,7 @@ fn answer_line(
     rec: &mut Record,
     links: &mut [u64],
     room: &mut Room<'_>,
+    likely: &mut [u64; map::WORDS],
     read: Option<&[u8]>,
 ) -> Report
     requires free { let long = room_sizes (length links.old) room.old in
@@ -107,7 +114,7 @@ fn answer_line(
         ≡ answer_to (option_copied read.entry) rec.old links.old (lent_in room.old) }
 {
     match read {
-        Some(frame) => answer_frame(rec, links, room, frame),
+        Some(frame) => answer_frame(rec, links, room, likely, frame),
         None => update::refused(*rec, Refusal::Garbled.number()).report,
     }
 }
@@ -118,6 +125,7 @@ fn take_line<T: Tells>(
     fed: &mut Fed,
     links: &mut [u64],
     room: &mut Room<'_>,
+    likely: &mut [u64; map::WORDS],
     read: Option<&[u8]>,
     out: &mut [u8],
     tell: &mut T,
@@ -134,7 +142,7 @@ fn take_line<T: Tells>(
     ensures written { fed.new.written ≤ length out.new }
 {
     let number = fed.progress.lines + 1;
-    let report = answer_line(&mut fed.progress.rec, links, room, read);
+    let report = answer_line(&mut fed.progress.rec, links, room, likely, read);
     let got = Returned {
         report,
         after: fed.progress.rec,
@@ -173,6 +181,7 @@ pub fn feed<T: Tells>(
         written: 0,
     };
     let mut frame = [0u8; notice::FRAME_LIMIT];
+    let mut likely = [0u64; map::WORDS];
     while now.used < piece.len() {
         if line_buffer::is_stopped(&*tell, now.progress.lines, now.written, out.len()) {
             return now;
@@ -184,7 +193,7 @@ pub fn feed<T: Tells>(
             return now;
         }
         let read = frame_read(&frame, taken.frame);
-        take_line(&mut now, links, room, read, out, tell);
+        take_line(&mut now, links, room, &mut likely, read, out, tell);
     }
     now
 }
@@ -217,7 +226,9 @@ pub fn finish<T: Tells>(
         return fed;
     }
     let mut frame = [0u8; notice::FRAME_LIMIT];
+    let mut likely = [0u64; map::WORDS];
     let read = notice::read_frame(&mut frame, &line[..progress.held]);
-    take_line(&mut fed, links, room, frame_read(&frame, read), out, tell);
+    let read = frame_read(&frame, read);
+    take_line(&mut fed, links, room, &mut likely, read, out, tell);
     fed
 }

@@ -84,7 +84,6 @@ fn survey_file(
         skips: &mut skips,
         even: &mut even,
         odd: &mut odd,
-        likely: [0u64; map::WORDS],
     };
     let followed = follow_file(rt, begun, &mut links, &mut room, &mut line, out, input, i);
     let mut scratch = Scratch {

@@ -85,7 +85,6 @@ impl Lent {
             skips: &mut self.scratch.skips,
             even: &mut self.scratch.even,
             odd: &mut odd[..words],
-            likely: [0u64; map::WORDS],
         };
         let asked = opening::Notice {
             yard: false,
@@ -106,7 +105,6 @@ impl Lent {
             skips: &mut self.scratch.skips,
             even: &mut self.scratch.even,
             odd: &mut self.scratch.odd,
-            likely: [0u64; map::WORDS],
         };
         let reckoned = reckon::reckon_all(self.rec, &self.links, &mut room)?;
         self.rec = reckoned.after;
