@@ -1,5 +1,5 @@
--- What the calls for other languages on a map promise: the call that each wraps, in numbers and lent words (crate c_values has the record's words).
--- Order of reading:
+-- What the calls for other languages on a map promise: the call that each wraps, in numbers and
+-- lent words (crate c_values has the record's words). Order of reading:
 -- 1. emptying, the search, the whole reckoning
 pub mod Outs
 -- 2. the calls on depots near one

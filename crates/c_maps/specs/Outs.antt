@@ -1,6 +1,6 @@
--- EMPTYING, THE SEARCH AND THE WHOLE RECKONING for other languages. Each is the call that it wraps, on
--- the record in the lent words: the answer's number, the lent values, and the rest of what is lent. A
--- refused one changes nothing. Assumes nothing.
+-- EMPTYING, THE SEARCH AND THE WHOLE RECKONING for other languages. Each is the call that it wraps,
+-- on the record in the lent words: the answer's number, the lent values, and the rest of what is
+-- lent. A refused one changes nothing. Assumes nothing.
 use Rattle.std.specs.Prelude.{List, ℕ, nat_lt, if◌then◌else◌, length, Result, Ok, Err}
 use Rattle.lists.specs.Lists.{overwrite}
 use Rattle.map.specs.Room.{Tables, Lent}

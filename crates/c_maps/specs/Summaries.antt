@@ -1,6 +1,6 @@
--- THE CALL OF THE NETWORK REPORT for other languages. It is the call that it wraps, on the record in
--- the lent words: the answer's number, the four lent numbers, and the rest of what is lent. A refused
--- one changes nothing. Assumes nothing.
+-- THE CALL OF THE NETWORK REPORT for other languages. It is the call that it wraps, on the record
+-- in the lent words: the answer's number, the four lent numbers, and the rest of what is lent. A
+-- refused one changes nothing. Assumes nothing.
 use Rattle.std.specs.Prelude.{List, ℕ, nat_lt, if◌then◌else◌, length, Result, Ok, Err}
 use Rattle.map.specs.Room.{Tables}
 use Rattle.map.specs.Memory.{base}

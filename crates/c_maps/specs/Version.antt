@@ -1,7 +1,9 @@
--- THE VERSION OF THE INTERFACE: what a program can compare with the header that it was written with. Assumes nothing.
+-- THE VERSION OF THE INTERFACE: what a program can compare with the header that it was written
+-- with. Assumes nothing.
 use Rattle.std.specs.Prelude.{ℕ, ◌+◌, ◌*◌}
 
--- rises where a program that was built with the header before would no longer do the same: arguments, sizes, numbers or promises changed
+-- rises where a program that was built with the header before would no longer do the same:
+-- arguments, sizes, numbers or promises changed
 abbrev pub major_version : ℕ
 major_version = 4
 

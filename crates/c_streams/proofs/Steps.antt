@@ -5,6 +5,8 @@ use mathlib.Core.List.{List}
 use Prim.Native.Nat.{ℕ, zero, suc}
 use lib.Dec.{eqb}
 use lib.ListN.{length}
+use borrow.Author.Tests.{ne_eqb}
+use Rattle.std.specs.Prelude.{◌==◌, if◌then◌else◌}
 use Rattle.lists.specs.Lists.{overwrite}
 use Rattle.map.specs.Room.{tables, Lent, lent, sizes, sizes_of}
 use Rattle.map.specs.Memory.{base}
@@ -18,7 +20,7 @@ use Rattle.stream.specs.declared.Fed.{Fed}
 use Rattle.c_values.specs.Words.{record_of, words_of, clamped_of}
 use Rattle.c_values.specs.Refusal.{step_refusal}
 use Rattle.c_values.proofs.Refusals.{step_granted}
-use Rattle.c_streams.specs.Feeds.{FedOut, fed_out, fed_from, feed_given, refusal_in, feed_out, finish_given, finish_out}
+use Rattle.c_streams.specs.Feeds.{FedValues, FedMemory, step_out, feed_out, finish_out}
 use Rattle.c_values.proofs.Clamps.{clamped_is}
 
 -- such a step may be taken
@@ -55,63 +57,73 @@ module _ (words links p h x y b s line out : List ℕ) (lines held used written 
   abbrev B : Lent
   B = lent p (tables h x y) b s
 
-  abbrev m : FedOut
-  m = fed_out 0 words lines held used written links B line out
+  abbrev v : FedValues
+  v = (words, lines, held, used, written)
+
+  abbrev m : FedMemory
+  m = (links, B, line, out)
 
   abbrev first : ℕ
   first = step_refusal words links p (sizes (length links) (length p) (length h) (length b) (length s) (length x) (length y)) (length line) (length out) held
 
-  first_is : first ≡ refusal_in m
-  unfolding refusal_in sizes_of
-  first_is = refl
+  -- a step by its refusal
+  abbrev given : (Progress → Feeding) → ℕ → ℕ × FedValues × FedMemory
+  given step k =
+      let F = step (progress_of (record_of words) lines held) in
+      let q = F.fed.progress in
+      if k == 0 then (0, (overwrite (words_of q.rec) words, q.lines, q.held, F.fed.used, F.fed.written), (F.links, F.lent, F.line, F.out)) else (k, v, m)
 
-  pub feed_refused : (piece : List ℕ) {k : ℕ} → k ≡ first → (k ≡ 0 → ⊥) → fed_out k words lines held used written links B line out ≡ feed_out m piece
-  unfolding feed_out feed_given
-  feed_refused piece {k} e n = go k n ∙ ap (λ (j : ℕ). feed_given j m piece) (e ∙ first_is)
-    where
-      go : (k : ℕ) → (k ≡ 0 → ⊥) → fed_out k words lines held used written links B line out ≡ feed_given k m piece
-      go zero n = absurd (n refl)
-      go (suc k) n = refl
+  given_is : (step : Progress → Feeding) → given step first ≡ step_out step v m
+  unfolding step_out sizes_of
+  given_is step = refl
 
-  pub finish_refused : {k : ℕ} → k ≡ first → (k ≡ 0 → ⊥) → fed_out k words lines held used written links B line out ≡ finish_out m
-  unfolding finish_out finish_given
-  finish_refused {k} e n = go k n ∙ ap (λ (j : ℕ). finish_given j m) (e ∙ first_is)
+  refused : (step : Progress → Feeding) {k : ℕ} → k ≡ first → (k ≡ 0 → ⊥) → ◌≡◌ {A = ℕ × FedValues × FedMemory} (k, v, m) (step_out step v m)
+  refused step {k} e n = go k n ∙ ap (given step) e ∙ given_is step
     where
-      go : (k : ℕ) → (k ≡ 0 → ⊥) → fed_out k words lines held used written links B line out ≡ finish_given k m
+      go : (k : ℕ) → (k ≡ 0 → ⊥) → ◌≡◌ {A = ℕ × FedValues × FedMemory} (k, v, m) (given step k)
       go zero n = absurd (n refl)
-      go (suc k) n = refl
+      go (suc k) n = rw (ne_eqb (suc k) 0 n) refl
+
+  pub feed_refused : (piece : List ℕ) {k : ℕ} → k ≡ first → (k ≡ 0 → ⊥) → ◌≡◌ {A = ℕ × FedValues × FedMemory} (k, v, m) (feed_out v m piece)
+  unfolding feed_out
+  feed_refused piece e n = refused _ e n
+
+  pub finish_refused : {k : ℕ} → k ≡ first → (k ≡ 0 → ⊥) → ◌≡◌ {A = ℕ × FedValues × FedMemory} (k, v, m) (finish_out v m)
+  unfolding finish_out
+  finish_refused e n = refused _ e n
 
   module _ (e : 0 ≡ first) {rec : Record} (read : rec ≡ clamped_of words) where
     read_is : rec ≡ record_of words
     read_is = read ∙ clamped_is words links p _ (step_granted _ _ _ _ _ _ _ (sym e)).3
 
     module _ (fed : Fed) (links' line' out' words' : List ℕ) (B' : Lent) (wrote : words' ≡ overwrite (words_of fed.progress.rec) words) where
-      abbrev after : ℕ → FedOut
-      after u = fed_out 0 words' fed.progress.lines fed.progress.held u fed.written links' B' line' out'
+      abbrev after : ℕ → ℕ × FedValues × FedMemory
+      after u = (0, (words', fed.progress.lines, fed.progress.held, u, fed.written), (links', B', line', out'))
 
-      from : fed_from (feeding fed links' B' line' out') words ≡ after fed.used
-      unfolding fed_from
-      from = ap (λ (w : List ℕ). fed_out 0 w fed.progress.lines fed.progress.held fed.used fed.written links' B' line' out') (sym wrote)
+      abbrev from : Feeding → ℕ × FedValues × FedMemory
+      from F =
+          let q = F.fed.progress in
+          (0, (overwrite (words_of q.rec) words, q.lines, q.held, F.fed.used, F.fed.written), (F.links, F.lent, F.line, F.out))
 
-      pub feed_done : (piece : List ℕ) → feeding fed links' B' line' out' ≡ feed_call as_reports (progress_of rec lines held) links B line out piece → after fed.used ≡ feed_out m piece
-      unfolding feed_out feed_given
-      feed_done piece left =
-          sym from
-          ∙ ap (λ (F : Feeding). fed_from F words) (left ∙ ap (λ (x : Record). feed_call as_reports (progress_of x lines held) links B line out piece) read_is)
-          ∙ ap (λ (j : ℕ). feed_given j m piece) (e ∙ first_is)
+      done : (step : Progress → Feeding) → feeding fed links' B' line' out' ≡ step (progress_of rec lines held) → after fed.used ≡ step_out step v m
+      done step left =
+          ap (λ (w : List ℕ). (0, (w, fed.progress.lines, fed.progress.held, fed.used, fed.written), (links', B', line', out'))) wrote
+          ∙ ap from (left ∙ ap (λ (x : Record). step (progress_of x lines held)) read_is)
+          ∙ ap (given step) e
+          ∙ given_is step
 
-      pub finish_done : feeding fed links' B' line' out' ≡ finish_call as_reports (progress_of rec lines held) links B line out → after 0 ≡ finish_out m
-      unfolding finish_out finish_given
+      pub feed_done : (piece : List ℕ) → feeding fed links' B' line' out' ≡ feed_call as_reports (progress_of rec lines held) links B line out piece → after fed.used ≡ feed_out v m piece
+      unfolding feed_out
+      feed_done piece left = done (λ q. feed_call as_reports q links B line out piece) left
+
+      pub finish_done : feeding fed links' B' line' out' ≡ finish_call as_reports (progress_of rec lines held) links B line out → after 0 ≡ finish_out v m
+      unfolding finish_out
       finish_done left =
           ap after (sym (ap (λ (F : Feeding). F.fed.used) left ∙ end_unused (progress_of rec lines held) links B line out))
-          ∙ sym from
-          ∙ ap (λ (F : Feeding). fed_from F words) (left ∙ ap (λ (x : Record). finish_call as_reports (progress_of x lines held) links B line out) read_is)
-          ∙ ap (λ (j : ℕ). finish_given j m) (e ∙ first_is)
+          ∙ done (λ q. finish_call as_reports q links B line out) left
 
 -- the tables of a room stand where they were lent
-pub fed_lent : {r lines held used written : ℕ} {words links line out : List ℕ} {B' B'' : Lent} {y : FedOut}
-    → fed_out r words lines held used written links B' line out ≡ y
-    → B'' ≡ B'
-    → fed_out r words lines held used written links B'' line out ≡ y
-fed_lent {r} {lines} {held} {used} {written} {words} {links} {line} {out} e q =
-    ap (λ (T : Lent). fed_out r words lines held used written links T line out) q ∙ e
+pub fed_lent : {r : ℕ} {v : FedValues} {links line out : List ℕ} {B' B'' : Lent} {y : ℕ × FedValues × FedMemory}
+    → ◌≡◌ {A = ℕ × FedValues × FedMemory} (r, v, (links, B', line, out)) y → B'' ≡ B'
+    → ◌≡◌ {A = ℕ × FedValues × FedMemory} (r, v, (links, B'', line, out)) y
+fed_lent {r} {v} {links} {line} {out} e q = ap (λ (T : Lent). (r, v, (links, T, line, out))) q ∙ e

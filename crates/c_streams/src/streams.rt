@@ -1,7 +1,7 @@
 // The step of the stream.
 ghost use Rattle.std.specs.Prelude.{◌≡◌};
 ghost use Rattle.map.specs.Slices.{lent_before, lent_after};
-ghost use Rattle.c_streams.specs.Feeds.{fed_out, feed_out, finish_out};
+ghost use Rattle.c_streams.specs.Feeds.{FedValues, feed_out, finish_out};
 
 use line_buffer::Reports;
 use map::{Lengths, Room};
@@ -29,11 +29,9 @@ pub extern "C" fn zorpedi_feed(
 ) -> u8
     ensures { let before = lent_before pairs hops bounds skips even odd in
         let after = lent_after pairs hops bounds skips even odd in
-        let entry = fed_out 0 words.old lines.old held.old used.old written.old
-        links.old before line.old out.old in
-        let exit = fed_out result words.new lines.new held.new used.new written.new
-        links.new after line.new out.new in
-        exit ≡ feed_out entry piece.now }
+        let values : FedValues = (words.old, lines.old, held.old, used.old, written.old) in
+        (result, (words.new, lines.new, held.new, used.new, written.new), (links.new, after, line.new, out.new))
+        ≡ feed_out values (links.old, before, line.old, out.old) piece.now }
 {
     let lengths = Lengths {
         hops: hops.len(),
@@ -104,11 +102,9 @@ pub extern "C" fn zorpedi_finish(
 ) -> u8
     ensures { let before = lent_before pairs hops bounds skips even odd in
         let after = lent_after pairs hops bounds skips even odd in
-        let entry = fed_out 0 words.old lines.old held.old 0 written.old
-        links.old before line.now out.old in
-        let exit = fed_out result words.new lines.new held.new 0 written.new
-        links.new after line.now out.new in
-        exit ≡ finish_out entry }
+        let values : FedValues = (words.old, lines.old, held.old, 0, written.old) in
+        (result, (words.new, lines.new, held.new, 0, written.new), (links.new, after, line.now, out.new))
+        ≡ finish_out values (links.old, before, line.now, out.old) }
 {
     let lengths = Lengths {
         hops: hops.len(),

@@ -1,6 +1,8 @@
 // Notice lines and report lines.
 ghost use Rattle.std.specs.Prelude.{◌≡◌};
-ghost use Rattle.c_streams.specs.Lines.{line_out, read_out, write_out, report_fields, report_out};
+ghost use Rattle.report.specs.declared.ReportFields.{ReportFields};
+ghost use Rattle.c_values.specs.Outcomes.{outcome_of};
+ghost use Rattle.c_streams.specs.Lines.{read_out, write_out, report_out};
 
 use report::ReportFields;
 
@@ -12,8 +14,8 @@ pub extern "C" fn zorpedi_read_notice(
     used: &mut usize,
     input: &[u8],
 ) -> u8
-    ensures { line_out result length.new used.new frame.new
-        ≡ read_out input.now frame.old length.old used.old }
+    ensures { (result, (length.new, used.new), frame.new)
+        ≡ read_out input.now frame.old (length.old, used.old) }
 {
     match notice::read_notice(frame, input) {
         Ok(read) => {
@@ -28,7 +30,7 @@ pub extern "C" fn zorpedi_read_notice(
 // Writes the line of a frame into line (517 bytes). 0, and the line's length; or 1 (short), 9 (garbled).
 #[unsafe(no_mangle)]
 pub extern "C" fn zorpedi_write_notice(line: &mut [u8], length: &mut usize, frame: &[u8]) -> u8
-    ensures { line_out result length.new 0 line.new ≡ write_out frame.now line.old length.old }
+    ensures { (result, length.new, line.new) ≡ write_out frame.now line.old length.old }
 {
     match notice::write_notice(line, frame) {
         Ok(end) => {
@@ -51,8 +53,15 @@ pub extern "C" fn zorpedi_report(
     pairs: u32,
     searches: u16,
 ) -> u8
-    ensures { let fields = report_fields number answer depots chain pairs searches in
-        line_out result length.new 0 line.new ≡ report_out fields line.old length.old }
+    ensures { let fields : ReportFields = record {
+      number = number;
+      outcome = outcome_of answer;
+      depots = depots;
+      chain = chain;
+      pairs = pairs;
+      searches = searches;
+    } in
+        (result, length.new, line.new) ≡ report_out fields line.old length.old }
 {
     let outcome = c_values::outcome_of(answer);
     let fields = ReportFields {

@@ -2,7 +2,7 @@
 -- Assumes nothing.
 use mathlib.Core.Path.{◌≡◌, refl, sym, ap, ap₂, ◌∙◌}
 use mathlib.Core.Bool.{true}
-use mathlib.Core.List.{List, [], ◌∷◌, Memᴰ}
+use mathlib.Core.List.{List, [], ◌∷◌, map, Memᴰ}
 use Prim.Native.Nat.{ℕ, zero, suc, ◌<◌}
 use native.Mathlib.Omega.{arith}
 use lib.ListN.{length}
@@ -30,7 +30,7 @@ use Rattle.update.proofs.Memories.{IsHeld, Stores, memory_for, depots_few}
 use Rattle.update.proofs.Grants.{held_after}
 use Rattle.history.proofs.Steps.{lent_says, refusal_is, IsUpdated, updated}
 use Rattle.update.proofs.Keeps.{left_ends, left_stores}
-use Rattle.cases.specs.Results.{pairs_in, answer_of, LentUpdate, left_on, answers_of, updates_of, AllLong}
+use Rattle.cases.specs.Results.{pairs_in, Line, answer_of, LentUpdate, left_on, answers_of, updates_of, AllLong}
 use Rattle.cases.proofs.Listings.{pairs_open, count_open}
 use Rattle.map.proofs.Theorems.{base_shape}
 use Rattle.graph.proofs.Delivers.{delivers_open}
@@ -46,6 +46,35 @@ line_is : (l k s : ℕ) (N : Network) (D : ℕ) (P : Pairs) → line_for l k s (
     ≡ record { letter = l; refusal = k; number = length (vertices N); chain = D; count = count_pairs (vertices N) P; searches = s; pairs = pair_list (vertices N) P }
 unfolding line_for
 line_is l k s N D P = refl
+
+-- a line as the network's own cases have it
+unfoldable pub line_left : UpdateLeft → AnswerLine
+line_left l = record {
+  letter = Outcome.letter_of l.report.outcome;
+  refusal = Outcome.refusal_of l.report.outcome;
+  number = l.after.number;
+  chain = l.after.chain;
+  count = l.after.count;
+  searches = l.report.searches;
+  pairs = pairs_in l.lent.pairs;
+}
+
+unfoldable pub lines_left : Memory → List LentUpdate → List AnswerLine
+lines_left M [] = []
+lines_left M (c ∷ cs) =
+    let l = left_on (update_call base) M c in
+    line_left l ∷ lines_left (memory_after M c.lending (memory_left l)) cs
+
+-- and as the table has it
+abbrev pub row : AnswerLine → Line
+row a = ((a.letter, a.refusal), (a.number, a.chain, a.count), a.searches, a.pairs)
+
+pub rows_are : (M : Memory) (cs : List LentUpdate) → answers_of (update_call base) M cs ≡ map row (lines_left M cs)
+unfolding answers_of answer_of lines_left line_left
+rows_are M [] = refl
+rows_are M (c ∷ cs) =
+    let l = left_on (update_call base) M c in
+    ap (λ (rs : List Line). answer_of l ∷ rs) (rows_are (memory_after M c.lending (memory_left l)) cs)
 
 -- the figures and the line of an opening that leaves x in the network N
 abbrev figured_by : Network → Opened → PlainMap
@@ -75,8 +104,8 @@ follow_cons M o os = refl
 
 line_read : (N : Network) (D : ℕ) (P : Pairs) → vertices N ≡ filterb N.is_open (range 256) → ((u v : ℕ) → P u v ≡ true → (N.is_open u ≡ true) × (N.is_open v ≡ true))
     → (l : UpdateLeft) → Stores base N D P l.after l.links l.lent.pairs
-    → answer_of l ≡ line_for (Outcome.letter_of l.report.outcome) (Outcome.refusal_of l.report.outcome) l.report.searches (record { net = N; chain = D; pairs = P })
-unfolding answer_of pairs_in
+    → line_left l ≡ line_for (Outcome.letter_of l.report.outcome) (Outcome.refusal_of l.report.outcome) l.report.searches (record { net = N; chain = D; pairs = P })
+unfolding line_left pairs_in
 line_read N D P depots ends l s =
     (λ i. record {
       letter = Outcome.letter_of l.report.outcome;
@@ -152,7 +181,7 @@ module _ (G : Network) (held : IsHeld base G) (c : LentUpdate) (within : IsWithi
     unfolding update_given
     given_line = rw (accepted_none x.change)
 
-    accepted_line : answer_of (update_given zero base R L B o) ≡ (follow_one zero (figured_for G) o).1
+    accepted_line : line_left (update_given zero base R L B o) ≡ (follow_one zero (figured_for G) o).1
     accepted_line =
         let same = opened_is G (diameter G) (farthest G) R L B.pairs o says in
         line_read H x.final.candidate x.final.pairs (held_after base base_shape R L B.pairs (sizes_of L B) o ok within).depots ends l (left_stores base R L B o base_shape ok within)
@@ -177,7 +206,7 @@ module _ (G : Network) (held : IsHeld base G) (c : LentUpdate) (within : IsWithi
   own_ends : (u v : ℕ) → farthest G u v ≡ true → (G.is_open u ≡ true) × (G.is_open v ≡ true)
   own_ends u v h = let f = (farthest_is G held.net u v).0 (true→t h) in (t→true (G.is_open u) (delivers_open G u f.first), t→true (G.is_open v) (delivers_open G v f.second))
 
-  refused_line : (k : ℕ) → answer_of (update_given (suc k) base R L B o) ≡ (follow_one (suc k) (figured_for G) o).1
+  refused_line : (k : ℕ) → line_left (update_given (suc k) base R L B o) ≡ (follow_one (suc k) (figured_for G) o).1
   unfolding update_given Outcome.letter_of Outcome.refusal_of
   refused_line k =
       line_read G (diameter G) (farthest G) held.depots own_ends (update_given (suc k) base R L B o) says
@@ -185,11 +214,11 @@ module _ (G : Network) (held : IsHeld base G) (c : LentUpdate) (within : IsWithi
 
   -- ---- either
 
-  call_line : answer_of (left_on (update_call base) (memory_for base G) c) ≡ (follow_one (first_of (update_faults G o)) (figured_for G) o).1
+  call_line : line_left (left_on (update_call base) (memory_for base G) c) ≡ (follow_one (first_of (update_faults G o)) (figured_for G) o).1
   unfolding left_on update_call
   call_line = go (update_refusal base R L B.pairs (sizes_of L B) o) refl ∙ ap (λ (k : ℕ). (follow_one k (figured_for G) o).1) plain_is
     where
-      go : (k : ℕ) → update_refusal base R L B.pairs (sizes_of L B) o ≡ k → answer_of (update_given k base R L B o) ≡ (follow_one k (figured_for G) o).1
+      go : (k : ℕ) → update_refusal base R L B.pairs (sizes_of L B) o ≡ k → line_left (update_given k base R L B o) ≡ (follow_one k (figured_for G) o).1
       go zero ok = accepted_line ok
       go (suc k) ko = refused_line k
 
@@ -212,19 +241,19 @@ module _ (G : Network) (held : IsHeld base G) (c : LentUpdate) (within : IsWithi
 -- ---- A LIST OF CALLS
 
 lines_cons : (M : Memory) (c : LentUpdate) (cs : List LentUpdate)
-    → answers_of (update_call base) M (c ∷ cs) ≡ answer_of (left_on (update_call base) M c) ∷ answers_of (update_call base) (memory_after M c.lending (memory_left (left_on (update_call base) M c))) cs
-unfolding answers_of
+    → lines_left M (c ∷ cs) ≡ line_left (left_on (update_call base) M c) ∷ lines_left (memory_after M c.lending (memory_left (left_on (update_call base) M c))) cs
+unfolding lines_left
 lines_cons M c cs = refl
 
-lines_nil : (M : Memory) (F : PlainMap) → answers_of (update_call base) M [] ≡ follow_all F []
-unfolding answers_of follow_all
+lines_nil : (M : Memory) (F : PlainMap) → lines_left M [] ≡ follow_all F []
+unfolding lines_left follow_all
 lines_nil M F = refl
 
 -- the codes that the updates open are codes of the map
 abbrev pub AreWithin : List LentUpdate → Type 0
 AreWithin cs = (c : LentUpdate) → Memᴰ c cs → IsWithin base c.update
 
-pub lines_are : (G : Network) → IsHeld base G → (cs : List LentUpdate) → AreWithin cs → AllLong cs → answers_of (update_call base) (memory_for base G) cs ≡ follow_all (figured_for G) (updates_of cs)
+pub lines_are : (G : Network) → IsHeld base G → (cs : List LentUpdate) → AreWithin cs → AllLong cs → lines_left (memory_for base G) cs ≡ follow_all (figured_for G) (updates_of cs)
 unfolding updates_of
 lines_are G held [] calls lent = lines_nil (memory_for base G) (figured_for G)
 lines_are G held (c ∷ cs) calls lent =
@@ -232,7 +261,7 @@ lines_are G held (c ∷ cs) calls lent =
     let long = lent c (Memᴰ.head refl) in
     let H = plain_next (first_of (update_faults G c.update)) G c.update in
     lines_cons (memory_for base G) c cs
-    ∙ ap₂ (λ (r : AnswerLine) (M : Memory). r ∷ answers_of (update_call base) M cs) (call_line G held c within long) (call_memory G held c within long)
+    ∙ ap₂ (λ (r : AnswerLine) (M : Memory). r ∷ lines_left M cs) (call_line G held c within long) (call_memory G held c within long)
     ∙ ap₂ (λ (r : AnswerLine) (rs : List AnswerLine). r ∷ rs) refl (lines_are H (call_left_lem G held c within long).is_held cs (λ d m. calls d (Memᴰ.tail m)) (λ d m. lent d (Memᴰ.tail m)))
     ∙ ap (λ (M : PlainMap). (follow_one (first_of (update_faults G c.update)) (figured_for G) c.update).1 ∷ follow_all M (updates_of cs)) (sym (call_next G held c within long))
     ∙ sym (follow_cons (figured_for G) c.update (updates_of cs))

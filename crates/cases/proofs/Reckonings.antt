@@ -35,18 +35,14 @@ use Rattle.graph.proofs.Yards.{yards_connected}
 -- the result of the path's own reckoning
 unfoldable pub path_result : ℕ → ℕ → Result
 path_result k number =
-    let S = reckon (chart (path k)) in
-    record {
-      refusal = 0;
-      searches = length S.references;
-      references = S.references;
-      number = number;
-      chain = S.candidate;
-      count = count_pairs (vertices (path k)) S.pairs;
-      skips = mapl (λ v. cond ((path k).is_open v) (mark_of 256 257 (S.status v)) 257) (range 256);
-      bounds = mapl (λ v. cond ((path k).is_open v) (bound_of (S.status v)) unreached) (range 256);
-      pairs = pair_list (vertices (path k)) S.pairs;
-    }
+    let S = reckon (chart (path k)) in (
+      Searches (length S.references),
+      S.references,
+      (number, S.candidate, count_pairs (vertices (path k)) S.pairs),
+      mapl (λ v. cond ((path k).is_open v) (mark_of 256 257 (S.status v)) 257) (range 256),
+      mapl (λ v. cond ((path k).is_open v) (bound_of (S.status v)) unreached) (range 256),
+      pair_list (vertices (path k)) S.pairs,
+    )
 
 -- what is written over a buffer's first n places stands there
 placed : (f : ℕ → ℕ) (n : ℕ) (old : List ℕ) → take n (overwrite (mapl f (range n)) old) ≡ mapl f (range n)
@@ -115,14 +111,11 @@ module _ (k number : ℕ) (low : k ≤ 256) (counts : number ≡ countb (path k)
   unfolding result_of path_result rounds_leave
   path_result_lem =
       rw (left_is, lent.network, lent.counted, count_is, pairs_are_lem)
-      (λ i. record {
-        refusal = 0;
-        searches = length S.references;
-        references = S.references;
-        number = number;
-        chain = S.candidate;
-        count = count_pairs (vertices (path k)) S.pairs;
-        skips = placed (λ v. cond ((path k).is_open v) (mark_of 256 257 (S.status v)) 257) 256 B.skips i;
-        bounds = placed (λ v. cond ((path k).is_open v) (bound_of (S.status v)) unreached) 256 B.bounds i;
-        pairs = pair_list (vertices (path k)) S.pairs;
-      })
+      (λ i. (
+        Searches (length S.references),
+        S.references,
+        (number, S.candidate, count_pairs (vertices (path k)) S.pairs),
+        placed (λ v. cond ((path k).is_open v) (mark_of 256 257 (S.status v)) 257) 256 B.skips i,
+        placed (λ v. cond ((path k).is_open v) (bound_of (S.status v)) unreached) 256 B.bounds i,
+        pair_list (vertices (path k)) S.pairs,
+      ))

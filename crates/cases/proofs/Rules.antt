@@ -1,18 +1,20 @@
 -- THE SECOND TABLE holds of the opening call on lent memory, carried over from the network. Assumes nothing.
 use mathlib.Core.Path.{◌≡◌, refl, ◌∙◌}
 use mathlib.Core.Bool.{true}
+use mathlib.Core.List.{map}
 use Rattle.lists.specs.Lists.{allb}
 use Rattle.graph.specs.Cases.{follow_all, no_depot}
 use Rattle.map.specs.Memory.{base}
 use Rattle.update.specs.UpdateCall.{update_call}
 use Rattle.cases.specs.Rules.{shrink_lines, shrink_answers, RuleCases}
+use Rattle.cases.proofs.Lines.{row}
 use Rattle.cases.proofs.Theorems.{opens_bytes, opened_lines}
 
 shrink_bytes : allb opens_bytes shrink_lines ≡ true
 unfolding allb opens_bytes
 shrink_bytes = refl
 
-shrink_followed : follow_all no_depot shrink_lines ≡ shrink_answers
+shrink_followed : map row (follow_all no_depot shrink_lines) ≡ shrink_answers
 unfolding follow_all no_depot
 shrink_followed = refl
 

@@ -4,7 +4,7 @@ use mathlib.Core.Path.{◌≡◌, refl, sym, ap, ap₂, ◌∙◌, subst}
 use mathlib.Core.Logic.{◌⊎◌, inl, inr}
 use mathlib.Core.Bool.{Bool, true, false, ◌&&◌, ◌||◌}
 use mathlib.Core.List.Memᴰ
-use mathlib.Core.List.{List, [], ◌∷◌, Memᴰ}
+use mathlib.Core.List.{List, [], ◌∷◌, map, Memᴰ}
 use Prim.Native.Nat.{ℕ, suc, ◌≤◌, zero-le}
 use lib.Dec.{eqb, ltb, lit≤}
 use lib.ListN.{length}
@@ -40,7 +40,7 @@ use Rattle.cases.specs.Results.{LentUpdate, answers_of, updates_of, AllLong}
 use Rattle.cases.specs.Table.{empty_result, single_result, seven_result, seven_answers, seven_input, seven_output, Cases}
 use Rattle.cases.proofs.Paths.{path_held}
 use Rattle.cases.proofs.Reckonings.{path_result, path_result_lem}
-use Rattle.cases.proofs.Lines.{figured_for, AreWithin, lines_are}
+use Rattle.cases.proofs.Lines.{figured_for, AreWithin, lines_left, row, rows_are, lines_are}
 
 -- ---- the paths reckoned, by the rules on the network
 
@@ -117,15 +117,17 @@ start-figured = λ i. record { net = empty_network; chain = none-diameter base b
 
 -- updates from the empty map give the lines of the network's own
 pub opened_lines : (os : List Update) → allb opens_bytes os ≡ true → (cs : List LentUpdate) → updates_of cs ≡ os → AllLong cs
-    → answers_of (update_call base) (empty_memory base) cs ≡ Graph.follow_all Graph.no_depot os
+    → answers_of (update_call base) (empty_memory base) cs ≡ map row (Graph.follow_all Graph.no_depot os)
 opened_lines os bytes cs e lent =
     let calls = within_of cs (ap (allb opens_bytes) e ∙ bytes) in
-    ap (λ (M : Memory). answers_of (update_call base) M cs) (empty_memory_lem base base_shape)
+    rows_are (empty_memory base) cs
+    ∙ ap (map row)
+    (ap (λ (M : Memory). lines_left M cs) (empty_memory_lem base base_shape)
     ∙ lines_are empty_network (empty_held base base_shape) cs calls lent
-    ∙ ap₂ Graph.follow_all start-figured e
+    ∙ ap₂ Graph.follow_all start-figured e)
 
 stream_holds : (cs : List LentUpdate) → updates_of cs ≡ Graph.seven_lines → AllLong cs → answers_of (update_call base) (empty_memory base) cs ≡ seven_answers
-stream_holds cs e lent = opened_lines Graph.seven_lines seven_bytes cs e lent ∙ ap (λ (t : Graph.NetworkCases). t.stream) Graph.cases
+stream_holds cs e lent = opened_lines Graph.seven_lines seven_bytes cs e lent ∙ ap (λ (t : Graph.NetworkCases). map row t.stream) Graph.cases
 
 -- ---- the stream's bytes, by computation
 

@@ -1,5 +1,5 @@
--- WHAT A CALL LEFT in lent memory, read as numbers and pairs: a reckoning's `Result`, and an opening's `AnswerLine` (graph, Cases.antt).
--- Assumes nothing.
+-- WHAT A CALL LEFT in lent memory, read as numbers and pairs: a reckoning's `Result`, and an
+-- opening's `Line`. Assumes nothing.
 use Rattle.std.specs.Prelude.{◌≡◌, true, ℕ, take}
 use mathlib.Core.List.{List, [], ◌∷◌, Memᴰ}
 use Rattle.lists.specs.Lists.{range, mapl}
@@ -7,11 +7,11 @@ use Rattle.rows.specs.Rows.{table_bit}
 use Rattle.graph.specs.Network.{Network}
 use Rattle.graph.specs.Chart.{chart}
 use Rattle.graph.specs.Rounds.{reckon}
-use Rattle.graph.specs.Cases.{pair_list, AnswerLine}
+use Rattle.graph.specs.Cases.{pair_list}
 use Rattle.map.specs.Memory.{base, places, map_network}
 use Rattle.map.specs.declared.Record.{Record}
 use Rattle.map.specs.Room.{Lent, sizes_of, long_enough}
-use Rattle.reckon.specs.ReckonCall.{reckoning_number, searches_of, ReckonLeft}
+use Rattle.reckon.specs.ReckonCall.{Reckoning, ReckonLeft}
 use Rattle.outcome.specs.Outcome as Outcome
 use Rattle.update.specs.UpdateCall.{UpdateLeft, Step}
 use Rattle.update.specs.Memory.{Memory}
@@ -29,54 +29,43 @@ repeated n x = mapl (λ i. x) (range n)
 
 -- ---- the whole reckoning
 
--- a memory that means the network G with so many depots open, its buffers long enough, whatever else they hold
-pub record IsMapOf (G : Network) (number : ℕ) (rec : Record) (links : List ℕ) (B : Lent) : Type 0 where
+-- a memory that means the network G with so many depots open, its buffers long enough, whatever
+-- else they hold
+pub record IsMapOf (G : Network) (number : ℕ) (rec : Record) (links : List ℕ) (B : Lent)
+    : Type 0 where
   pub network : map_network base rec links ≡ G
   pub counted : rec.number ≡ number
   pub long : long_enough base (sizes_of links B) ≡ true
 
--- the refusal, 0 for none; the searches; the references, in order, by the rules; the record's numbers; the places of the skip and the bound
--- table; the pairs
-pub record Result : Type 0 where
-  pub refusal : ℕ
-  pub searches : ℕ
-  pub references : List ℕ
-  pub number : ℕ
-  pub chain : ℕ
-  pub count : ℕ
-  pub skips : List ℕ
-  pub bounds : List ℕ
-  pub pairs : List (ℕ × ℕ)
+-- the answer; the references, in order, by the rules; number, chain and pair count of the record;
+-- the places of the skip table and of the bound table; the pairs
+abbrev pub Result : Type 0
+Result = Reckoning × List ℕ × (ℕ × ℕ × ℕ) × List ℕ × List ℕ × List (ℕ × ℕ)
 
 -- of a program whose reckoning call is `step`
 unfoldable pub result_of : (Record → List ℕ → Lent → ReckonLeft) → Record → List ℕ → Lent → Result
 result_of step rec links B =
     let l = step rec links B in
-    record {
-      refusal = reckoning_number l.reckoned.answer;
-      searches = searches_of l.reckoned.answer;
-      references = (reckon (chart (map_network base rec links))).references;
-      number = l.reckoned.after.number;
-      chain = l.reckoned.after.chain;
-      count = l.reckoned.after.count;
-      skips = take (places base) l.lent.skips;
-      bounds = take (places base) l.lent.bounds;
-      pairs = pairs_in l.lent.pairs;
-    }
+    let after = l.reckoned.after in
+    let references = (reckon (chart (map_network base rec links))).references in
+    let skips = take (places base) l.lent.skips in
+    let bounds = take (places base) l.lent.bounds in
+    let pairs = pairs_in l.lent.pairs in
+    (l.reckoned.answer, references, (after.number, after.chain, after.count), skips, bounds, pairs)
 
 -- ---- the stream's openings
 
--- letter and refusal; the figures of a report line; the pairs
-unfoldable pub answer_of : UpdateLeft → AnswerLine
-answer_of l = record {
-  letter = Outcome.letter_of l.report.outcome;
-  refusal = Outcome.refusal_of l.report.outcome;
-  number = l.after.number;
-  chain = l.after.chain;
-  count = l.after.count;
-  searches = l.report.searches;
-  pairs = pairs_in l.lent.pairs;
-}
+-- letter and refusal; depots, chain and pair count after it; the searches; the pairs
+abbrev pub Line : Type 0
+Line = (ℕ × ℕ) × (ℕ × ℕ × ℕ) × ℕ × List (ℕ × ℕ)
+
+unfoldable pub answer_of : UpdateLeft → Line
+answer_of l = (
+  (Outcome.letter_of l.report.outcome, Outcome.refusal_of l.report.outcome),
+  (l.after.number, l.after.chain, l.after.count),
+  l.report.searches,
+  pairs_in l.lent.pairs,
+)
 
 -- an update with what its call is lent
 pub record LentUpdate : Type 0 where
@@ -88,9 +77,11 @@ unfoldable pub left_on : Step → Memory → LentUpdate → UpdateLeft
 left_on step M c = let N = lent_to M c.lending in step N.rec N.links N.lent c.update
 
 -- the lines of a list of updates, each lent the map as it stands after the one before
-unfoldable pub answers_of : Step → Memory → List LentUpdate → List AnswerLine
+unfoldable pub answers_of : Step → Memory → List LentUpdate → List Line
 answers_of step M [] = []
-answers_of step M (c ∷ cs) = let l = left_on step M c in answer_of l ∷ answers_of step (memory_after M c.lending (memory_left l)) cs
+answers_of step M (c ∷ cs) =
+    let l = left_on step M c in
+    answer_of l ∷ answers_of step (memory_after M c.lending (memory_left l)) cs
 
 unfoldable pub updates_of : List LentUpdate → List Update
 updates_of [] = []
@@ -98,4 +89,5 @@ updates_of (c ∷ cs) = c.update ∷ updates_of cs
 
 -- every buffer that an update is lent has its named size
 abbrev pub AllLong : List LentUpdate → Type 0
-AllLong cs = (c : LentUpdate) → Memᴰ c cs → long_enough base (lent_sizes base c.lending) ≡ true
+AllLong cs =
+    (c : LentUpdate) → Memᴰ c cs → long_enough base (lent_sizes base c.lending) ≡ true

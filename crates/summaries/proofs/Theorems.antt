@@ -7,7 +7,7 @@ use native.Mathlib.Nat.{mul-le-mul, le_refl}
 use native.Mathlib.Omega.{arith}
 use lib.ListN.{length, take, length-append}
 use lib.Seq.{length-take-le, take-take}
-use Rattle.std.specs.Prelude.{Option, Some, None, Result, Ok, Err}
+use Rattle.std.specs.Prelude.{Option, Some, None, Result, Ok, Err, fold, flat_map}
 use Rattle.std.specs.Result.{MatchResult, IsErrAnd}
 use Rattle.outcome.specs.Refusals.{number_of}
 use Rattle.outcome.specs.declared.Refusal.{Refusal}
@@ -25,15 +25,16 @@ use Rattle.map.specs.Room.{Tables}
 use Rattle.map.specs.declared.Record.{Record}
 use Rattle.map.proofs.Theorems.{base_shape, network_most}
 use Rattle.line_buffer.specs.Lines.{pasted}
+use Rattle.transcript.specs.Transcript.{network_in}
 use Rattle.decimal.proofs.Decimals.{decimal_long, decimal_byte}
 use Rattle.outcome.specs.Answers.{answer_of, Left, leaves, unless}
 use Rattle.summary.specs.SummaryCall.{summary_refusal, summary_call}
 use Rattle.summary.proofs.Accepts.{granted}
 use Rattle.summary.specs.declared.Summary.{Summary}
 use Rattle.summaries.specs.declared.Totals.{Totals}
-use Rattle.summaries.specs.Run.{room, no_totals, summing_text, with_file, totals_from, total_line, file_lines, run_text}
+use Rattle.summaries.specs.Run.{room, no_totals, summing_text, with_file, total_line, run_text, summing_of, file_line}
 use Rattle.summaries.specs.declared.FilePut.{FilePut}
-use Rattle.summaries.specs.Calls.{most_pairs, most_sum, IsOfFile, AreOfFiles, FileLeft, file_left, file_call, total_call}
+use Rattle.summaries.specs.Calls.{most_pairs, most_sum, IsOfFile, AreOfFiles, file_call, total_call}
 use Rattle.summaries.proofs.Lines.{field_most}
 
 -- ---- ROOM
@@ -103,22 +104,22 @@ unfolding with_file
 more_files (Ok s) t = refl
 more_files (Err n) t = refl
 
-pub put_of_files : (t : Totals) (a : Result Summary ℕ) (at : ℕ) (out : List ℕ) {r : FilePut} {new : List ℕ} → file_left r new ≡ file_call t a at out → AreOfFiles t → IsOfFile a
+pub put_of_files : (t : Totals) (a : Result Summary ℕ) (at : ℕ) (out : List ℕ) {r : FilePut} {new : List ℕ} → ◌≡◌ {A = ℕ × Totals × List ℕ} (r.at, r.totals, new) (file_call t a at out) → AreOfFiles t → IsOfFile a
     → AreOfFiles r.totals × (r.totals.files ≡ t.files + 1)
 unfolding file_call
 put_of_files t a at out e h k =
-    subst (λ (x : FileLeft). AreOfFiles x.totals × (x.totals.files ≡ t.files + 1)) (sym e) (more_of_files a t k h, more_files a t)
+    subst (λ (x : ℕ × Totals × List ℕ). AreOfFiles x.1 × (x.1.files ≡ t.files + 1)) (sym e) (more_of_files a t k h, more_files a t)
 
 -- the part that is written lies in the buffer
 pasted_long : (text out : List ℕ) → 0 + length text ≤ length (pasted text 0 out)
 unfolding pasted overwrite
 pasted_long text out = simp length-append (omega arith)
 
-pub file_fits : (t : Totals) (a : Result Summary ℕ) (out : List ℕ) → (file_call t a 0 out).at ≤ length (file_call t a 0 out).out
+pub file_fits : (t : Totals) (a : Result Summary ℕ) (out : List ℕ) → (file_call t a 0 out).0 ≤ length (file_call t a 0 out).2
 unfolding file_call
 file_fits t a out = pasted_long (summing_text a) out
 
-pub total_fits : (t : Totals) (out : List ℕ) → (total_call t 0 out).at ≤ length (total_call t 0 out).out
+pub total_fits : (t : Totals) (out : List ℕ) → (total_call t 0 out).0 ≤ length (total_call t 0 out).1
 unfolding total_call
 total_fits t out = pasted_long (total_line t) out
 
@@ -129,4 +130,6 @@ pub ruleset written_part = (file_fits, total_fits, length-take-le)
 
 pub run_first : (files : List (List ℕ)) → run_text files ≡ run_text (take 1000 files)
 unfolding run_text
-run_first files = ap (λ (fs : List (List ℕ)). file_lines fs ++ total_line (totals_from no_totals fs)) (sym (take-take 1000 1000 files (le_refl 1000)))
+run_first files =
+    ap (λ (fs : List (List ℕ)). flat_map file_line fs ++ total_line (fold (λ t f. with_file (summing_of (network_in f)) t) no_totals fs))
+    (sym (take-take 1000 1000 files (le_refl 1000)))

@@ -28,13 +28,13 @@ use Rattle.transcript.specs.Manner.{as_reports}
 use Rattle.stream.specs.Pieces.{Standing, stands_told}
 use Rattle.stream.proofs.Runs.{pasted_read}
 use Rattle.stream.proofs.Theorems.{IsMapOf, pieces_network}
-use Rattle.std.specs.Prelude.{Result, Ok, Err}
+use Rattle.std.specs.Prelude.{Result, Ok, Err, fold, flat_map}
 use Rattle.outcome.specs.Answers.{numbered, Left, unless}
 use Rattle.map.specs.Room.{Tables}
 use Rattle.summary.specs.declared.Summary.{Summary}
 use Rattle.summary.specs.SummaryCall.{summary_refusal, summary_call}
 use Rattle.summaries.specs.declared.Totals.{Totals}
-use Rattle.summaries.specs.Run.{files_limit, no_totals, summing_of, summing_text, file_line, with_file, totals_from, total_line, file_lines, run_text}
+use Rattle.summaries.specs.Run.{files_limit, no_totals, summing_of, summing_text, file_line, with_file, total_line, run_text}
 use Rattle.summaries.specs.Calls.{file_call, total_call}
 use Rattle.summaries.specs.Written.{File, IsBegun, bytes_of, answer_of, written_from, run_written, RunWrites}
 
@@ -97,21 +97,24 @@ part_is text out = pasted_read text 0 out zero-le
 
 -- ---- the files, one after the other
 
--- the text of files, from totals on
+-- the totals with some files, and the text of files from totals on
+abbrev pub totals_from : Totals → List (List ℕ) → Totals
+totals_from t fs = fold (λ t f. with_file (summing_of (network_in f)) t) t fs
+
 abbrev text_from : Totals → List (List ℕ) → List ℕ
-text_from t fs = file_lines fs ++ total_line (totals_from t fs)
+text_from t fs = flat_map file_line fs ++ total_line (totals_from t fs)
 
 written_none : (t : Totals) (out : List ℕ) → written_from t [] out ≡ text_from t []
-unfolding written_from total_call file_lines totals_from
+unfolding written_from total_call
 written_none t out = part_is (total_line t) out
 
 written_more : (t : Totals) (f : File) (fs : List File) (out : List ℕ) (bs : List (List ℕ)) → IsBegun f → written_from (with_file (answer_of f) t) fs out ≡ text_from (with_file (answer_of f) t) bs
     → written_from t (f ∷ fs) out ≡ text_from t (bytes_of f ∷ bs)
-unfolding written_from file_call file_lines totals_from file_line
+unfolding written_from file_call file_line
 written_more t f fs out bs is rest =
     ap₂ (λ (x y : List ℕ). x ++ y) (part_is (summing_text (answer_of f)) f.out) rest
     ∙ ap (λ (a : Result Summary ℕ). summing_text a ++ text_from (with_file a t) bs) (answer_is f is)
-    ∙ sym (append_append (file_line (bytes_of f)) (file_lines bs) (total_line (totals_from (with_file (summing_of (network_in (bytes_of f))) t) bs)))
+    ∙ sym (append_append (file_line (bytes_of f)) (flat_map file_line bs) (total_line (totals_from (with_file (summing_of (network_in (bytes_of f))) t) bs)))
 
 written_is : (n : ℕ) (t : Totals) (fs : List File) (out : List ℕ) → ((f : File) → Memᴰ f fs → IsBegun f)
     → written_from t (take n fs) out ≡ text_from t (take n (map bytes_of fs))

@@ -5,7 +5,7 @@
 ghost use Rattle.std.specs.Prelude.{◌≡◌, ◌+◌, ◌-◌, ◌≤◌, ◌<◌, min, length, Ok, Err};
 ghost use Rattle.decimal.specs.Placed.{Placed};
 ghost use Rattle.summaries.specs.Run.{room, files_limit, summing_text, with_file, total_of};
-ghost use Rattle.summaries.specs.Calls.{IsOfFile, AreOfFiles, file_left, file_call, total_left, total_call};
+ghost use Rattle.summaries.specs.Calls.{IsOfFile, AreOfFiles, file_call, total_call};
 
 use summary::Summary;
 
@@ -127,7 +127,7 @@ fn total_of(totals: Totals) -> Summary
 #[tactic(auto, using(crate::proofs::Lines::pasted_text), unfolding(crate::specs::Calls::file_call))]
 pub fn put_file(out: &mut [u8], at: usize, totals: Totals, answer: Result<Summary, u8>) -> FilePut
     requires { (at + room ≤ length out.old) × AreOfFiles totals × IsOfFile answer × (totals.files < files_limit) }
-    ensures { file_left result out.new ≡ file_call totals answer at out.old }
+    ensures { (result.at, result.totals, out.new) ≡ file_call totals answer at out.old }
 {
     let next = with_file(totals, answer);
     let end = put_answer(out, at, answer);
@@ -141,7 +141,7 @@ pub fn put_file(out: &mut [u8], at: usize, totals: Totals, answer: Result<Summar
 #[tactic(auto, using(crate::proofs::Lines::pasted_text), unfolding(crate::specs::Calls::total_call, crate::specs::Run::total_line))]
 pub fn put_total(out: &mut [u8], at: usize, totals: Totals) -> usize
     requires { at + room ≤ length out.old }
-    ensures { total_left result out.new ≡ total_call totals at out.old }
+    ensures { (result, out.new) ≡ total_call totals at out.old }
 {
     put_numbers(out, at, total_of(totals))
 }
