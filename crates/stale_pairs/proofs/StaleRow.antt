@@ -23,7 +23,7 @@ use Rattle.rows.proofs.Written.{table_at, table_word}
 use Rattle.rows.proofs.Wholes.{table_whole, encode_table_ext}
 use Rattle.rows.proofs.WordPuts.{put_word_lem}
 use Rattle.pairs.specs.Pairs.{tally}
-use Rattle.stale_pairs.specs.Stale.{dropped, rows_dropped, stale_pairs, pairs_after, row_gone, row_stays, row_way, staying_bit, stale_bit, greatest_bit, WordSifted, sifted, sift_of, where_done, drop_set_of, drop_row_of}
+use Rattle.stale_pairs.specs.Stale.{dropped, rows_dropped, stale_pairs, pairs_after, row_gone, row_stays, row_way, staying_bit, stale_bit, greatest_bit, WordSifted, sifted, sift_of, where_done, drop_set_of}
 use Rattle.lists.proofs.Ranges.{sum_nothing, sum_but, sum_skip, count_nothing, max-nothing, max_put, max_none, max_same, max-split}
 use Rattle.graph.specs.Opening.{staying_pairs}
 
@@ -233,8 +233,8 @@ module _ (W : ℕ) (far : ℕ → ℕ → ℕ) (D u : ℕ) (t₀ : List ℕ) whe
         }
 
   -- no word is left
-  pub row_end : {t : List ℕ} {g n w at : ℕ} → u < 64 * W → RowDropping t g n w at → at ≡ 64 * W → rows_dropped t g n w ≡ drop_row_of W far D u t₀
-  unfolding drop_row_of drop_set_of pairs_after row_gone row_stays row_way way_at
+  pub row_end : {t : List ℕ} {g n w at : ℕ} → u < 64 * W → RowDropping t g n w at → at ≡ 64 * W → rows_dropped t g n w ≡ drop_set_of W far D (λ p. eqb p u) t₀
+  unfolding drop_set_of pairs_after row_gone row_stays row_way way_at
   row_end {at = at} below i e =
       same_rows
       (i.table ∙ ap (λ (e : List ℕ). overwrite e t₀) (encode_table_ext W (left_below at) (pairs_after (λ p. eqb p u) far D (table_bit W t₀)) (λ p v l h. same p v (cases_eq p u) (omega arith))))

@@ -1,4 +1,4 @@
--- The loops of `drop_likely` and `drop_dense`: after each row the statement itself, `drop_set_of`, for the rows done; and what the first makes of all, called
+-- The loops of `drop_likely` and `drop_dense_rows`: after each row the statement itself, `drop_set_of`, for the rows done; and what the first makes of all, called
 -- once or twice by `drop_rows`. Assumes nothing.
 use mathlib.Core.Path.{◌≡◌, refl, sym, ap, ap₂, ◌∙◌}
 use mathlib.Core.Logic.{◌≢◌, ◌⊎◌, inl, inr}
@@ -19,8 +19,9 @@ use Rattle.graph.specs.Opening.{staying_pairs, shrunk_candidate}
 use Rattle.rows.specs.Rows.{table_bit}
 use Rattle.rows.proofs.Wholes.{encode_table_ext}
 use Rattle.pairs.specs.Pairs.{tally, tally_of}
-use Rattle.stale_pairs.specs.Stale.{dropped, RowsDropped, rows_dropped, pairs_after, where_done, among, row_stays, row_way, drop_set_of, drop_row_of, drop_rows_of, drop_of, Bare, pairs_in, pairs_below}
-use Rattle.stale_pairs.proofs.RowSets.{pairs_of, pairs_few, known, set_none, set_same, bit_yet, set_counted, met_bare, set_union, set_again}
+use Rattle.stale_pairs.specs.Stale.{dropped, RowsDropped, rows_dropped, pairs_after, where_done, among, row_stays, row_way, drop_set_of, drop_of, Bare, pairs_in, pairs_below}
+use Rattle.stale_pairs.proofs.RowSets.{pairs_of, pairs_few, known, set_none, set_same, bit_yet, set_counted, met_bare}
+use Rattle.stale_pairs.proofs.RowUnions.{set_union, set_again}
 
 -- all rows of a table have its pairs, and no table has more than a count can tell
 pub below_all : (W : ℕ) (t : List ℕ) → count_pairs (range (64 * W)) (table_bit W t) ≡ pairs_below W (64 * W) t
@@ -138,8 +139,7 @@ module _ (W : ℕ) (far : ℕ → ℕ → ℕ) (D : ℕ) (t₀ : List ℕ) where
 
   -- ---- one row, done if it passes a test
 
-  pub one_done : (T : ℕ → Bool) (u : ℕ) {t : List ℕ} {g k w : ℕ} → T u ≡ true → rows_dropped t g k w ≡ drop_row_of W far D u t₀ → rows_dropped t g k w ≡ drop_set_of W far D (λ p. eqb p u && T p) t₀
-  unfolding drop_row_of
+  pub one_done : (T : ℕ → Bool) (u : ℕ) {t : List ℕ} {g k w : ℕ} → T u ≡ true → rows_dropped t g k w ≡ drop_set_of W far D (λ p. eqb p u) t₀ → rows_dropped t g k w ≡ drop_set_of W far D (λ p. eqb p u && T p) t₀
   one_done T u e r = r ∙ set_same W far D t₀ (λ p. eqb p u) (λ p. eqb p u && T p) (λ p l. inl (go p (cases_eq p u)))
     where
       go : (p : ℕ) → (p ≡ u) ⊎ (p ≢ u) → eqb p u ≡ (eqb p u && T p)
@@ -162,8 +162,8 @@ module _ (W : ℕ) (far : ℕ → ℕ → ℕ) (D : ℕ) (t₀ : List ℕ) where
     likely_few = omega (arith, set_counted W far D t₀ (among n T) i, likely_first W n T t₀ few)
 
     -- all are met
-    pub likely_all : g + k ≡ total → rows_dropped t g k w ≡ drop_rows_of W far D n t₀
-    unfolding drop_rows_of pairs_below
+    pub likely_all : g + k ≡ total → rows_dropped t g k w ≡ drop_set_of W far D (λ p. ltb p n) t₀
+    unfolding pairs_below
     likely_all e = i ∙ set_same W far D t₀ (among n T) (λ p. ltb p n) (met_bare W far D t₀ (among n T) i (λ p. ltb p n) part_lem few e)
 
     -- those gone stand no more
@@ -180,8 +180,7 @@ module _ (W : ℕ) (far : ℕ → ℕ → ℕ) (D : ℕ) (t₀ : List ℕ) where
 
     -- all that have one are done
     pub again_all : (T' : ℕ → Bool) {t' : List ℕ} {g' k' d w' : ℕ} → ((p v : ℕ) → p < n → v < 64 * W → T' p ≡ false → table_bit W t p v ≡ false)
-        → rows_dropped t' g' k' d ≡ drop_set_of W far D (among n T') t → w' ≡ max w d → rows_dropped t' (g + g') k' w' ≡ drop_rows_of W far D n t₀
-    unfolding drop_rows_of
+        → rows_dropped t' g' k' d ≡ drop_set_of W far D (among n T') t → w' ≡ max w d → rows_dropped t' (g + g') k' w' ≡ drop_set_of W far D (λ p. ltb p n) t₀
     again_all T' h r e =
         rw e
         (set_again W far D t₀ (among n T) i (λ p. ltb p n) part_lem
@@ -193,8 +192,8 @@ module _ (W : ℕ) (far : ℕ → ℕ → ℕ) (D : ℕ) (t₀ : List ℕ) where
         go p (inr c) o = inl (rw (le-ltb p n c) refl)
 
   -- ALL ROWS are the table: `drop_stale` is `drop_rows` over 64 W
-  pub all_rows : {t : List ℕ} {g k w : ℕ} → rows_dropped t g k w ≡ drop_rows_of W far D (64 * W) t₀ → dropped (tally t k) w ≡ drop_of W far D t₀
-  unfolding drop_rows_of drop_set_of drop_of tally_of shrunk_candidate count_pairs row_stays row_way pairs_after
+  pub all_rows : {t : List ℕ} {g k w : ℕ} → rows_dropped t g k w ≡ drop_set_of W far D (λ p. ltb p (64 * W)) t₀ → dropped (tally t k) w ≡ drop_of W far D t₀
+  unfolding drop_set_of drop_of tally_of shrunk_candidate count_pairs row_stays row_way pairs_after
   all_rows q =
       ap (λ (x : RowsDropped). x.left) q
       ∙ ap₂ dropped
@@ -205,8 +204,7 @@ module _ (W : ℕ) (far : ℕ → ℕ → ℕ) (D : ℕ) (t₀ : List ℕ) where
       (max_same (where_done (λ p. ltb p (64 * W)) (row_way W far D P₀)) (row_way W far D P₀) (64 * W) (λ p l. rw (lt-ltb p (64 * W) l) refl))
 
   -- no row is left of those that are looked for as they come
-  pub dense_end : {n : ℕ} {t : List ℕ} {g k w u : ℕ} → RowsDropping (λ p. true) n t g k w u → n ≤ u → rows_dropped t g k w ≡ drop_rows_of W far D n t₀
-  unfolding drop_rows_of
+  pub dense_end : {n : ℕ} {t : List ℕ} {g k w u : ℕ} → RowsDropping (λ p. true) n t g k w u → n ≤ u → rows_dropped t g k w ≡ drop_set_of W far D (λ p. ltb p n) t₀
   dense_end {n} i z = rows_end i z ∙ set_same W far D t₀ (among n (λ p. true)) (λ p. ltb p n) (λ p l. inl (go (ltb p n)))
     where
       go : (b : Bool) → (b && true) ≡ b

@@ -1,5 +1,5 @@
--- STALE PAIRS, over lists of words, for any number of words per row: which stored pairs stay after a search, and what the code's steps do to the
--- table. Assumes nothing.
+-- STALE PAIRS, over lists of words, for any number of words per row: which stored pairs stay after
+-- a search, and what the code's steps do to the table. Assumes nothing.
 use Rattle.std.specs.Prelude.{◌≡◌, Bool, true, false, cond, not, ◌&&◌, List, ℕ, ◌+◌, ◌*◌, ◌^◌, ◌≤◌, ◌<◌, min, eqb, ltb, length, get_or}
 use Rattle.lists.specs.Lists.{range, countb, sum_of, max_of, overwrite}
 use Rattle.words.specs.Bits.{bit, word_of}
@@ -7,7 +7,9 @@ use Rattle.graph.specs.Chart.{Pairs, count_pairs}
 use Rattle.graph.specs.Opening.{staying_pairs, shrunk_candidate}
 use Rattle.rows.specs.Rows.{row_bit, table_bit, encode_table}
 use Rattle.pairs.specs.Pairs.{Tally, tally, tally_of}
-use Rattle.stale_pairs.specs.declared.Sifted.{Sifted}
+use Rattle.stale_pairs.specs.declared.sift.Sifted.{Sifted}
+use Rattle.stale_pairs.specs.declared.Dropping.{Dropping}
+use Rattle.stale_pairs.specs.RowsDone.{RowsDone}
 
 -- the way by the hops of a search: from u to where it began, and on to v
 abbrev pub way_by : List ℕ → ℕ → ℕ → ℕ
@@ -17,7 +19,8 @@ way_by hops u v = get_or hops u 0 + get_or hops v 0
 abbrev pub way_by_either : List ℕ → List ℕ → ℕ → ℕ → ℕ
 way_by_either near far u v = min (way_by near u v) (way_by far u v)
 
--- what is answered for each bit b of one word of a row, which stands for the pair of u and first + b, is the way from one to the other, and no more than D
+-- what is answered for each bit b of one word of a row, which stands for the pair of u and first +
+-- b, is the way from one to the other, and no more than D
 abbrev pub TellsWord : ℕ → ℕ → ℕ → (ℕ → ℕ → ℕ → Type 0) → (ℕ → ℕ → ℕ) → Type 0
 TellsWord u first D answers way = (b r : ℕ) → b < 64 → answers u (first + b) r → r ≡ min D (way u (first + b))
 
@@ -34,7 +37,8 @@ drop_of W way D t = let P = table_bit W t in dropped (tally_of W (staying_pairs 
 
 -- ---- the same for some rows
 
--- rows done: the table after them with the number of their pairs that stay, their greatest way, and how many of their pairs are gone
+-- rows done: the table after them with the number of their pairs that stay, their greatest way, and
+-- how many of their pairs are gone
 pub record RowsDropped : Type 0 where
   pub left : Dropped
   pub gone : ℕ
@@ -46,7 +50,8 @@ rows_dropped t g n w = record { left = dropped (tally t n) w; gone = g }
 unfoldable pub stale_pairs : (ℕ → ℕ → ℕ) → ℕ → Pairs → Pairs
 stale_pairs way D P u v = P u v && ltb (way u v) D
 
--- the pairs when the rows that pass the test are done: those rows have their pairs that stay, the others all of theirs
+-- the pairs when the rows that pass the test are done: those rows have their pairs that stay, the
+-- others all of theirs
 unfoldable pub pairs_after : (ℕ → Bool) → (ℕ → ℕ → ℕ) → ℕ → Pairs → Pairs
 pairs_after done way D P u v = cond (done u) (staying_pairs way D P u v) (P u v)
 
@@ -76,23 +81,8 @@ module _ (W : ℕ) (way : ℕ → ℕ → ℕ) (D : ℕ) where
       rows_dropped (overwrite (encode_table W (pairs_after done way D P)) t) (sum_of (where_done done (row_gone P)) (range (64 * W)))
       (sum_of (where_done done (row_stays P)) (range (64 * W))) (max_of (where_done done (row_way P)) (range (64 * W)))
 
-  -- the rows below n
-  unfoldable pub drop_rows_of : ℕ → List ℕ → RowsDropped
-  drop_rows_of n = drop_set_of (λ u. ltb u n)
-
-  -- row u alone
-  unfoldable pub drop_row_of : ℕ → List ℕ → RowsDropped
-  drop_row_of u = drop_set_of (λ p. eqb p u)
-
--- WHAT `drop_rows_of` SAYS of the table before and after, and of the number gone (`rows_done`, proofs/RowsDone): the rows below n hold exactly their pairs
--- that stay; every word behind them is as it was, in the other rows and past the table; and those gone with those left are those that were there
-pub record RowsDone (W : ℕ) (way : ℕ → ℕ → ℕ) (D n : ℕ) (old new : List ℕ) (gone : ℕ) : Type 0 where
-  pub size : length new ≡ length old
-  pub stay : (u v : ℕ) → u < n → v < 64 * W → table_bit W new u v ≡ (table_bit W old u v && not (ltb (way u v) D))
-  pub others : (i : ℕ) → W * n ≤ i → get_or new i 0 ≡ get_or old i 0
-  pub counted : gone + count_pairs (range (64 * W)) (table_bit W new) ≡ count_pairs (range (64 * W)) (table_bit W old)
-
--- one word of a row, whose bit b stands for the pair of u and first + b: its members that stay, those that go, and the greatest way of its members
+-- one word of a row, whose bit b stands for the pair of u and first + b: its members that stay,
+-- those that go, and the greatest way of its members
 unfoldable pub staying_bit : (ℕ → ℕ → ℕ) → ℕ → ℕ → ℕ → ℕ → ℕ → Bool
 staying_bit way D u first x b = bit x b && not (ltb (way u (first + b)) D)
 
@@ -114,12 +104,29 @@ sifted y g k w = record { word = y; gone = g; kept = k; way = w }
 
 unfoldable pub sift_of : (ℕ → ℕ → ℕ) → ℕ → ℕ → ℕ → ℕ → WordSifted
 sift_of way D u first x =
-    sifted (word_of 64 (staying_bit way D u first x)) (countb (stale_bit way D u first x) (range 64)) (countb (staying_bit way D u first x) (range 64)) (greatest_bit way D u first x)
+    sifted (word_of 64 (staying_bit way D u first x)) (countb (stale_bit way D u first x) (range 64))
+    (countb (staying_bit way D u first x) (range 64)) (greatest_bit way D u first x)
 
 -- what is answered for a word of a row is what sifting it leaves
 abbrev pub Sifts : ℕ → ℕ → (ℕ → ℕ → ℕ → Sifted → Type 0) → (ℕ → ℕ → ℕ) → Type 0
 Sifts W D answers way =
-    (x u j : ℕ) (r : Sifted) → x < 2 ^ 64 → u < 64 * W → j < W → answers x u j r → sifted r.word r.gone r.kept r.way ≡ sift_of way D u (64 * j) x
+    (x u j : ℕ) (r : Sifted) → x < 2 ^ 64 → u < 64 * W → j < W → answers x u j r
+    → sifted r.word r.gone r.kept r.way ≡ sift_of way D u (64 * j) x
+
+-- a function that may be asked of each word of a table, and sifts it, whatever the way and the
+-- chain are by which it does
+abbrev pub IsSifter : ℕ → (ℕ → ℕ → ℕ → Type 0) → (ℕ → ℕ → ℕ → Sifted → Type 0) → Type 0
+IsSifter W asked answers =
+    ((x u j : ℕ) → x < 2 ^ 64 → u < 64 * W → j < W → asked x u j)
+    × (way : ℕ → ℕ → ℕ) × (D : ℕ) × Sifts W D answers way
+
+-- by whatever way and chain it sifts, the rows that pass the test are done by it
+abbrev pub Drops : ℕ → (ℕ → ℕ → ℕ → Sifted → Type 0) → (ℕ → Bool) → List ℕ → List ℕ
+    → Dropping → Type 0
+Drops W answers done old new r =
+    (way : ℕ → ℕ → ℕ) (D : ℕ) → Sifts W D answers way
+    → (rows_dropped new r.gone r.count r.way ≡ drop_set_of W way D done old)
+    × RowsDone W way D done old new r.gone
 
 -- the rows from u to p have no pair, and stand among the first n
 pub record Bare (W n : ℕ) (pairs : List ℕ) (u p : ℕ) : Type 0 where

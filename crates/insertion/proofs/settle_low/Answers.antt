@@ -17,17 +17,17 @@ join-sum-requires c = (
 pub returns-then-span-chain-clause-left : goal.returns-then-span-chain-clause-left
 returns-then-span-chain-clause-left c =
     let pre = c.requires in
-    equal_is base _ _ _ _ _ _ _ pre.3 pre.2.ends pre.5 _ _ _ c.drop_stale-left.ensures c.if-span-chain.true _ _ _
+    equal_is base _ _ _ _ _ _ _ pre.3 pre.2.ends pre.5 _ _ _ c.drop_stale-left.ensures.left c.if-span-chain.true _ _ _
     c.join-sum.ensures
 
 pub returns-then-left-ne0-clause-left : goal.returns-then-left-ne0-clause-left
 returns-then-left-ne0-clause-left c =
     let pre = c.requires in
-    kept_is base _ _ _ _ _ _ _ pre.3 pre.2.ends pre.5 _ _ _ c.drop_stale-left.ensures c.if-span-chain.false
+    kept_is base _ _ _ _ _ _ _ pre.3 pre.2.ends pre.5 _ _ _ c.drop_stale-left.ensures.left c.if-span-chain.false
     c.if-left-ne0.true _ c.mark_once.ensures
 
 pub returns-clause-left : goal.returns-clause-left
 returns-clause-left c =
     let pre = c.requires in
-    shrank_is base _ _ _ _ _ _ _ pre.3 pre.2.ends pre.5 _ _ _ c.drop_stale-left.ensures c.if-span-chain.false c.if-left-ne0.false
+    shrank_is base _ _ _ _ _ _ _ pre.3 pre.2.ends pre.5 _ _ _ c.drop_stale-left.ensures.left c.if-span-chain.false c.if-left-ne0.false
     _ c.shrink-got.ensures.left
