@@ -10,3 +10,5 @@ pub mod Leaving
 pub mod Searching
 -- its turns by parity, and its end
 pub mod Turning
+-- the part of a row that is handed back as the last layer
+pub mod Parts

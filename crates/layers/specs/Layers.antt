@@ -1,6 +1,6 @@
 -- WHAT A SEARCH LEAVES (rules 3.1 and 3.2): the hop table and the two layer rows, by the distances of a network.
 -- Assumes nothing.
-use Rattle.std.specs.Prelude.{Bool, cond, not, ◌&&◌, List, ℕ, ◌-◌, ◌*◌, ◌%◌, eqb, ltb}
+use Rattle.std.specs.Prelude.{Bool, cond, not, ◌&&◌, List, ℕ, ◌-◌, ◌*◌, ◌%◌, eqb, ltb, take}
 use Rattle.lists.specs.Lists.{range, mapl, max_of, overwrite}
 use Rattle.graph.specs.Network.{Network}
 use Rattle.graph.specs.Distance.{vertices, unreached, dist}
@@ -26,6 +26,10 @@ search_leaves W G s B =
       even = overwrite (encode_row W (layer_bit (dist G s) e 0)) B.even;
       odd = overwrite (encode_row W (layer_bit (dist G s) e 1)) B.odd;
     }
+
+-- rule 3.3: the part handed back, the first words of the row of the last layer's parity, d being its distance
+unfoldable pub last_layer : ℕ → ℕ → List ℕ → List ℕ → List ℕ
+last_layer W d even odd = take W (cond (eqb (d % 2) 0) even odd)
 
 -- a search from s over a table of links: the distance of its last layer, and what it leaves
 pub record Searched : Type 0 where

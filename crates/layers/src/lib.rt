@@ -5,7 +5,7 @@
 ghost use Rattle.std.specs.Prelude.{◌≡◌, not, ◌&&◌, ◌*◌, ◌<◌, ◌≤◌, length};
 ghost use Rattle.lists.specs.Lists.{overwrite};
 ghost use Rattle.rows.specs.Rows.{row_bit, encode_row};
-ghost use Rattle.layers.specs.Layers.{searched, search_table};
+ghost use Rattle.layers.specs.Layers.{last_layer, searched, search_table};
 ghost use Rattle.map.specs.Slices.{tables_in, IsSameScratch};
 ghost use Rattle.frontier.specs.Steps.{SearchRoom};
 ghost use Rattle.layers.specs.Begin.{HoldsEnds, search_begun, search_begin_of};
@@ -78,4 +78,15 @@ pub fn search_table(
         k += 1;
     }
     k
+}
+
+// The last layer of a search to this depth, handed back as a part of what was lent, with the lender's
+// lifetime: the row of the depth's parity. Here alone is it picked: whoever goes on from a search takes
+// what this hands back.
+#[tactic(auto, using(crate::proofs::Parts::parts))]
+pub fn last_layer<'a>(even: &'a [u64], odd: &'a [u64], words: usize, depth: u16) -> &'a [u64]
+    ensures { result.now ≡ last_layer words depth even.now odd.now }
+{
+    let row = if depth % 2 == 0 { even } else { odd };
+    &row[..words.min(row.len())]
 }

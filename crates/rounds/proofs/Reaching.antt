@@ -21,7 +21,8 @@ use Rattle.graph.specs.Correct.{IsNet}
 use Rattle.graph.proofs.Connected.{hop_open}
 use Rattle.rows.specs.Rows.{row_bit, table_bit, encode_row}
 use Rattle.rows.proofs.Written.{row_at, row_read}
-use Rattle.layers.specs.Layers.{depth_from, layer_bit, Searched, searched, search_leaves, search_table}
+use Rattle.layers.specs.Layers.{depth_from, layer_bit, last_layer, Searched, searched, search_leaves, search_table}
+use Rattle.layers.proofs.Parts.{part_is}
 use Rattle.layers.proofs.Theorems.{depth_is, table_depth, table_leaves}
 use Rattle.map.specs.Memory.{network_of}
 use Rattle.map.specs.Room.{Tables, tables}
@@ -30,19 +31,15 @@ use Rattle.targets.specs.Hops.{IsLastLayer}
 use Rattle.targets.specs.Reach.{Reached, farthest_of, is_farthest, reach_of}
 use Rattle.targets.proofs.Partners.{farthest_is}
 use Rattle.pairs.specs.Pairs.{Tally, tally_of, pairs_with, settle_of}
-use Rattle.rounds.specs.Workspace.{last_row, reach_in, Absorbed, taking, absorbing}
+use Rattle.rounds.specs.Workspace.{reach_in, Absorbed, taking, absorbing}
 use Rattle.rounds.specs.Targets.{target_network, AreTargets, Spans}
 use Rattle.rounds.proofs.Targets.{target_delivers, target_depots}
 
--- ---- by the depth's parity
+-- ---- by the row that is handed back
 
-pub reach_even : (W r d : ℕ) (targets hops even odd row : List ℕ) (R : Reached) → d % 2 ≡ 0 → R ≡ reach_of W targets hops even r d row
-    → R ≡ reach_in W targets r d (tables hops even odd) row
-reach_even W r d targets hops even odd row R q h = rw (eq-eqb (d % 2) 0 q) h
-
-pub reach_odd : (W r d : ℕ) (targets hops even odd row : List ℕ) (R : Reached) → (d % 2 ≡ 0 → ⊥) → R ≡ reach_of W targets hops odd r d row
-    → R ≡ reach_in W targets r d (tables hops even odd) row
-reach_odd W r d targets hops even odd row R q h = rw (ne_eqb (d % 2) 0 q) h
+pub reach_handed : (W r d : ℕ) (targets hops even odd row : List ℕ) {last : List ℕ} {R : Reached} → last ≡ last_layer W d even odd
+    → R ≡ reach_of W targets hops last r d row → R ≡ reach_in W targets r d (tables hops even odd) row
+reach_handed W r d targets hops even odd row e h = h ∙ ap (λ (l : List ℕ). reach_of W targets hops l r d row) e
 
 -- ---- what stood in the row that was lent is no matter
 
@@ -81,18 +78,18 @@ module _ (W : ℕ) (members targets links : List ℕ) (net : IsNet (target_netwo
   unfolding search_leaves
   hop_at v l = fill_at (dist G r) T₀.hops (64 * W) v 0 l
 
-  last_bit : (v : ℕ) → v < 64 * W → row_bit W (last_row d S) v ≡ eqb (dist G r v) d
-  unfolding search_leaves layer_bit
+  last_bit : (v : ℕ) → v < 64 * W → row_bit W (last_layer W d S.even S.odd) v ≡ eqb (dist G r v) d
+  unfolding search_leaves layer_bit last_layer
   last_bit v l = go (cases_Bool (eqb (d % 2) 0))
     where
       odd_is : eqb (d % 2) 0 ≡ false → eqb (d % 2) 1 ≡ true
       odd_is q = eq-eqb (d % 2) 1 (omega (arith, eqb-false (d % 2) 0 q))
 
-      go : (eqb (d % 2) 0 ≡ true) ⊎ (eqb (d % 2) 0 ≡ false) → row_bit W (last_row d S) v ≡ eqb (dist G r v) d
-      go (inl q) = rw q (row_at W (layer_bit (dist G r) d 0) T₀.even v l ∙ rw q)
-      go (inr q) = rw q (row_at W (layer_bit (dist G r) d 1) T₀.odd v l ∙ rw (odd_is q))
+      go : (eqb (d % 2) 0 ≡ true) ⊎ (eqb (d % 2) 0 ≡ false) → row_bit W (last_layer W d S.even S.odd) v ≡ eqb (dist G r v) d
+      go (inl q) = rw q (part_is W S.even v ∙ row_at W (layer_bit (dist G r) d 0) T₀.even v l ∙ rw q)
+      go (inr q) = rw q (part_is W S.odd v ∙ row_at W (layer_bit (dist G r) d 1) T₀.odd v l ∙ rw (odd_is q))
 
-  layer : IsLastLayer W targets (last_row d S) S.hops d
+  layer : IsLastLayer W targets (last_layer W d S.even S.odd) S.hops d
   unfolding network_of
   layer = record {
     most = λ v t.
@@ -101,12 +98,12 @@ module _ (W : ℕ) (members targets links : List ℕ) (net : IsNet (target_netwo
         let b = (depth_is G net r o).upper (dist G r v) (v, ov, hop_open G net r o v ov) in
         omega (arith, a, b);
     here = λ v t.
-        let l = network_open_below W (last_row d S) [] v (true→t t) in
+        let l = network_open_below W (last_layer W d S.even S.odd) [] v (true→t t) in
         hop_at v l ∙ eqb-true (dist G r v) d (sym (last_bit v l) ∙ t);
   }
 
   abbrev far : ℕ
-  far = farthest_of W targets S.hops (last_row d S) d
+  far = farthest_of W targets S.hops (last_layer W d S.even S.odd) d
 
   target_in : (v : ℕ) → Memᴰ v (vertices (network_of W targets [])) → v < 64 * W
   unfolding network_of
@@ -115,7 +112,7 @@ module _ (W : ℕ) (members targets links : List ℕ) (net : IsNet (target_netwo
   far_is : far ≡ ecc (chart G) r
   unfolding ecc chart
   far_is =
-      farthest_is W targets S.hops (last_row d S) d layer
+      farthest_is W targets S.hops (last_layer W d S.even S.odd) d layer
       ∙ max_ext (λ v. get_or S.hops v 0) (dist G r) (vertices (network_of W targets [])) (λ v m. hop_at v (target_in v m))
       ∙ ap (max_of (dist G r)) (target_depots W members targets links are)
 
@@ -127,12 +124,12 @@ module _ (W : ℕ) (members targets links : List ℕ) (net : IsNet (target_netwo
     ecc_is = far_is;
     own_is = ap₂ (λ (b : Bool) (e : ℕ). cond b e 0) (target_delivers W members targets links are r) far_is;
     partners_are = λ v l.
-        row_at W (λ v. row_bit W targets r && is_farthest W targets S.hops (last_row d S) d far v) row v l
+        row_at W (λ v. row_bit W targets r && is_farthest W targets S.hops (last_layer W d S.even S.odd) d far v) row v l
         ∙ rw (target_delivers W members targets links are r, target_delivers W members targets links are v, part v l (cases_Bool (eqb far d)));
   }
     where
       part : (v : ℕ) → v < 64 * W → (eqb far d ≡ true) ⊎ (eqb far d ≡ false)
-          → cond (eqb far d) (row_bit W (last_row d S) v) (eqb (get_or S.hops v 0) far) ≡ eqb (dist G r v) (ecc (chart G) r)
+          → cond (eqb far d) (row_bit W (last_layer W d S.even S.odd) v) (eqb (get_or S.hops v 0) far) ≡ eqb (dist G r v) (ecc (chart G) r)
       part v l (inl q) = rw q (last_bit v l ∙ ap (eqb (dist G r v)) (sym (eqb-true far d q) ∙ far_is))
       part v l (inr q) = rw q (ap₂ eqb (hop_at v l) far_is)
 

@@ -16,7 +16,7 @@ use Rattle.graph.specs.Chart.{chart}
 use Rattle.graph.proofs.Rounds.{pick_in_lem}
 use Rattle.rows.specs.Rows.{row_bit, encode_row}
 use Rattle.rows.proofs.Written.{row_at}
-use Rattle.layers.specs.Layers.{Searched, searched, search_table}
+use Rattle.layers.specs.Layers.{Searched, searched, search_table, last_layer}
 use Rattle.map.specs.Memory.{table_network}
 use Rattle.map.specs.Room.{Tables, tables}
 use Rattle.targets.specs.Reach.{Reached}
@@ -27,7 +27,7 @@ use Rattle.bounds.specs.Bounds.{Marks, marks, leave_of, waiting_after, relax_of}
 use Rattle.bounds.proofs.Settled.{left_bit}
 use Rattle.ranks.specs.Ranks.{pick_in, waiting_of}
 use Rattle.ranks.proofs.Ranks.{ranked_row, ranked_all}
-use Rattle.rounds.specs.Workspace.{Workspace, workspace, last_row, reach_in, Absorbed, absorbed, raised, taking, absorbing, absorb_of, round_of, or_end, run_of, RoundsBegun, rounds_begun, rounds_begin_of}
+use Rattle.rounds.specs.Workspace.{Workspace, workspace, reach_in, Absorbed, absorbed, raised, taking, absorbing, absorb_of, round_of, or_end, run_of, RoundsBegun, rounds_begun, rounds_begin_of}
 use Rattle.rounds.proofs.Reaching.{reach_free}
 use Rattle.rounds.proofs.Finish.{cleared_table, count_no_pairs}
 
@@ -58,7 +58,7 @@ unfolding round_of absorb_of
 round_is_absorbed W targets links mark r M d T R row h t m c n s T' q e l a k =
     let A = absorbed M.paired M.marked M.candidate in
     let b : absorbed t m c ≡ absorbing W mark r (reach_in W targets r d T []) T.hops A =
-    a ∙ ap (λ (h : List ℕ). absorbing W mark r R h A) l ∙ ap (λ (R : Reached). absorbing W mark r R T.hops A) (q ∙ ap (λ (X : Tables). reach_in W targets r d X row) e) ∙ reach_free W mark r d targets T.hops (last_row d T) row [] T.hops A in
+    a ∙ ap (λ (h : List ℕ). absorbing W mark r R h A) l ∙ ap (λ (R : Reached). absorbing W mark r R T.hops A) (q ∙ ap (λ (X : Tables). reach_in W targets r d X row) e) ∙ reach_free W mark r d targets T.hops (last_layer W d T.even T.odd) row [] T.hops A in
     ap₂ (λ (A : Absorbed) (x : ℕ). workspace A.paired T A.marked A.candidate x) b k
     ∙ ap (λ (X : Searched). absorb_of W mark r (reach_in W targets r X.depth X.left []) X.left M) s
 

@@ -1,14 +1,14 @@
 -- THE ROUNDS IN CODE, over lists of words and numbers, for any number of words per row. Nobody has to believe these:
 -- proofs/Theorems says that they leave what the network's own rounds (graph, Rounds.antt) leave.
 -- Assumes nothing.
-use Rattle.std.specs.Prelude.{false, cond, List, [], ℕ, zero, suc, ◌+◌, ◌*◌, ◌%◌, ◌≤◌, eqb, ltb, length}
+use Rattle.std.specs.Prelude.{false, cond, List, [], ℕ, zero, suc, ◌+◌, ◌*◌, ◌≤◌, ltb, length}
 use Rattle.std.proofs.Math.Option.{Option, none, some}
 use Rattle.lists.specs.Lists.{range, mapl, overwrite}
 use Rattle.graph.specs.Distance.{unreached}
 use Rattle.rows.specs.Rows.{row_bit, encode_row, encode_table}
 use Rattle.map.specs.Room.{Tables}
 use Rattle.layers.specs.Begin.{HoldsEnds}
-use Rattle.layers.specs.Layers.{search_table}
+use Rattle.layers.specs.Layers.{last_layer, search_table}
 use Rattle.targets.specs.Reach.{Reached, reach_of}
 use Rattle.pairs.specs.Pairs.{Tally, settle_of}
 use Rattle.bounds.specs.Bounds.{Marks, marks, leave_of, relax_of}
@@ -21,13 +21,9 @@ pub record Workspace : Type 0 where
   pub candidate : ℕ
   pub searches : ℕ
 
--- the row of a search's last layer, which lies at the depth d
-abbrev pub last_row : ℕ → Tables → List ℕ
-last_row d T = cond (eqb (d % 2) 0) T.even T.odd
-
--- what a search from r to the depth d, with its tables T, says of it, a row being lent for its partners
+-- what a search from r to the depth d, with its tables T, says of it, a row being lent for its partners: by the last layer that it hands back
 abbrev pub reach_in : ℕ → List ℕ → ℕ → ℕ → Tables → List ℕ → Reached
-reach_in W targets r d T row = reach_of W targets T.hops (last_row d T) r d row
+reach_in W targets r d T row = reach_of W targets T.hops (last_layer W d T.even T.odd) r d row
 
 abbrev pub workspace : Tally → Tables → Marks → ℕ → ℕ → Workspace
 workspace t T m c n = record { paired = t; searched = T; marked = m; candidate = c; searches = n }

@@ -38,10 +38,10 @@ pub struct Desk<'a> {
 
 // ---- one round
 
-// What a search from r to this depth says of it: how far the targets lie, and its partners. The last layer stands in the row of the depth's parity.
-// It takes the three tables as shared slices: it only reads them, and a caller that has nothing else can ask too. They have one lifetime, since a struct
-// holds two of them.
-#[tactic(auto, using(crate::proofs::Reaching::reach_even, crate::proofs::Reaching::reach_odd))]
+// What a search from r to this depth says of it, by the last layer that is handed back of the two lent rows: how
+// far the targets lie, and its partners. It takes the three tables as shared slices: it only reads them, and a
+// caller that has nothing else can ask too. They have one lifetime, since a struct holds two of them.
+#[tactic(auto, using(crate::proofs::Reaching::reach_handed, layers::proofs::Parts::last_long))]
 pub fn reach_by<'a>(
     targets: &'a [u64],
     hops: &'a [u16],
@@ -62,7 +62,7 @@ pub fn reach_by<'a>(
     ensures { reached result.ecc result.own partners.new
         ≡ reach_in words targets.now r depth (tables hops.now even.now odd.now) partners.old }
 {
-    let last = if depth % 2 == 0 { even } else { odd };
+    let last = layers::last_layer(even, odd, words, depth);
     let seen = TargetHops {
         targets,
         hops,

@@ -5,9 +5,8 @@ use mathlib.Core.List.{List, [], ◌∷◌}
 use Prim.Native.Nat.{ℕ, zero, suc, ◌%◌, ◌<◌}
 use native.Mathlib.Omega.{arith}
 use lib.Dec.{T}
-use lib.ListN.{length, take}
-use Rattle.std.proofs.lemmas.List.{take_min}
-use borrow.Author.Tests.{eq-eqb, ne_eqb, not-false}
+use lib.ListN.{length}
+use borrow.Author.Tests.{not-false}
 use Rattle.lists.specs.Lists.{first_of, max_of, overwrite}
 use Rattle.lists.proofs.Tests.{true→t}
 use Rattle.lists.proofs.Members.{first_zero}
@@ -29,7 +28,7 @@ use Rattle.outcome.specs.Refusals.{number_of}
 use Rattle.outcome.specs.declared.Refusal.{Refusal}
 use Rattle.outcome.proofs.Answers.{none_is, number_is, refused_leaves, done_leaves}
 use Rattle.outcome.proofs.Numbering.{refuses}
-use Rattle.search.specs.SearchCall.{search_sizes, search_refusal, reach, search_call, last_layer}
+use Rattle.search.specs.SearchCall.{search_sizes, search_refusal, reach, search_call}
 use Rattle.map.proofs.Longs.{are_long_lem}
 use Rattle.lent_map.specs.Faults.{lent_refusal}
 use Rattle.lent_map.proofs.Passes.{lent_first, lent_then, lent-passed, passed_net}
@@ -142,17 +141,3 @@ module _ (K : Shape) (shape : IsShape K) (rec : Record) (links : List ℕ) (B : 
       ap (λ (x : ℕ). leaves (Ok (reach x d)) (tables hops even odd)) far
       ∙ ap₂ (λ (x : ℕ) (t : Tables). leaves (Ok (reach (ecc (chart N) code) x)) t) found.0 found.1
       ∙ done_leaves B _ z
-
--- ---- the row handed back, by the parity
-
-module _ (W d : ℕ) (even odd : List ℕ) where
-  pub last_even : d % 2 ≡ 0 → take W even ≡ last_layer W d even odd
-  unfolding last_layer
-  last_even q = rw (eq-eqb (d % 2) 0 q)
-
-  pub last_odd : (d % 2 ≡ 0 → ⊥) → take W odd ≡ last_layer W d even odd
-  unfolding last_layer
-  last_odd q = rw (ne_eqb (d % 2) 0 q)
-
--- what the check is told of a part of a row
-pub ruleset parts = (take_min, last_even, last_odd)

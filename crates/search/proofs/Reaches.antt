@@ -25,31 +25,10 @@ use Rattle.rows.proofs.Written.{row_at, row_past, row_of_table, table_zero}
 use Rattle.map.specs.Memory.{network_of, yard_network, table_network}
 use Rattle.map.specs.Room.{Tables, tables}
 use Rattle.map.proofs.Theorems.{network_open_below, delivering_depots}
-use Rattle.layers.specs.Layers.{depth_from, layer_bit, Searched, searched, search_leaves, search_table}
+use Rattle.layers.specs.Layers.{depth_from, layer_bit, last_layer, Searched, searched, search_leaves, search_table}
+use Rattle.layers.proofs.Parts.{part_is}
 use Rattle.layers.proofs.Theorems.{table_search}
 use Rattle.targets.specs.Hops.{IsLastLayer}
-use Rattle.search.specs.SearchCall.{last_layer}
-
--- ---- the part of a row that a last layer is
-
--- it has a row's words
-pub last_long : (W d : ℕ) {last : List ℕ} (even odd : List ℕ) → last ≡ last_layer W d even odd → W ≤ length even → W ≤ length odd → W ≤ length last
-unfolding last_layer
-last_long W d {last} even odd q a b = go (eqb (d % 2) 0) (ap length q ∙ length-take W (cond (eqb (d % 2) 0) even odd))
-  where
-    go : (t : Bool) → length last ≡ min W (length (cond t even odd)) → W ≤ length last
-    go true n = omega (arith, n)
-    go false n = omega (arith, n)
-
--- and the row's members
-pub part_is : (W : ℕ) (row : List ℕ) (v : ℕ) → row_bit W (take W row) v ≡ row_bit W row v
-part_is W row v = go (cases_lt v (64 * W))
-  where
-    go : (v < 64 * W) ⊎ (64 * W ≤ v) → row_bit W (take W row) v ≡ row_bit W row v
-    go (inl l) =
-        let z : W * 0 ≡ 0 = omega arith in
-        ap (λ (i : ℕ). row_bit W (take W (drop i row)) v) (sym z) ∙ row_of_table W row 0 v (omega arith) ∙ table_zero W row v
-    go (inr l) = row_past W (take W row) v l ∙ sym (row_past W row v l)
 
 -- ---- over a table
 

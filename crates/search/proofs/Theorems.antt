@@ -28,16 +28,16 @@ use Rattle.graph.proofs.Connected.{hop_open, hop_closed}
 use Rattle.graph.proofs.Theorems.{eccentricity_is}
 use Rattle.rows.specs.Rows.{row_bit, encode_row}
 use Rattle.rows.proofs.Written.{row_past, row_at, encode_row_length}
-use Rattle.layers.specs.Layers.{depth_from, layer_bit, search_leaves}
+use Rattle.layers.specs.Layers.{depth_from, layer_bit, search_leaves, last_layer}
 use Rattle.map.specs.Room.{Tables, long_enough}
 use Rattle.layers.proofs.Theorems.{depth_is, depth_low, layer_is_lem}
 use Rattle.map.specs.Memory.{Shape, places, IsShape, map_network, table_words}
 use Rattle.map.proofs.Theorems.{network_open_below}
-use Rattle.search.specs.SearchCall.{search_refusal, reach, search_call, last_layer, search_sizes}
+use Rattle.search.specs.SearchCall.{search_refusal, reach, search_call, search_sizes}
 use Rattle.search.specs.Refusals.{search_buffers, search_conditions, SearchRefuses}
 use Rattle.search.specs.Correct.{HoldsLayer, HoldsBefore, KeepsPast, IsSearch, SearchCorrect}
 use Rattle.outcome.specs.Numbers.{absent_code}
-use Rattle.search.proofs.Reaches.{part_is}
+use Rattle.layers.proofs.Parts.{part_is}
 use Rattle.search.proofs.Accepts.{granted}
 use Rattle.lent_map.specs.Faults.{lent_faults}
 use Rattle.lent_map.proofs.Refuses.{lent_tells}

@@ -9,7 +9,8 @@ use Rattle.map.specs.Room.{Tables}
 use Rattle.map.specs.Memory.{Shape, places, map_network}
 use Rattle.map.specs.declared.Record.{Record}
 use Rattle.search.specs.declared.Reach.{Reach}
-use Rattle.search.specs.SearchCall.{search_refusal, search_call, last_layer}
+use Rattle.layers.specs.Layers.{last_layer}
+use Rattle.search.specs.SearchCall.{search_refusal, search_call}
 
 -- the row holds exactly the depots at distance d from s
 abbrev pub HoldsLayer : ℕ → Network → ℕ → ℕ → List ℕ → Type 0

@@ -1,13 +1,13 @@
 -- THE SEARCH CALL (rules 3.1 to 3.3) on lent memory, whole: its answer and every place that it leaves. The code's
 -- contract is one equation with `search_call`.
 -- Assumes nothing.
-use Rattle.std.specs.Prelude.{false, not, cond, List, [], ◌∷◌, ◌++◌, ℕ, ◌%◌, eqb, length, take, Option, Result, Ok, Err}
+use Rattle.std.specs.Prelude.{false, not, List, [], ◌∷◌, ◌++◌, ℕ, length, Option, Result, Ok, Err}
 use Rattle.lists.specs.Lists.{first_of}
 use Rattle.outcome.specs.Numbers.{absent_code}
 use Rattle.outcome.specs.Answers.{numbered, Left, leaves, unless}
 use Rattle.graph.specs.Chart.{chart, ecc}
 use Rattle.map.specs.Room.{Tables, Sizes, sizes, long_enough}
-use Rattle.layers.specs.Layers.{depth_from, search_leaves}
+use Rattle.layers.specs.Layers.{depth_from, search_leaves, last_layer}
 use Rattle.map.specs.Memory.{Shape, places, table_words, map_network}
 use Rattle.map.specs.declared.Record.{Record}
 use Rattle.search.specs.declared.Reach.{Reach}
@@ -38,11 +38,7 @@ search_call K rec links B code =
     unless (search_refusal K rec links (length B.hops) (length B.even) (length B.odd) code) B
     (leaves (Ok (reach (ecc (chart G) code) (depth_from G code))) (search_leaves K.words G code B))
 
--- the part handed back (rule 3.3): the first words of the row of the last layer's parity, d being its distance
-unfoldable pub last_layer : ℕ → ℕ → List ℕ → List ℕ → List ℕ
-last_layer W d even odd = take W (cond (eqb (d % 2) 0) even odd)
-
--- and for each answer: nothing for a refusal
+-- the part handed back (rule 3.3), the last layer; nothing for a refusal
 abbrev pub last_of : ℕ → Result Reach ℕ → List ℕ → List ℕ → List ℕ
 last_of W (Ok r) even odd = last_layer W r.depth even odd
 last_of W (Err k) even odd = []

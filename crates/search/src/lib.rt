@@ -8,13 +8,13 @@ ghost use Rattle.std.specs.Prelude.{◌≡◌, [], ◌<◌, ◌≤◌, length, g
 ghost use Rattle.lists.specs.Lists.{max_of};
 ghost use Rattle.graph.specs.Distance.{vertices, unreached, dist};
 ghost use Rattle.layers.specs.Begin.{HoldsEnds};
-ghost use Rattle.layers.specs.Layers.{searched, search_table};
+ghost use Rattle.layers.specs.Layers.{last_layer, searched, search_table};
 ghost use Rattle.outcome.specs.Answers.{answer_of, refusal_in, leaves};
 ghost use Rattle.map.specs.Room.{AreLong, tables};
 ghost use Rattle.map.specs.Slices.{tables_at, tables_in, scratch_sizes, IsSameScratch};
 ghost use Rattle.map.specs.Memory.{base, places, network_of, table_network};
 ghost use Rattle.targets.specs.Hops.{IsLastLayer};
-ghost use Rattle.search.specs.SearchCall.{search_refusal, search_call, last_layer, last_of};
+ghost use Rattle.search.specs.SearchCall.{search_refusal, search_call, last_of};
 
 use map::{Lengths, Record, Scratch};
 use outcome::Refusal;
@@ -51,7 +51,7 @@ pub struct Reach {
 }
 
 // The greatest hop of a target after a search to this depth, which reached all of them.
-#[tactic(auto, using(crate::proofs::Reaches::last_long))]
+#[tactic(auto, using(layers::proofs::Parts::last_long))]
 fn greatest(targets: &[u64], scratch: &Scratch<'_>, depth: u16) -> u16
     requires { let T = tables_in scratch.now in
         (base.words ≤ length targets.now)
@@ -153,12 +153,10 @@ pub fn search_from(
 
 // The last layer of a search to this depth: a part of whichever lent row holds it. The eccentricity does not tell the row: where the last layer holds
 // yards alone it is less than the depth, and may have the other parity.
-#[tactic(auto, using(crate::proofs::Accepts::parts))]
 pub fn last_layer<'a>(even: &'a [u64], odd: &'a [u64], depth: u16) -> &'a [u64]
     ensures { result.now ≡ last_layer base.words depth even.now odd.now }
 {
-    let row = if depth % 2 == 0 { even } else { odd };
-    &row[..map::WORDS.min(row.len())]
+    layers::last_layer(even, odd, map::WORDS, depth)
 }
 
 // The answer of a search with its last layer, and what the two layer rows hold after it.
