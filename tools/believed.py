@@ -28,6 +28,7 @@ GROUPS = [
     ('reports on files', '', ['run_written_lem', 'run_first']),
     ('the calls for C', 'c_maps c_updates c_streams c_sentences', ['updated_words', 'batched_words', 'write_refusals', 'read_refusals', 'numbers_return']),
     ('the table of cases', '', ['cases_hold']),
+    ('stale pairs, in the midst of dropping', '', ['done_joined']),
     ('how far one notice moves the chain', '', ['opening_moves', 'linking_moves', 'map_moves', 'call_moves', 'histories_move']),
 ]
 

@@ -27,12 +27,12 @@ fn all_set<F: Fn(usize, usize) -> bool>(table: &[u64], words: usize, passes: F) 
         for w in 0..words {
             let mut x = table[words * u + w];
             while x != 0 {
-                let v = 64 * w + words::least(x);
-                if !passes(u, v) {
+                let b = words::least(x);
+                if !passes(u, 64 * w + b) {
                     fine = false;
                     break 'rows;
                 }
-                x = words::drop_least(x);
+                x = words::clear_least(x, b);
             }
         }
     }

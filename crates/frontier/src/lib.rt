@@ -30,8 +30,8 @@ fn put_word(row: &mut [u64], words: usize, j: usize, x: u64)
     }
 }
 
-// Takes the codes that are not left out of next, and those of next out of those left. Answers whether next has one: the or of all its words tells by
-// one test at the end.
+// Takes the codes that are not left out of next, and those of next out of those left: sets by whole words. Answers
+// whether next has one: the or of all its words tells by one test at the end.
 #[tactic(auto, using(crate::proofs::Passes::taking))]
 fn take_left(left: &mut [u64], next: &mut [u64], words: usize) -> bool
     requires { (words ≤ length left.old) × (words ≤ length next.old) }
@@ -101,7 +101,7 @@ fn row_of<'a>(even: &'a [u64], odd: &'a [u64], k: u16) -> &'a [u64]
 
 // ---- a visit
 
-// The word x with the members of word j of a table's row besides, the row of bit b of word w. Past the row there is none.
+// The word x with the members of word j of a table's row besides, the row of bit b of word w: a union of sets. Past the row there is none.
 // Where word w begins and where bit b stands are added last, so that the first is a constant in a loop over the bits.
 // No method of `Visit`: that the words of a slice fit 64 bits is known of a parameter, and of a field it is not.
 #[tactic(auto, using(crate::proofs::Links::with_bit_lem))]

@@ -12,7 +12,7 @@ ghost use Rattle.layers.specs.Begin.{HoldsEnds, search_begun, search_begin_of};
 
 use map::Scratch;
 
-// Makes left the members that the row first does not have.
+// Makes left the members that the row first does not have: a difference of sets, by whole words.
 #[tactic(auto, using(crate::proofs::Leaving::leaving))]
 fn leave_others(left: &mut [u64], members: &[u64], first: &[u64], words: usize)
     requires { (words ≤ length left.old) × (words ≤ length members.now) × (words ≤ length first.now) }

@@ -91,7 +91,7 @@ pub fn open_depots<'a>(members: &'a [u64; WORDS]) -> OpenDepots<'a>
 
 // ---- the yards
 
-// Takes the yards out of a row that holds the open set: the depots that deliver are left.
+// Takes the yards out of a row that holds the open set, by whole words: the depots that deliver are left.
 #[tactic(auto, using(crate::proofs::Yards::delivering_start, crate::proofs::Yards::delivering_end))]
 pub fn keep_delivering(members: &mut [u64], yards: &[u64], words: usize)
     requires { (words ≤ length members.old) × (words ≤ length yards.now) }

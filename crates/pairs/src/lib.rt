@@ -47,8 +47,8 @@ pub fn lower_part(x: u64, j: usize, high: usize) -> u64
     words::below(x, high - first)
 }
 
-// Puts the pairs of low with the members of x, which is word j of a row, and answers how many pairs the table then has.
-// A word without members adds nothing, so its ones are not counted.
+// Puts the pairs of low with the members of x, which is word j of a row, and answers how many pairs the table then has: a union
+// of sets, by whole words. A word without members adds nothing, so its ones are not counted.
 #[tactic(auto, using(rows::proofs::Places::row_fits, crate::proofs::Tallies::tally_fits, crate::proofs::WordPairs::word_few))]
 fn put_upper(pairs: &mut [u64], words: usize, low: usize, j: usize, x: u64, count: u32) -> u32
     requires { Counted words pairs.old count × (low < 64 * words) × (j < words) }

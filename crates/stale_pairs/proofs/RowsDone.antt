@@ -1,13 +1,14 @@
 -- WHAT `drop_set_of` SAYS, for every set of rows: `RowsDone` (specs), and a computed table for the numbers that it does not name. Assumes nothing.
 use mathlib.Core.Path.{◌≡◌, refl, ap, ◌∙◌}
 use mathlib.Core.Logic.{◌⊎◌, inl, inr}
-use mathlib.Core.Bool.{Bool, true, false}
+use mathlib.Core.Bool.{Bool, true, false, not, ◌&&◌, ◌||◌}
 use mathlib.Core.List.{List, [], ◌∷◌}
 use Prim.Native.Nat.{ℕ, ◌+◌, ◌*◌, ◌/◌, ◌%◌, ◌^◌, ◌≤◌, ◌<◌}
 use native.Mathlib.Omega.{arith}
 use lib.Dec.{ltb}
 use lib.ListN.{length, get_or}
 use Rattle.lists.specs.Lists.{from, range, countb, sum_of, max_of, overwrite}
+use Rattle.lists.proofs.Tests.{clash}
 use Rattle.lists.proofs.Fills.{overwrite_length, overwrite_old}
 use Rattle.lists.proofs.Sums.{sum_add}
 use Rattle.lists.proofs.RangeCounts.{count_same}
@@ -81,6 +82,35 @@ module _ (W : ℕ) (far : ℕ → ℕ → ℕ) (D : ℕ) (S : ℕ → Bool) (t :
   pub both_done : {t' : List ℕ} {g k w : ℕ} → rows_dropped t' g k w ≡ drop_set_of W far D S t
       → (rows_dropped t' g k w ≡ drop_set_of W far D S t) × RowsDone W far D S t t' g
   both_done q = (q, rows_done q)
+
+-- ---- IN WHATEVER ORDER, and some rows again: rows done after rows done are all of them done, and the numbers gone add up
+
+pub done_joined : {W : ℕ} {way : ℕ → ℕ → ℕ} {D : ℕ} (S T : ℕ → Bool) {old mid new : List ℕ} {g h : ℕ}
+    → RowsDone W way D S old mid g → RowsDone W way D T mid new h → RowsDone W way D (λ u. S u || T u) old new (g + h)
+done_joined {W} {way} {D} S T {old} {mid} {new} {g} {h} a b = record {
+  size = b.size ∙ a.size;
+  stay = λ u v l m e. both u v l m (known (S u)) (known (T u)) e;
+  others = λ u v l m e. let z = neither (S u) (T u) e in b.others u v l m z.1 ∙ a.others u v l m z.0;
+  behind = λ i l. b.behind i l ∙ a.behind i l;
+  counted = omega (arith, a.counted, b.counted);
+}
+  where
+    neither : (x y : Bool) → (x || y) ≡ false → (x ≡ false) × (y ≡ false)
+    neither true y e = absurd (clash refl e)
+    neither false y e = (refl, e)
+
+    twice : (x y : Bool) → ((x && y) && y) ≡ (x && y)
+    twice true true = refl
+    twice true false = refl
+    twice false y = refl
+
+    both : (u v : ℕ) → u < 64 * W → v < 64 * W → (S u ≡ true) ⊎ (S u ≡ false) → (T u ≡ true) ⊎ (T u ≡ false) → (S u || T u) ≡ true
+        → table_bit W new u v ≡ (table_bit W old u v && not (ltb (way u v) D))
+    both u v l m (inl s) (inl t) e =
+        b.stay u v l m t ∙ ap (λ (x : Bool). x && not (ltb (way u v) D)) (a.stay u v l m s) ∙ twice (table_bit W old u v) (not (ltb (way u v) D))
+    both u v l m (inl s) (inr t) e = b.others u v l m t ∙ a.stay u v l m s
+    both u v l m (inr s) (inl t) e = b.stay u v l m t ∙ ap (λ (x : Bool). x && not (ltb (way u v) D)) (a.others u v l m s)
+    both u v l m (inr s) (inr t) e = absurd (clash e (ap (λ (x : Bool). x || T u) s ∙ t))
 
 -- ---- computed: depots 0, 1, 2, 3 in a row and a search from 0, a chain of 5, and pairs of 0 with 1, 2 and 3, of 1 with 3, of 2 with 3
 

@@ -1,9 +1,8 @@
--- what holds in the midst of dropping, of whichever rows are done: to be believed, and stated of
--- each loop that drops
+-- what holds in the midst of dropping, of whichever rows are done
 pub mod RowsDone
--- the pairs that stay after a search, and the dropping of the others, as equations for the code's
--- steps. Nobody has to believe this file
+-- the pairs that stay after a search, and the dropping of the others, as equations for the code.
+-- Nobody has to believe this file
 pub mod Stale
--- the codes nearer than so many handovers, by which whole words of pairs are dropped. Nobody has to
--- believe this file
+-- the codes nearer than so many handovers, by which whole words of pairs are dropped.
+-- Nobody has to believe this file
 pub mod Balls

@@ -58,10 +58,10 @@ fn sift<F: Fn(usize, usize) -> u16>(tell: &F, x: u64, u: usize, first: usize, ch
         if d < chain {
             word = words::without_bit(word, b);
             gone += 1;
-            left = words::drop_least(left);
+            left = words::clear_least(left, b);
         } else {
             kept += 1;
-            left = words::drop_least(left);
+            left = words::clear_least(left, b);
         }
     }
     Sifted {

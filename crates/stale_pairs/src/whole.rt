@@ -28,7 +28,7 @@ fn put_rings(balls: &mut [u64], hops: &[u16], words: usize, most: usize)
     }
 }
 
-// Adds the members of row k to the row behind it.
+// Adds the members of row k to the row behind it: a union of sets, by whole words.
 fn add_row(balls: &mut [u64], words: usize, k: usize)
     requires { (words < 513) × (words * (k + 1) + words ≤ length balls.old) × (k + 1 < 64 * words) }
     ensures { let P = table_bit words balls.old in

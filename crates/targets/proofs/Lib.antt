@@ -1,5 +1,3 @@
--- the members of a word above one of them
-pub mod Masks
 -- the set bits of a word, one after the other
 pub mod Words
 -- the words of a row, one after the other

@@ -46,9 +46,9 @@ impl TargetHops<'_> {
         let mut most: u16 = 0;
         let mut x = self.targets[w];
         while x != 0 {
-            let v = 64 * w + words::least(x);
-            most = most.max(self.hops[v]);
-            x = words::drop_least(x);
+            let b = words::least(x);
+            most = most.max(self.hops[64 * w + b]);
+            x = words::clear_least(x, b);
         }
         most
     }
@@ -121,7 +121,7 @@ impl TargetHops<'_> {
             if self.hops[64 * w + b] != e {
                 here = words::without_bit(here, b);
             }
-            x = words::drop_least(x);
+            x = words::clear_least(x, b);
         }
         here
     }
@@ -149,7 +149,7 @@ pub struct Span {
 }
 
 impl TargetSearch<'_> {
-    // The targets that are in the last layer.
+    // The targets that are in the last layer: what two sets share, by whole words.
     #[tactic(auto, using(crate::proofs::Partners::put_all))]
     fn put_both(&self, row: &mut [u64])
         requires { self.now.seen.words ≤ length row.old }
@@ -187,15 +187,6 @@ impl TargetSearch<'_> {
 
 // ---- the targets above a code
 
-// The members of w that are above b.
-#[tactic(auto, using(crate::proofs::Masks::word_above))]
-fn above(w: u64, b: usize) -> u64
-    requires { b < 64 }
-    ensures { result ≡ word_of 64 (λ k. bit w k && ltb b k) }
-{
-    w & (!1u64 << b)
-}
-
 // The word of which every bit is a member.
 const FULL: u64 = u64::MAX;
 
@@ -230,9 +221,9 @@ fn sum_of_word(hops: &[u16], w: usize, word: u64) -> u64
     let mut sum: u64 = 0;
     let mut x = word;
     while x != 0 {
-        let v = 64 * w + words::least(x);
-        sum += hops[v] as u64;
-        x = words::drop_least(x);
+        let b = words::least(x);
+        sum += hops[64 * w + b] as u64;
+        x = words::clear_least(x, b);
     }
     sum
 }
@@ -248,7 +239,7 @@ impl TargetHops<'_> {
     {
         let hops = self.hops;
         let first = u / 64;
-        let x = above(self.targets[first], u % 64);
+        let x = words::above(self.targets[first], u % 64);
         let mut sum = sum_of_word(hops, first, x);
         let mut pairs = words::count(x) as u64;
         for w in first + 1..self.words {

@@ -6,3 +6,5 @@ pub mod Bits
 pub mod Counts
 -- The least set bit.
 pub mod Lowest
+-- the members of a word above one of them
+pub mod Masks

@@ -107,6 +107,10 @@ drop_is w p h = record {
   rest = λ b l. subst (λ (x : ℕ). bit_and w (w - 1) ≡ word_of 64 (λ k. bit w k && not (eqb k x))) (least_unique w (count_trailing_zeros 64 w) b (least_is w p h) l) (drop_word 64 w p h);
 }
 
+-- so does whatever clears that bit
+pub cleared : {w y b : ℕ} → 0 < w → w < 2 ^ 64 → IsLeast w b → y ≡ word_of 64 (λ k. bit w k && not (eqb k b)) → WithoutLeast w y
+cleared {w} {y} {b} p h l e = let d = drop_is w p h in subst (WithoutLeast w) (d.rest b l ∙ sym e) d
+
 -- ---- the bits of a word without its least
 pub without-bit : {w y b : ℕ} → IsLeast w b → WithoutLeast w y → (k : ℕ) → k < 64 → bit y k ≡ (bit w k && not (eqb k b))
 without-bit {w} {y} {b} l d k m = ap (λ (r : ℕ). bit r k) (d.rest b l) ∙ bit-word_of 64 (λ k. bit w k && not (eqb k b)) k m

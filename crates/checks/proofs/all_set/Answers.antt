@@ -11,7 +11,7 @@ loop-w-init g c = λ test h. words_start (c.rows.invariant test h).fine c.rows-t
 
 pub loop-x-preserved : goal.loop-x-preserved
 loop-x-preserved g c =
-    λ test h. bits_next (c.loop-x.invariant test h) c.least.ensures c.drop_least-x.ensures
+    λ test h. bits_next (c.loop-x.invariant test h) c.least-b.ensures c.clear_least-x.ensures
     (h _ _ _ c.rows-test.true (omega arith) c.passes.ensures) c.if-not-passes.false
 
 pub loop-w-preserved : goal.loop-w-preserved
@@ -23,6 +23,6 @@ returns g c =
     λ test h. elim c.rows-test.branch [
       | else-rows-test w ↦ w.fine-is ∙ scan_whole (c.rows.invariant test h) w.rows-test.false
       | then-rows-test+then-loop-w-test+then-loop-x-test+then-not-passes w ↦ w.fine-is
-          ∙ scan_fault _ _ (w.loop-x.invariant test h) w.least.ensures (h _ _ _ w.rows-test.true (omega arith) w.passes.ensures) w.if-not-passes.true
+          ∙ scan_fault _ _ (w.loop-x.invariant test h) w.least-b.ensures (h _ _ _ w.rows-test.true (omega arith) w.passes.ensures) w.if-not-passes.true
           w.rows-test.true w.loop-w-test.true
     ]

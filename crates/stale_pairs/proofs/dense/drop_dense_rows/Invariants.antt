@@ -1,5 +1,5 @@
--- `stale_pairs::dense::drop_dense_rows` meets its contract. The loop's invariant (StaleTable.antt) is the contract itself, for the rows done. The measure is the rows
--- left.
+-- `stale_pairs::dense::drop_dense_rows` meets its contract. The loop's invariant (StaleTable.antt)
+-- is the contract itself, for the rows done. The measure is the rows left.
 use mathlib.Core.Bool.{true}
 use Prim.Native.Nat.{ℕ, ◌-◌}
 use Rattle.stale_pairs.specs.Stale.{Sifts}

@@ -10,10 +10,14 @@ pub put_balls-requires : goal.put_balls-requires
 put_balls-requires g c = search (none_set, length-replicate, rules)
 
 pub drop_dense_rows-requires-clause-sifter : goal.drop_dense_rows-requires-clause-sifter
-drop_dense_rows-requires-clause-sifter g c = (λ x u j f l h. search rules, way_by c.args.hops.now, c.args.stored.chain, λ x u j r f l h m. search rules)
+drop_dense_rows-requires-clause-sifter g c =
+    (λ x u j f l h. search rules, way_by c.args.hops.now, c.args.stored.chain, λ x u j r f l h m. search rules)
 
 pub returns-clause-left : goal.returns-clause-left
-returns-clause-left g c = all_rows _ _ _ _ (c.drop_dense_rows.ensures (way_by c.args.hops.now) c.args.stored.chain (λ x u j r f l h m. search rules)).0
+returns-clause-left g c =
+    all_rows _ _ _ _
+    (c.drop_dense_rows.ensures (way_by c.args.hops.now) c.args.stored.chain (λ x u j r f l h m. search rules)).0
 
 pub returns-clause-done : goal.returns-clause-done
-returns-clause-done g c = (c.drop_dense_rows.ensures (way_by c.args.hops.now) c.args.stored.chain (λ x u j r f l h m. search rules)).1
+returns-clause-done g c =
+    (c.drop_dense_rows.ensures (way_by c.args.hops.now) c.args.stored.chain (λ x u j r f l h m. search rules)).1

@@ -1,5 +1,5 @@
--- `stale_pairs::likely::drop_likely` meets its contract. The loop's invariant (StaleTable.antt) is the contract itself, for the rows passed. The measure is the rows
--- left.
+-- `stale_pairs::likely::drop_likely` meets its contract. The loop's invariant (StaleTable.antt) is
+-- the contract itself, for the rows passed. The measure is the rows left.
 use Prim.Native.Nat.{◌+◌, ◌^◌, ◌<◌}
 use native.Mathlib.Omega.{arith}
 use Rattle.stale_pairs.proofs.StaleTable.{rows_start, rows_few, rows_met, rows_left_out, rows_more, rows_end, one_done}

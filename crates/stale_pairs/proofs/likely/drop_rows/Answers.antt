@@ -1,5 +1,6 @@
--- `stale_pairs::likely::drop_rows` meets its contract: the rows that are thought to have a pair are done, and then no pair is left that was not met, or all rows that
--- have one are done (StaleTable.antt).
+-- `stale_pairs::likely::drop_rows` meets its contract: the rows that are thought to have a pair are
+-- done, and then no pair is left that was not met, or all rows that have one are done
+-- (StaleTable.antt).
 use Prim.Native.Nat.{◌+◌, ◌-◌, ◌≤◌}
 use native.Mathlib.Omega.{arith}
 use Rattle.rows.specs.Rows.{row_bit}

@@ -1,5 +1,5 @@
--- `stale_pairs::likely::note_rows` meets its contract. The loop's invariant (LikelyRows.antt): of the rows passed those with a pair are noted. The measure is the rows
--- left.
+-- `stale_pairs::likely::note_rows` meets its contract. The loop's invariant (LikelyRows.antt): of
+-- the rows passed those with a pair are noted. The measure is the rows left.
 use Prim.Native.Nat.{◌-◌, ◌≤◌}
 use Rattle.stale_pairs.specs.Stale.{Covers}
 use Rattle.stale_pairs.proofs.likely.note_rows.Given as goal

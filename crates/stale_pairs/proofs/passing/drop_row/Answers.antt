@@ -1,5 +1,5 @@
--- `stale_pairs::passing::drop_row` meets its contract. The loop's invariant (StaleRow.antt): the row's pairs in the words passed are dropped or counted, and their
--- greatest way is known.
+-- `stale_pairs::passing::drop_row` meets its contract. The loop's invariant (StaleRow.antt): the
+-- row's pairs in the words passed are dropped or counted, and their greatest way is known.
 use native.Mathlib.Omega.{arith}
 use Rattle.stale_pairs.proofs.StaleRow.{row_start, row_word, row_skip, row_end, gone_fits, count_fits}
 use Rattle.stale_pairs.proofs.RowsDone.{both_done}

@@ -1,5 +1,5 @@
--- `stale_pairs::passing::drop_row` meets its contract. The loop's invariant (StaleRow.antt): the row's pairs in the words passed are dropped or counted, and their
--- greatest way is known.
+-- `stale_pairs::passing::drop_row` meets its contract. The loop's invariant (StaleRow.antt): the
+-- row's pairs in the words passed are dropped or counted, and their greatest way is known.
 use Prim.Native.Nat.{ℕ, ◌*◌}
 use Rattle.stale_pairs.specs.Stale.{Sifts}
 use Rattle.stale_pairs.proofs.StaleRow.{RowDropping}

@@ -10,8 +10,8 @@ pub loop-x-preserved : goal.loop-x-preserved
 loop-x-preserved c =
     let g = c.loop-x.invariant in
     elim c.if-self-w.branch [
-      | then-self-w w ↦ kept_leaves _ _ _ _ g c.least-b.ensures c.drop_least-x.ensures w.if-self-w.true (w.here-is ∙ w.without_bit-here.ensures)
-      | else-self-w w ↦ kept_stays _ _ _ _ g c.least-b.ensures c.drop_least-x.ensures w.if-self-w.false w.here-is
+      | then-self-w w ↦ kept_leaves _ _ _ _ g c.least-b.ensures c.clear_least-x.ensures w.if-self-w.true (w.here-is ∙ w.without_bit-here.ensures)
+      | else-self-w w ↦ kept_stays _ _ _ _ g c.least-b.ensures c.clear_least-x.ensures w.if-self-w.false w.here-is
     ]
 
 pub returns : goal.returns
