@@ -6,7 +6,7 @@ mod process;
 use inputs::lines::{link_line, longest_line, notice_line, some_input, yard_line};
 use inputs::{Dice, Growth, Shape, SHAPES};
 use plain::stream::output;
-use process::{assert_same, program, repository, written_and_said};
+use process::{assert_same, ended, failed, program, repository};
 use std::fs::{self, File};
 use std::io::{BufRead, BufReader, Read, Seek, Write};
 use std::os::fd::OwnedFd;
@@ -418,7 +418,7 @@ fn a_million_lines_on_a_pipe_that_stays_open() {
 /// The day's lines as standard input, and another standard output.
 fn day_to(stdout: Stdio) -> (String, String) {
     let day = File::open(repository().join("examples/day.txt")).expect("the file opens");
-    written_and_said(Command::new(program("follow")).stdin(day).stdout(stdout).stderr(Stdio::piped()).spawn().expect("the program starts"))
+    failed(Command::new(program("follow")).stdin(day).stdout(stdout).stderr(Stdio::piped()).spawn().expect("the program starts"))
 }
 
 #[test]
@@ -442,13 +442,13 @@ fn a_closed_output() {
         .stderr(Stdio::piped())
         .spawn()
         .expect("the shell starts");
-    assert_eq!(written_and_said(child).1, "follow: standard output: Bad file descriptor\n");
+    assert_eq!(failed(child).1, "follow: standard output: Bad file descriptor\n");
 }
 
 #[test]
 fn a_directory_as_input() {
     let child = start(File::open(repository()).expect("the folder opens").into());
-    assert_eq!(written_and_said(child), (String::new(), "follow: standard input: Is a directory\n".into()));
+    assert_eq!(failed(child), (String::new(), "follow: standard input: Is a directory\n".into()));
 }
 
 /// What had come before the read that fails is answered, the last stretch too, and then it is said.
@@ -459,28 +459,43 @@ fn a_read_that_would_block() {
     there.set_nonblocking(true).expect("a socket can");
     let child = start(OwnedFd::from(there).into());
     let reports = "1 K 1 0 0 1\n2 G 2 1 1 1\n3 R9 2 1 1 0\n".to_string();
-    assert_eq!(written_and_said(child), (reports, "follow: standard input: Resource temporarily unavailable\n".into()));
+    assert_eq!(failed(child), (reports, "follow: standard input: Resource temporarily unavailable\n".into()));
 }
 
-/// With any argument the program prints its usage, and reads nothing.
+/// With `--help` as its only argument the program prints its usage, and reads nothing. Any other argument is wrong usage, which is said on standard error.
 #[test]
 fn usage() {
-    for argument in ["--help", "-h", "", "notices.txt"] {
+    let with = |arguments: &[&str]| {
         let mut child = Command::new(program("follow"))
-            .arg(argument)
+            .args(arguments)
             .stdin(Stdio::piped())
             .stdout(Stdio::piped())
             .stderr(Stdio::piped())
             .spawn()
             .expect("the program starts");
         let open = child.stdin.take();
-        let (written, said) = written_and_said(child);
+        let all = ended(child);
         drop(open);
-        assert!(written.starts_with("Usage: follow < NOTICES > REPORTS\n"), "{argument}: {written}");
-        let words = "G |K |S |taken|lonely|unsorted|unknown|garbled|020105|absent|itself|linked|yard|1,000,000 lines";
-        for word in words.split('|') {
-            assert!(written.contains(word), "{word}");
-        }
-        assert_eq!(said, "");
+        all
+    };
+    let (status, written, said) = with(&["--help"]);
+    assert_eq!((status, said.as_str()), (0, ""));
+    assert!(written.starts_with("Usage: follow < NOTICES > REPORTS\n"), "{written}");
+    let words = "G |K |S |taken|lonely|unsorted|unknown|garbled|020105|absent|itself|linked|yard|1,000,000 lines|status";
+    for word in words.split('|') {
+        assert!(written.contains(word), "{word}");
     }
+    for arguments in [&["-h"][..], &[""], &["notices.txt"], &["--help", "--help"], &["--help", ""], &["", "--help"], &["--hel"], &["--helpx"], &["-"], &["--"]] {
+        let (status, written, said) = with(arguments);
+        assert_eq!((status, written.as_str()), (2, ""), "{arguments:?}");
+        assert!(said.starts_with("Usage: follow < NOTICES > REPORTS") && said.matches('\n').count() == 1 && said.ends_with('\n'), "{said}");
+    }
+}
+
+/// A usage that cannot be written is a write that failed.
+#[test]
+fn usage_to_a_full_device() {
+    let full = File::options().write(true).open("/dev/full").expect("the device opens");
+    let child = Command::new(program("follow")).arg("--help").stdout(full).stderr(Stdio::piped()).spawn().expect("the program starts");
+    assert_eq!(failed(child).1, "follow: standard output: No space left on device\n");
 }

@@ -8,7 +8,7 @@ use inputs::lines::{link_line, longest_line, notice_line, some_input, yard_line}
 use inputs::{Dice, Growth, SHAPES};
 use plain::sentences::{outcome_of, Answer};
 use plain::{narrate, stream};
-use process::{assert_same, program, repository, written_and_said};
+use process::{assert_same, ended, failed, program, repository, written_and_said};
 use std::fs::{self, File};
 use std::io::{BufRead, BufReader, Read, Write};
 use std::os::fd::OwnedFd;
@@ -246,13 +246,13 @@ fn a_full_device() {
     let full = File::options().write(true).open("/dev/full").expect("the device opens");
     let day = File::open(repository().join("examples/day.txt")).expect("the file opens");
     let child = Command::new(program("narrate")).stdin(day).stdout(full).stderr(Stdio::piped()).spawn().expect("the program starts");
-    assert_eq!(written_and_said(child).1, "narrate: standard output: No space left on device\n");
+    assert_eq!(failed(child).1, "narrate: standard output: No space left on device\n");
 }
 
 #[test]
 fn a_directory_as_input() {
     let child = start("narrate", File::open(repository()).expect("the folder opens").into());
-    assert_eq!(written_and_said(child), (String::new(), "narrate: standard input: Is a directory\n".into()));
+    assert_eq!(failed(child), (String::new(), "narrate: standard input: Is a directory\n".into()));
 }
 
 /// What had come before the read that fails is told, the last stretch too, and then it is said.
@@ -263,27 +263,42 @@ fn a_read_that_would_block() {
     there.set_nonblocking(true).expect("a socket can");
     let child = start("narrate", OwnedFd::from(there).into());
     let expected = narrate::output(b"010000\n01010100\n0102");
-    assert_eq!(written_and_said(child), (expected, "narrate: standard input: Resource temporarily unavailable\n".into()));
+    assert_eq!(failed(child), (expected, "narrate: standard input: Resource temporarily unavailable\n".into()));
 }
 
-/// With any argument the program prints its usage, and reads nothing.
+/// With `--help` as its only argument the program prints its usage, and reads nothing. Any other argument is wrong usage, which is said on standard error.
 #[test]
 fn usage() {
-    for argument in ["--help", "", "notices.txt"] {
+    let with = |arguments: &[&str]| {
         let mut child = Command::new(program("narrate"))
-            .arg(argument)
+            .args(arguments)
             .stdin(Stdio::piped())
             .stdout(Stdio::piped())
             .stderr(Stdio::piped())
             .spawn()
             .expect("the program starts");
         let open = child.stdin.take();
-        let (written, said) = written_and_said(child);
+        let all = ended(child);
         drop(open);
-        assert!(written.starts_with("Usage: narrate < NOTICES > SENTENCES\n"), "{argument}: {written}");
-        for word in ["Opening depot 5", "Opening yard 5", "Linking 3 and 5", "was refused with 7", "follow", "1,000,000 lines"] {
-            assert!(written.contains(word), "{word}");
-        }
-        assert_eq!(said, "");
+        all
+    };
+    let (status, written, said) = with(&["--help"]);
+    assert_eq!((status, said.as_str()), (0, ""));
+    assert!(written.starts_with("Usage: narrate < NOTICES > SENTENCES\n"), "{written}");
+    for word in ["Opening depot 5", "Opening yard 5", "Linking 3 and 5", "was refused with 7", "follow", "1,000,000 lines", "status"] {
+        assert!(written.contains(word), "{word}");
     }
+    for arguments in [&["-h"][..], &[""], &["notices.txt"], &["--help", "--help"], &["--help", ""], &["", "--help"], &["--hel"], &["--helpx"], &["-"], &["--"]] {
+        let (status, written, said) = with(arguments);
+        assert_eq!((status, written.as_str()), (2, ""), "{arguments:?}");
+        assert!(said.starts_with("Usage: narrate < NOTICES > SENTENCES") && said.matches('\n').count() == 1 && said.ends_with('\n'), "{said}");
+    }
+}
+
+/// A usage that cannot be written is a write that failed.
+#[test]
+fn usage_to_a_full_device() {
+    let full = File::options().write(true).open("/dev/full").expect("the device opens");
+    let child = Command::new(program("narrate")).arg("--help").stdout(full).stderr(Stdio::piped()).spawn().expect("the program starts");
+    assert_eq!(failed(child).1, "narrate: standard output: No space left on device\n");
 }

@@ -10,7 +10,7 @@ use plain::stream::LINES;
 use plain::summary::Mean;
 use plain::survey::{output, FILES};
 use plain::Network;
-use process::{assert_same, program, repository, written_and_said};
+use process::{assert_same, ended, failed, program, repository, written_and_said};
 use std::env;
 use std::ffi::OsStr;
 use std::fs::{self, File};
@@ -140,6 +140,13 @@ impl Folder {
     fn run<N: AsRef<OsStr>>(&self, names: &[N]) -> (String, String) {
         written_and_said(self.start(names))
     }
+
+    /// Something goes wrong: its status is 1, and each line that it says is of one of the names.
+    fn fails<N: AsRef<OsStr>>(&self, names: &[N]) -> (String, String) {
+        let (status, written, said) = ended(self.start(names));
+        assert_eq!(status, 1);
+        (written, said)
+    }
 }
 
 impl Drop for Folder {
@@ -240,7 +247,8 @@ fn the_same_file_twice() {
     assert_eq!(folder.run(&["pair.txt", "pair.txt"]), ("1 1 1 0\n1 1 1 0\n2 2 1 0\n".into(), "".into()));
 }
 
-/// Past the first 1,000 nothing is reported or added; nor is it opened, or it would be said that it is not there.
+/// Past the first 1,000 nothing is reported or added; nor is it opened, or it would be said that it is not there. How many these are is said, and the status
+/// is that of the others.
 #[test]
 fn files_past_the_most() {
     let folder = Folder::with_two();
@@ -251,10 +259,16 @@ fn files_past_the_most() {
     let whole = lines(FILES - 1) + "4 3 1 1\n1003 1002 1 1\n";
     assert_same(output(&[vec![PAIR; FILES - 1], vec![PATH, PATH]].concat()).as_bytes(), &whole);
     assert_eq!(folder.run(&names), (whole.clone(), "".into()));
-    for more in ["path.txt", "missing.txt", ""] {
+    for (more, count) in [("path.txt", "1 file"), ("missing.txt", "2 files"), ("", "3 files")] {
         names.push(more);
-        assert_eq!(folder.run(&names), (whole.clone(), "".into()));
+        let (written, said) = folder.run(&names);
+        assert_same(written.as_bytes(), &whole);
+        assert!(said.starts_with("survey: ") && said.contains(count) && said.matches('\n').count() == 1 && said.ends_with('\n'), "{said}");
     }
+    // what goes wrong among the first is said besides, and is the status
+    names[0] = "missing.txt";
+    let (written, said) = folder.fails(&names);
+    assert!(written.starts_with("R15\n1 1 1 0\n") && said.contains("missing.txt: No such file") && said.contains("3 files") && said.lines().count() == 2);
 }
 
 /// The greatest sums: 1,000 of the longest path, each 2,796,160 over 32,640 pairs, of which 21,760 are left over 85 times the pairs.
@@ -340,17 +354,36 @@ fn growths_of_256_depots() {
 
 // ---- names
 
-/// Every argument names a file, whatever it begins with.
+/// Every argument names a file, whatever it begins with, but for `--help` alone: so a file of that name is `./--help`.
 #[test]
 fn names_that_look_like_options() {
     let folder = Folder::new();
     let names = ["--help", "-h", "--", "-"];
     let lines: String = names.iter().map(|name| format!("survey: {name}: No such file or directory\n")).collect();
-    assert_eq!(folder.run(&names), ("R15\n".repeat(4) + "0 0 0 0\n", lines));
+    assert_eq!(folder.fails(&names), ("R15\n".repeat(4) + "0 0 0 0\n", lines));
     for name in names {
         folder.put(name, PATH);
     }
     assert_eq!(folder.run(&names), ("4 3 1 1\n".repeat(4) + "16 12 1 4\n", "".into()));
+    for name in ["-h", "--", "-", "./--help"] {
+        assert_eq!(folder.run(&[name]), ("4 3 1 1\n4 3 1 1\n".into(), "".into()));
+    }
+    assert_eq!(folder.run(&["--help", "--help"]), ("4 3 1 1\n4 3 1 1\n8 6 1 2\n".into(), "".into()));
+}
+
+#[test]
+fn usage() {
+    let folder = Folder::with_two();
+    folder.put("--help", PATH);
+    let (written, said) = folder.run(&["--help"]);
+    assert!(written.starts_with("Usage: survey "), "{written}");
+    for word in ["R15", "1,000 files", "./--help", "status"] {
+        assert!(written.contains(word), "{word}");
+    }
+    assert_eq!(said, "");
+    let full = File::options().write(true).open("/dev/full").expect("the device opens");
+    let child = folder.command(&["--help"]).stdout(full).spawn().expect("the program starts");
+    assert_eq!(failed(child).1, "survey: standard output: No space left on device\n");
 }
 
 #[test]
@@ -359,7 +392,7 @@ fn a_name_that_is_no_text() {
     let name = OsStr::from_bytes(b"a\xFF \n\xC3");
     folder.put(name, PAIR);
     let output = folder.start(&[name]).wait_with_output().expect("it ends");
-    assert_eq!((output.status.code(), output.stdout.as_slice()), (Some(0), b"R15\n0 0 0 0\n".as_slice()));
+    assert_eq!((output.status.code(), output.stdout.as_slice()), (Some(1), b"R15\n0 0 0 0\n".as_slice()));
     assert_eq!(output.stderr, b"survey: a\xFF \n\xC3: Invalid or incomplete multibyte or wide character\n");
 }
 
@@ -370,7 +403,7 @@ fn long_names() {
     let name = |size: usize| format!(".{}pair.txt", "/".repeat(size - 9));
     assert_eq!(folder.run(&[name(4_095)]), ("1 1 1 0\n1 1 1 0\n".into(), "".into()));
     for long in [name(4_096), name(4_097), name(100_000), "x".repeat(256)] {
-        let (written, said) = folder.run(&["path.txt", &long, "pair.txt"]);
+        let (written, said) = folder.fails(&["path.txt", &long, "pair.txt"]);
         assert_eq!(written, "4 3 1 1\nR15\n1 1 1 0\n5 4 1 1\n");
         assert!(said.starts_with("survey: ") && said.ends_with(": File name too long\n") && said.lines().count() == 1, "{said}");
     }
@@ -382,7 +415,7 @@ fn long_names() {
 fn is_refused(folder: &Folder, name: &str, words: &str) {
     assert_eq!(output(&[PATH, "", PAIR]), "4 3 1 1\nR15\n1 1 1 0\n5 4 1 1\n");
     assert_eq!(
-        folder.run(&["path.txt", name, "pair.txt"]),
+        folder.fails(&["path.txt", name, "pair.txt"]),
         ("4 3 1 1\nR15\n1 1 1 0\n5 4 1 1\n".into(), format!("survey: {name}: {words}\n"))
     );
 }
@@ -435,14 +468,14 @@ fn a_read_that_fails_midway() {
     compile.args(["--crate-type", "cdylib", "-C", "panic=abort", "-o"]).arg(&library).arg(source);
     assert!(compile.status().expect("rustc starts").success());
     let child = folder.command(&["longer.txt", "pair.txt"]).env("LD_PRELOAD", &library).spawn().expect("the program starts");
-    assert_eq!(written_and_said(child), ("4 3 1 1\n1 1 1 0\n5 4 1 1\n".into(), "survey: longer.txt: Input/output error\n".into()));
+    assert_eq!(failed(child), ("4 3 1 1\n1 1 1 0\n5 4 1 1\n".into(), "survey: longer.txt: Input/output error\n".into()));
 }
 
 /// The run ends at the first line that cannot be written: that the second file is not there is not said.
 fn ends_at_the_output(stdout: Stdio, words: &str) {
     let folder = Folder::with_two();
     let child = folder.command(&["pair.txt", "missing.txt"]).stdout(stdout).spawn().expect("the program starts");
-    assert_eq!(written_and_said(child).1, format!("survey: standard output: {words}\n"));
+    assert_eq!(failed(child).1, format!("survey: standard output: {words}\n"));
 }
 
 #[test]
@@ -451,7 +484,7 @@ fn a_full_device() {
     ends_at_the_output(full().into(), "No space left on device");
     let folder = Folder::new();
     let child = folder.command::<&str>(&[]).stdout(full()).spawn().expect("the program starts");
-    assert_eq!(written_and_said(child).1, "survey: standard output: No space left on device\n");
+    assert_eq!(failed(child).1, "survey: standard output: No space left on device\n");
 }
 
 #[test]
@@ -465,7 +498,7 @@ fn a_closed_output() {
     let folder = Folder::with_two();
     let mut command = Command::new("sh");
     command.args(["-c", "exec \"$0\" pair.txt missing.txt >&-"]).arg(program("survey")).current_dir(&folder.0).stderr(Stdio::piped());
-    assert_eq!(written_and_said(command.spawn().expect("the shell starts")).1, "survey: standard output: Bad file descriptor\n");
+    assert_eq!(failed(command.spawn().expect("the shell starts")).1, "survey: standard output: Bad file descriptor\n");
     assert_eq!(fs::read_to_string(folder.0.join("pair.txt")).expect("it is there"), PAIR);
 }
 
@@ -531,5 +564,5 @@ fn a_closed_pipe() {
     drop(child.stdout.take());
     feed(fifo, drop);
     let output = child.wait_with_output().expect("it ends");
-    assert_eq!((output.status.code(), output.stderr.as_slice()), (Some(0), b"survey: standard output: Broken pipe\n".as_slice()));
+    assert_eq!((output.status.code(), output.stderr.as_slice()), (Some(1), b"survey: standard output: Broken pipe\n".as_slice()));
 }

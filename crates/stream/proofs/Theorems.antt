@@ -102,6 +102,12 @@ module _ (M : Manner) where
       ∙ t.rest rest
       ∙ whole_rest (used_told M s ts ++ rest)
 
+  -- what the turns write is a first part of the whole output, whatever follows
+  pub first_told : (s : Standing) → HasBegun s → (ts : List Turn) (rest : List ℕ) → (more : List ℕ) × (written_told M s ts ++ more ≡ told_in M (used_told M s ts ++ rest))
+  first_told s is ts rest =
+      let t = turned s is ts in
+      (rest_from M t.place rest, t.rest rest ∙ whole_rest (used_told M s ts ++ rest))
+
   -- nor followed
   pub unfollowed_told : (s : Standing) → HasBegun s → (ts : List Turn) (rest : List ℕ) → lines_limit ≤ (stands_told M s ts).progress.lines
       → network_in (used_told M s ts) ≡ network_in (used_told M s ts ++ rest)
@@ -187,3 +193,26 @@ begun_ready links₀ pairs₀ {p} {links} {B} {line} e l q h b s x y room = reco
   room = room;
   held = subst (λ (z : Begun). z.0.held ≤ line_limit) (sym e) zero-le;
 }
+
+pub begun_stands : (links₀ pairs₀ : List ℕ) {p : Progress} {links : List ℕ} {B : Lent} {line : List ℕ} → ◌≡◌ {A = Begun} (p, links, B.pairs) (begin_call links₀ pairs₀)
+    → table_words base ≤ length links → table_words base ≤ length B.pairs → places base ≤ length B.searched.hops → places base ≤ length B.bounds
+    → places base ≤ length B.skips → base.words ≤ length B.searched.even → base.words ≤ length B.searched.odd → line_limit ≤ length line
+    → HasBegun (record { progress = p; links = links; lent = B; line = line })
+begun_stands links₀ pairs₀ {p} {links} {B} {line} e l q h b s x y room = record {
+  links = links₀;
+  pairs = pairs₀;
+  begun = e;
+  long = long_by links B l q h b s x y;
+  room = room;
+}
+
+-- and ready
+pub stands_ready : (s : Standing) → HasBegun s → IsReady s.progress s.links s.lent s.line
+unfolding begin_call at_start
+stands_ready s is =
+    let a = begun_on s is in
+    record {
+      free = says_free empty_network (empty_held base base_shape) s.progress.rec s.links s.lent a.is_said a.long;
+      room = is.room;
+      held = subst (λ (z : Begun). z.0.held ≤ line_limit) (sym is.begun) zero-le;
+    }

@@ -4,5 +4,5 @@ pub mod Lines
 pub mod Theorems
 -- A run of three files, computed.
 pub mod Examples
--- What a run writes is its text.
-pub mod Written
+-- The report of a map is that of its network; the part of a buffer that is written.
+pub mod Summed

@@ -1,6 +1,6 @@
 -- A line has room in 84 bytes, no file has greater numbers than its totals allow, and nothing behind the first 1,000 files is read.
 -- Assumes nothing.
-use mathlib.Core.Path.{◌≡◌, refl, sym, ap, subst}
+use mathlib.Core.Path.{◌≡◌, refl, sym, ap, ◌∙◌, subst}
 use mathlib.Core.List.{List, ◌++◌}
 use Prim.Native.Nat.{ℕ, zero, suc, ◌+◌, ◌-◌, ◌*◌, ◌^◌, ◌≤◌, ◌<◌}
 use native.Mathlib.Nat.{mul-le-mul, le_refl}
@@ -91,6 +91,11 @@ answered_number : (r : Result Summary Refusal) (x : Result Summary ℕ) {P : Ref
 answered_number (Ok s) x h is = h
 answered_number (Err k) (Err n) h is = ap Err (is k n h)
 answered_number (Err k) (Ok s) h is = absurd h
+
+pub answered_is : (rec : Record) (links : List ℕ) (B : Tables) (counts : List ℕ) (r : Result Summary Refusal) (x : Result Summary ℕ) {B' : Tables} {counts' : List ℕ}
+    {P : Refusal → ℕ → Type 0} → leaves (answer_of r) (B', counts') ≡ summary_call base rec links B counts
+    → MatchResult r (λ s. x ≡ Ok s) (λ k. IsErrAnd x (P k)) → ((k : Refusal) (n : ℕ) → P k n → n ≡ number_of k) → x ≡ (summary_call base rec links B counts).answer
+answered_is rec links B counts r x e h is = answered_number r x h is ∙ ap (λ (l : Left Summary (Tables × List ℕ)). l.answer) e
 
 pub answered_as : (rec : Record) (links : List ℕ) (B : Tables) (counts : List ℕ) (r : Result Summary Refusal) (x : Result Summary ℕ) {B' : Tables} {counts' : List ℕ}
     {P : Refusal → ℕ → Type 0} → leaves (answer_of r) (B', counts') ≡ summary_call base rec links B counts

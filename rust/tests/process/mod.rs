@@ -29,10 +29,23 @@ pub fn assert_same(got: &[u8], expected: &str) {
     panic!("{} bytes and {} lines of output, expected {} and {}", got.len(), got.lines().count(), expected.len(), expected.lines().count());
 }
 
-/// What a process writes till it ends, and what it says; it has no other status.
-pub fn written_and_said(child: Child) -> (String, String) {
+/// A process to its end: its exit status, what it writes, and what it says on standard error.
+pub fn ended(child: Child) -> (i32, String, String) {
     let output = child.wait_with_output().expect("it ends");
-    assert_eq!(output.status.code(), Some(0));
     let text = |bytes| String::from_utf8(bytes).expect("it is text");
-    (text(output.stdout), text(output.stderr))
+    (output.status.code().expect("no signal ends it"), text(output.stdout), text(output.stderr))
+}
+
+/// What a process that goes well writes, and what it says: its status is 0.
+pub fn written_and_said(child: Child) -> (String, String) {
+    let (status, written, said) = ended(child);
+    assert_eq!((status, said.as_str()), (0, said.as_str()));
+    (written, said)
+}
+
+/// A process with which something goes wrong: its status is 1, and it says so in one line.
+pub fn failed(child: Child) -> (String, String) {
+    let (status, written, said) = ended(child);
+    assert_eq!((status, said.matches('\n').count(), said.ends_with('\n')), (1, 1, true), "{said}");
+    (written, said)
 }
