@@ -19,7 +19,9 @@ use Rattle.search.specs.SearchCall.{search_sizes, search_refusal, search_call}
 use Rattle.reckon.specs.ReckonCall.{Reckoned, ReckonLeft, reckon_left, reckon_refusal, figured_by, reckon_given, reckon_call}
 use Rattle.reckon.proofs.Reckons.{granted_tests}
 use Rattle.c_values.specs.Words.{record_words, record_of, words_of, clamped_of}
-use Rattle.c_maps.specs.Outs.{empty_from, empty_out, search_from, search_out, reckon_from, reckon_out}
+use Rattle.c_maps.specs.Outs.{empty_from, empty_out, search_out, reckon_from, reckon_out}
+use Rattle.c_values.specs.Outs.{handed}
+use Rattle.c_values.proofs.Outs.{on_called}
 use Rattle.c_values.proofs.Clamps.{network_in, links_clamp, links_first_clamp, number_fits}
 use Rattle.lent_map.specs.Faults.{lent_faults, lent_refusal}
 
@@ -50,9 +52,6 @@ module _ (l links pairs : List ℕ) where
 -- ---- the search
 
 module _ (l links : List ℕ) (B : Tables) (old : ℕ × ℕ) (code : ℕ) where
-  abbrev found : Left Reach Tables → ℕ × (ℕ × ℕ) × Tables
-  found x = search_from x.answer old x.lent
-
   -- a number that is too large is spoilt, as the largest one is; the figures do not matter
   search_clamp : search_call base (clamped_of l) links B code ≡ search_call base (record_of l) links B code
   unfolding search_call search_refusal clamped_of record_of
@@ -62,16 +61,13 @@ module _ (l links : List ℕ) (B : Tables) (old : ℕ × ℕ) (code : ℕ) where
       ((not ((network_in l links).is_open code), 4) ∷ [])))
       refl
 
-  search_whole : record_words ≤ length l → found (search_call base (record_of l) links B code) ≡ search_out l links B old code
-  unfolding search_out
-  search_whole h = rw (le-ltb (length l) record_words h)
-
   pub search_called : record_words ≤ length l → {rec : Record} → rec ≡ clamped_of l → {got : Result Reach ℕ} {B' B'' : Tables}
-      → leaves got B' ≡ search_call base rec links B code → B'' ≡ B' → search_from got old B'' ≡ search_out l links B old code
-  search_called h read {got} e q =
-      ap (λ (T : Tables). search_from got old T) q
-      ∙ ap found (e ∙ ap (λ (x : Record). search_call base x links B code) read ∙ search_clamp)
-      ∙ search_whole h
+      → leaves got B' ≡ search_call base rec links B code → B'' ≡ B'
+      → handed (λ (r : Reach). (r.ecc, r.depth)) old got B'' ≡ search_out l links B old code
+  unfolding search_out
+  search_called h read e q =
+      let gives = λ (x : Left Reach Tables). handed (λ (r : Reach). (r.ecc, r.depth)) old x.answer x.lent in
+      on_called l (λ (r : Reach). (r.ecc, r.depth)) old B (λ r. search_call base r links B code) h read (ap gives search_clamp) e q
 
 -- ---- the whole reckoning
 

@@ -18,15 +18,14 @@ use Rattle.nearby.specs.declared.NearestDepot.{NearestDepot}
 use Rattle.nearby.specs.WithinCall.{within_refusal, within_call}
 use Rattle.nearby.specs.NearestCall.{nearest_refusal, nearest_call}
 use Rattle.c_values.specs.Words.{record_words, record_of, clamped_of}
+use Rattle.c_values.specs.Outs.{handed}
+use Rattle.c_values.proofs.Outs.{on_called}
 use Rattle.c_values.proofs.Clamps.{network_in, links_first_clamp}
-use Rattle.c_maps.specs.Nears.{within_from, within_out, closest_from, nearest_out}
+use Rattle.c_maps.specs.Nears.{within_out, nearest_out}
 
 -- ---- the depots within k handovers
 
 module _ (l links : List ℕ) (B : Tables) (codes : List ℕ) (old code k : ℕ) where
-  abbrev listing_out : Left ℕ (Tables × List ℕ) → ℕ × ℕ × (Tables × List ℕ)
-  listing_out x = within_from x.answer old x.lent
-
   -- a number that is too large is spoilt, as the largest one is; the figures do not matter
   within_clamp_out : within_call base (clamped_of l) links B codes code k ≡ within_call base (record_of l) links B codes code k
   unfolding within_call within_refusal clamped_of record_of
@@ -37,24 +36,19 @@ module _ (l links : List ℕ) (B : Tables) (codes : List ℕ) (old code k : ℕ)
       ((not ((network_in l links).is_open code), 4) ∷ [])))
       refl
 
-  within_whole_out : record_words ≤ length l → listing_out (within_call base (record_of l) links B codes code k) ≡ within_out l links B codes old code k
-  unfolding within_out
-  within_whole_out h = rw (le-ltb (length l) record_words h)
-
   -- whatever the call that it wraps answered
   pub within_called : record_words ≤ length l → {rec : Record} → rec ≡ clamped_of l → {got : Result ℕ ℕ} {B' B'' : Tables} {codes' : List ℕ}
-      → leaves got (B', codes') ≡ within_call base rec links B codes code k → B'' ≡ B' → within_from got old (B'', codes') ≡ within_out l links B codes old code k
-  within_called h read {got} {codes' = codes'} e q =
-      ap (λ (T : Tables). within_from got old (T, codes')) q
-      ∙ ap listing_out (e ∙ ap (λ (x : Record). within_call base x links B codes code k) read ∙ within_clamp_out)
-      ∙ within_whole_out h
+      → leaves got (B', codes') ≡ within_call base rec links B codes code k → B'' ≡ B'
+      → handed (λ n. n) old got (B'', codes') ≡ within_out l links B codes old code k
+  unfolding within_out
+  within_called h read {codes' = codes'} e q =
+      let gives = λ (x : Left ℕ (Tables × List ℕ)). handed (λ n. n) old x.answer x.lent in
+      on_called l (λ n. n) old (B, codes) (λ r. within_call base r links B codes code k) h read (ap gives within_clamp_out) e
+      (ap (λ (T : Tables). (T, codes')) q)
 
 -- ---- the nearest depot of a list
 
 module _ (l links : List ℕ) (B : Tables) (old : ℕ × ℕ) (code : ℕ) (listed : List ℕ) where
-  abbrev choice_out : Left NearestDepot Tables → ℕ × (ℕ × ℕ) × Tables
-  choice_out x = closest_from x.answer old x.lent
-
   nearest_clamp_out : nearest_call base (clamped_of l) links B code listed ≡ nearest_call base (record_of l) links B code listed
   unfolding nearest_call nearest_refusal clamped_of record_of
   nearest_clamp_out =
@@ -63,14 +57,10 @@ module _ (l links : List ℕ) (B : Tables) (old : ℕ × ℕ) (code : ℕ) (list
       ((not ((network_in l links).is_open code), 4) ∷ (not (anyb (network_in l links).is_open listed), 10) ∷ [])))
       refl
 
-  nearest_whole_out : record_words ≤ length l → choice_out (nearest_call base (record_of l) links B code listed) ≡ nearest_out l links B old code listed
-  unfolding nearest_out
-  nearest_whole_out h = rw (le-ltb (length l) record_words h)
-
   pub nearest_called : record_words ≤ length l → {rec : Record} → rec ≡ clamped_of l → {got : Result NearestDepot ℕ} {B' B'' : Tables}
       → leaves got B' ≡ nearest_call base rec links B code listed → B'' ≡ B'
-      → closest_from got old B'' ≡ nearest_out l links B old code listed
-  nearest_called h read {got} e q =
-      ap (λ (T : Tables). closest_from got old T) q
-      ∙ ap choice_out (e ∙ ap (λ (x : Record). nearest_call base x links B code listed) read ∙ nearest_clamp_out)
-      ∙ nearest_whole_out h
+      → handed (λ (n : NearestDepot). (n.code, n.distance)) old got B'' ≡ nearest_out l links B old code listed
+  unfolding nearest_out
+  nearest_called h read e q =
+      let gives = λ (x : Left NearestDepot Tables). handed (λ (n : NearestDepot). (n.code, n.distance)) old x.answer x.lent in
+      on_called l (λ (n : NearestDepot). (n.code, n.distance)) old B (λ r. nearest_call base r links B code listed) h read (ap gives nearest_clamp_out) e q

@@ -19,12 +19,14 @@ use Rattle.outcome.proofs.Answers.{unless_same}
 use Rattle.summary.specs.declared.Summary.{Summary}
 use Rattle.summary.specs.SummaryCall.{summary_refusal, summary_call}
 use Rattle.c_values.specs.Words.{record_words, record_of, clamped_of}
+use Rattle.c_values.specs.Outs.{handed}
+use Rattle.c_values.proofs.Outs.{on_called}
 use Rattle.c_values.proofs.Clamps.{network_in, links_first_clamp}
-use Rattle.c_maps.specs.Summaries.{SummaryOut, summary_from, summary_out}
+use Rattle.c_maps.specs.Summaries.{summary_out}
 
 module _ (l links : List ℕ) (B : Tables) (counts : List ℕ) (old : ℕ × ℕ × ℕ × ℕ) where
-  abbrev report_out : Left Summary (Tables × List ℕ) → SummaryOut
-  report_out x = summary_from x.answer old x.lent
+  abbrev numbers : Summary → ℕ × ℕ × ℕ × ℕ
+  numbers s = (s.sum, s.pairs, s.quotient, s.remainder)
 
   -- a number that is too large is spoilt, as the largest one is; the figures do not matter
   summary_clamp_out : summary_call base (clamped_of l) links B counts ≡ summary_call base (record_of l) links B counts
@@ -36,14 +38,12 @@ module _ (l links : List ℕ) (B : Tables) (counts : List ℕ) (old : ℕ × ℕ
       ((ltb (countb (delivers (network_in l links)) (vertices (network_in l links))) 2, 15) ∷ [])))
       refl
 
-  summary_whole_out : record_words ≤ length l → report_out (summary_call base (record_of l) links B counts) ≡ summary_out l links B counts old
-  unfolding summary_out
-  summary_whole_out h = rw (le-ltb (length l) record_words h)
-
   -- whatever the call that it wraps answered
   pub summary_called : record_words ≤ length l → {rec : Record} → rec ≡ clamped_of l → {got : Result Summary ℕ} {B' B'' : Tables} {counts' : List ℕ}
-      → leaves got (B', counts') ≡ summary_call base rec links B counts → B'' ≡ B' → summary_from got old (B'', counts') ≡ summary_out l links B counts old
-  summary_called h read {got} {counts' = counts'} e q =
-      ap (λ (T : Tables). summary_from got old (T, counts')) q
-      ∙ ap report_out (e ∙ ap (λ (x : Record). summary_call base x links B counts) read ∙ summary_clamp_out)
-      ∙ summary_whole_out h
+      → leaves got (B', counts') ≡ summary_call base rec links B counts → B'' ≡ B'
+      → handed numbers old got (B'', counts') ≡ summary_out l links B counts old
+  unfolding summary_out
+  summary_called h read {counts' = counts'} e q =
+      let gives = λ (x : Left Summary (Tables × List ℕ)). handed numbers old x.answer x.lent in
+      on_called l numbers old (B, counts) (λ r. summary_call base r links B counts) h read (ap gives summary_clamp_out) e
+      (ap (λ (T : Tables). (T, counts')) q)

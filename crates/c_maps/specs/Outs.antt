@@ -1,7 +1,7 @@
 -- EMPTYING, THE SEARCH AND THE WHOLE RECKONING for other languages. Each is the call that it wraps,
 -- on the record in the lent words: the answer's number, the lent values, and the rest of what is
 -- lent. A refused one changes nothing. Assumes nothing.
-use Rattle.std.specs.Prelude.{List, ℕ, nat_lt, if◌then◌else◌, length, Result, Ok, Err}
+use Rattle.std.specs.Prelude.{List, ℕ, nat_lt, if◌then◌else◌, length}
 use Rattle.lists.specs.Lists.{overwrite}
 use Rattle.map.specs.Room.{Tables, Lent}
 use Rattle.map.specs.Memory.{base}
@@ -11,6 +11,7 @@ use Rattle.search.specs.SearchCall.{search_call}
 use Rattle.reckon.specs.ReckonCall.{Reckoning, Searches, Refused as NoReckoning, ReckonLeft, reckon_call}
 use Rattle.outcome.specs.Numbers.{short_buffer}
 use Rattle.c_values.specs.Words.{record_words, record_of, words_of}
+use Rattle.c_values.specs.Outs.{on_words}
 
 -- ---- emptying: the record's words (the new record over the first eleven), and both tables
 
@@ -26,15 +27,10 @@ empty_out words links pairs =
 
 -- ---- the search: the eccentricity and the distance of the last layer, and its tables
 
-unfoldable pub search_from : Result Reach ℕ → ℕ × ℕ → Tables → ℕ × (ℕ × ℕ) × Tables
-search_from (Ok r) old B = (0, (r.ecc, r.depth), B)
-search_from (Err k) old B = (k, old, B)
-
 unfoldable pub search_out : List ℕ → List ℕ → Tables → ℕ × ℕ → ℕ → ℕ × (ℕ × ℕ) × Tables
 search_out words links B old code =
-    let x = search_call base (record_of words) links B code in
-    if nat_lt (length words) record_words then (short_buffer, old, B)
-    else search_from x.answer old x.lent
+    on_words words (λ (r : Reach). (r.ecc, r.depth)) old B
+    (λ rec. search_call base rec links B code)
 
 -- ---- the whole reckoning: the record's words and the searches, and the map's tables
 

@@ -8,3 +8,5 @@ pub mod Refusals
 pub mod Theorems
 -- Lent tables one by one.
 pub mod Lent
+-- A call on words that hold a record leaves what the call that it wraps leaves.
+pub mod Outs

@@ -4,3 +4,5 @@ pub mod Words
 pub mod Outcomes
 -- 3. the refusal of a stream's step
 pub mod Refusal
+-- 4. what a call on the record in the lent words leaves
+pub mod Outs

@@ -1,17 +1,17 @@
 -- `c_maps::near::zorpedi_nearest` meets its contract: short, done or refused, as the call that it wraps.
 use borrow.Author.Rules.{rules}
 use Rattle.rounds.proofs.Turns.{same_tables}
-use Rattle.c_maps.specs.Nears.{closest_from}
+use Rattle.c_values.specs.Outs.{handed}
 use Rattle.c_maps.proofs.Nears.{nearest_called}
 use Rattle.c_maps.proofs.near.zorpedi_nearest.Goals as goal
 
 pub returns-in-Ok : goal.returns-in-Ok
-unfolding closest_from
+unfolding handed
 returns-in-Ok c =
     nearest_called _ _ _ _ _ _ c.if-words-lt-RECORD_WORDS.false c.record_of-rec.ensures c.in-Ok.ensures.left (search (rules, same_tables))
 
 pub returns-in-Err : goal.returns-in-Err
-unfolding closest_from
+unfolding handed
 returns-in-Err c =
     rw c.number-in-Err.ensures (nearest_called _ _ _ _ _ _ c.if-words-lt-RECORD_WORDS.false
     c.record_of-rec.ensures c.in-Err.ensures.left (search (rules, same_tables)))

@@ -1,17 +1,17 @@
 -- `c_maps::near::zorpedi_within` meets its contract: short, done or refused, as the call that it wraps.
 use borrow.Author.Rules.{rules}
 use Rattle.rounds.proofs.Turns.{same_tables}
-use Rattle.c_maps.specs.Nears.{within_from}
+use Rattle.c_values.specs.Outs.{handed}
 use Rattle.c_maps.proofs.Nears.{within_called}
 use Rattle.c_maps.proofs.near.zorpedi_within.Goals as goal
 
 pub returns-in-Ok : goal.returns-in-Ok
-unfolding within_from
+unfolding handed
 returns-in-Ok c =
     within_called _ _ _ _ _ _ _ c.if-words-lt-RECORD_WORDS.false c.record_of-rec.ensures c.in-Ok.ensures.left (search (rules, same_tables))
 
 pub returns-in-Err : goal.returns-in-Err
-unfolding within_from
+unfolding handed
 returns-in-Err c =
     rw c.number-in-Err.ensures (within_called _ _ _ _ _ _ _ c.if-words-lt-RECORD_WORDS.false
     c.record_of-rec.ensures c.in-Err.ensures.left (search (rules, same_tables)))

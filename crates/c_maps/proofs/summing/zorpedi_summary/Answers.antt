@@ -1,16 +1,16 @@
 -- `c_maps::summing::zorpedi_summary` meets its contract: short, done or refused, as the call that it wraps.
 use borrow.Author.Rules.{rules}
 use Rattle.rounds.proofs.Turns.{same_tables}
-use Rattle.c_maps.specs.Summaries.{summary_from}
+use Rattle.c_values.specs.Outs.{handed}
 use Rattle.c_maps.proofs.Summaries.{summary_called}
 use Rattle.c_maps.proofs.summing.zorpedi_summary.Goals as goal
 
 pub returns-in-Ok : goal.returns-in-Ok
-unfolding summary_from
+unfolding handed
 returns-in-Ok c = summary_called _ _ _ _ _ c.if-words-lt-RECORD_WORDS.false c.record_of-rec.ensures c.in-Ok.ensures.left (search (rules, same_tables))
 
 pub returns-in-Err : goal.returns-in-Err
-unfolding summary_from
+unfolding handed
 returns-in-Err c =
     rw c.number-in-Err.ensures (summary_called _ _ _ _ _ c.if-words-lt-RECORD_WORDS.false
     c.record_of-rec.ensures c.in-Err.ensures.left (search (rules, same_tables)))
