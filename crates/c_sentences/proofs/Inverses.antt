@@ -10,11 +10,12 @@ use Rattle.outcome.specs.Outcome.{letter_of}
 use Rattle.outcome.specs.declared.Change.TheVariants.{Grew, Kept, Shrank}
 use Rattle.outcome.specs.declared.Outcome.{Outcome}
 use Rattle.outcome.specs.declared.Outcome.TheVariants.{Accepted, Refused}
+use Rattle.sentences.specs.Sentence.{said}
 use Rattle.sentences.specs.declared.Event.{Event}
 use Rattle.sentences.specs.declared.Event.TheVariants.{Depot, Yard, Link, Closing}
 use Rattle.sentences.specs.declared.Said.{Said}
 use Rattle.c_sentences.specs.declared.Numbers.{Numbers}
-use Rattle.c_sentences.specs.Numbers.{event_numbers, outcome_numbers, numbers_of, event_of, outcome_of, said_by, said_of}
+use Rattle.c_sentences.specs.Numbers.{event_numbers, outcome_numbers, numbers_of, event_of, outcome_of, said_of}
 
 -- ---- the numbers of what is said say it
 
@@ -88,7 +89,7 @@ said_case n =
     go (event_of n.event) (event_case n.event.0 n.event.1 n.event.2) (outcome_of n.outcome) (outcome_case n.outcome.0 n.outcome.1)
   where
     go : (e : Option Event) → IsFor event_numbers n.event e → (o : Option Outcome) → IsFor outcome_numbers n.outcome o
-        → IsFor numbers_of n (option_and_then (λ x. option_map (said_by n.figures x) o) e)
+        → IsFor numbers_of n (option_and_then (λ x. option_map (λ y. said x y n.figures) o) e)
     go None h o k = tt
     go (Some x) h None k = tt
     go (Some x) h (Some y) k = ap₂ (λ (a : ℕ × ℕ × ℕ) (b : ℕ × ℕ). record n { event = a; outcome = b }) h k

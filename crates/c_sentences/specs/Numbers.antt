@@ -5,7 +5,7 @@ use Rattle.outcome.specs.Outcome.{letter_of}
 use Rattle.outcome.specs.declared.Change.TheVariants.{Grew, Kept, Shrank}
 use Rattle.outcome.specs.declared.Outcome.{Outcome}
 use Rattle.outcome.specs.declared.Outcome.TheVariants.{Accepted, Refused}
-use Rattle.sentences.specs.Sentence.{byte_limit, half_limit, word_limit}
+use Rattle.sentences.specs.Sentence.{said, byte_limit, half_limit, word_limit}
 use Rattle.sentences.specs.declared.Event.{Event}
 use Rattle.sentences.specs.declared.Event.TheVariants.{Depot, Yard, Link, Closing}
 use Rattle.sentences.specs.declared.Said.{Said}
@@ -54,15 +54,10 @@ outcome_of (letter, refusal) =
     else if letter == 83 then Some (Accepted Shrank)
     else None
 
--- what is said by an event, an outcome and figures
-abbrev pub said_by : ℕ × ℕ × ℕ × ℕ → Event → Outcome → Said
-said_by f e o =
-    record { event = e; outcome = o; depots = f.0; chain = f.1; pairs = f.2; searches = f.3 }
-
 -- the numbers are those of something said, or of nothing
 unfoldable pub said_of : Numbers → Option Said
 said_of n =
-    option_and_then (λ e. option_map (said_by n.figures e) (outcome_of n.outcome))
+    option_and_then (λ e. option_map (λ o. said e o n.figures) (outcome_of n.outcome))
     (event_of n.event)
 
 -- ---- widths

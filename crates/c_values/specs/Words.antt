@@ -1,5 +1,5 @@
--- THE RECORD AS ELEVEN LENT WORDS: the open set (four words), the number open, the longest chain, the pair count, and the yard set (four words).
--- Assumes nothing.
+-- THE RECORD AS ELEVEN LENT WORDS: the open set (four words), the number open, the longest chain,
+-- the pair count, and the yard set (four words). Assumes nothing.
 use Rattle.std.specs.Prelude.{List, ◌∷◌, ◌++◌, ℕ, ◌+◌, ◌*◌, min, get_or, take, drop}
 use Rattle.map.specs.Memory.{base}
 use Rattle.map.specs.declared.Record.{Record}
@@ -28,7 +28,8 @@ most16 = 65535
 abbrev pub most32 : ℕ
 most32 = 4294967295
 
--- The record at the widths of its fields. `map_clamp` and `clamped_is` (proofs/Clamps) say that no call can tell the difference.
+-- The record at the widths of its fields. `map_clamp` and `clamped_is` (proofs/Clamps) say that no
+-- call can tell the difference.
 unfoldable pub clamped_of : List ℕ → Record
 clamped_of words = record {
   members = take base.words words;

@@ -5,7 +5,8 @@ use Rattle.std.specs.Prelude.{List, [], ◌∷◌, ◌++◌, ℕ, zero, suc, ◌
 abbrev pub numeral : ℕ → ℕ
 numeral d = 48 + d
 
--- the digits of n, none for 0: those of n / 10, and the last one. k only bounds their number, so that the definition ends
+-- the digits of n, none for 0: those of n / 10, and the last one. k only bounds their number, so
+-- that the definition ends
 unfoldable pub spell : ℕ → ℕ → List ℕ
 spell zero n = []
 spell (suc k) zero = []

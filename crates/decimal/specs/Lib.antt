@@ -4,5 +4,6 @@ pub mod Decimal
 pub mod Placed
 -- What a reader finds at the front of a text.
 pub mod Front
--- The number at the front of a text. `decimal_reads` and `decimal_written` (proofs/Strips) settle it by `decimal` alone.
+-- The number at the front of a text. `decimal_reads` and `decimal_written` (proofs/Strips) settle
+-- it by `decimal` alone.
 pub mod Strip

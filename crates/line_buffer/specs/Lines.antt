@@ -1,4 +1,5 @@
--- THE LINES OF A STREAM in lent memory: the line buffer, the answer behind what is written, and where a step stops. Assumes nothing.
+-- THE LINES OF A STREAM in lent memory: the line buffer, the answer behind what is written, and
+-- where a step stops. Assumes nothing.
 use Rattle.std.specs.Prelude.{◌≡◌, ◌*◌, ◌≤◌, length, Bool, true, false, cond, ◌||◌, List, [], ◌∷◌, ◌++◌, ℕ, ◌+◌, eqb, ltb, leb, take, drop, set}
 use Rattle.lists.specs.Lists.{overwrite}
 use Rattle.notice.specs.Lines.{line_limit, line_end, frame, read_line}
@@ -60,6 +61,7 @@ pasted text at old = take at old ++ overwrite text (drop at old)
 
 -- ---- the stop
 
--- no further line may be begun: a text for which so many bytes have to be free may not fit, or the stream has had its lines
+-- no further line may be begun: a text for which so many bytes have to be free may not fit, or the
+-- stream has had its lines
 unfoldable pub is_stopped : ℕ → ℕ → ℕ → ℕ → Bool
 is_stopped needed lines written room = ltb room (written + needed) || leb lines_limit lines

@@ -1,4 +1,5 @@
--- The manner in which outcomes are told as sentences, and the whole output of an input that is told so.
+-- The manner in which outcomes are told as sentences, and the whole output of an input that is told
+-- so.
 pub mod Narration
--- The answers of an input before they are told, and that both manners tell the same.
+-- What is proved: both manners tell the same answers.
 pub mod Answers

@@ -24,7 +24,8 @@ abbrev pub ◌or◌ : {A : Type 0} → Reader A → Reader A → Reader A
 
 -- what is left behind a text that has to stand there
 unfoldable pub behind : List ℕ → List ℕ → Option (List ℕ)
-behind wanted text = if bytes_eq (take (length wanted) text) wanted then Some (drop (length wanted) text) else None
+behind wanted text =
+    if bytes_eq (take (length wanted) text) wanted then Some (drop (length wanted) text) else None
 
 -- a text that has to stand there, of which nothing is told
 abbrev pub literal : List ℕ → Reader Unit

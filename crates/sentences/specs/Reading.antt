@@ -6,7 +6,7 @@ use Rattle.outcome.specs.declared.Outcome.TheVariants.{Accepted, Refused}
 use Rattle.outcome.specs.declared.Refusal.{Refusal}
 use Rattle.outcome.specs.declared.Refusal.TheVariants.{Garbled}
 use Rattle.decimal.specs.Front.{Front}
-use Rattle.sentences.specs.Sentence.{sentence_of, byte_limit, half_limit, word_limit, IsWithin}
+use Rattle.sentences.specs.Sentence.{said, sentence_of, byte_limit, half_limit, word_limit, IsWithin}
 use Rattle.sentences.specs.Readers.{Reader, ◌>>=◌, ◌or◌, give, literal, part}
 use Rattle.sentences.specs.declared.Event.{Event}
 use Rattle.sentences.specs.declared.Event.TheVariants.{Depot, Yard, Link, Closing}
@@ -45,7 +45,7 @@ read_said = do
   pairs ← part (ascii ", pairs ") word_limit
   searches ← part (ascii ", searches ") half_limit
   _ ← literal (ascii ".")
-  give (record { event = event; outcome = outcome; depots = depots; chain = chain; pairs = pairs; searches = searches })
+  give (said event outcome (depots, chain, pairs, searches))
 
 -- nothing may stand behind it
 abbrev pub heard : Front Said → Result Said Refusal

@@ -23,6 +23,11 @@ middle_of (Accepted Kept) = ascii " kept the chain"
 middle_of (Accepted Shrank) = ascii " shrank the chain"
 middle_of (Refused n) = ascii " was refused with " ++ decimal n
 
+-- what is said of an event and its outcome, with depots, chain, pair count and searches
+abbrev pub said : Event → Outcome → ℕ × ℕ × ℕ × ℕ → Said
+said e o f =
+    record { event = e; outcome = o; depots = f.0; chain = f.1; pairs = f.2; searches = f.3 }
+
 -- depots open, chain, pair count and searches of the call
 unfoldable pub figures_of : Said → List ℕ
 figures_of s =

@@ -18,8 +18,7 @@ use Rattle.notice.proofs.Tests.{frame_parts}
 use Rattle.notice.proofs.Theorems.{read_is_frame}
 use Rattle.notice.specs.Calls.{line_found}
 use Rattle.update.specs.UpdateCall.{IsWithin}
-use Rattle.transcript.specs.Transcript.{update_in}
-use Rattle.transcript.specs.Manner.{frame_in}
+use Rattle.transcript.specs.Transcript.{update_in, frame_in}
 
 -- ---- a frame, by its kind
 

@@ -15,8 +15,8 @@ use Rattle.map.specs.declared.Record.{Record}
 use Rattle.notice.specs.Lines.{line_limit, line_end, Line, garbled, frame, read_line}
 use Rattle.update.specs.Steps.{map_refusal}
 use Rattle.update.proofs.Keeps.{map_kept}
-use Rattle.transcript.specs.Transcript.{update_in}
-use Rattle.transcript.specs.Manner.{Manner, frame_in}
+use Rattle.transcript.specs.Transcript.{update_in, frame_in}
+use Rattle.transcript.specs.Manner.{Manner}
 use Rattle.line_buffer.specs.Lines.{Holding, holding, hold_byte, PartLeft, part_from}
 use Rattle.line_buffer.proofs.Stops.{going}
 use Rattle.line_buffer.proofs.Holding.{part_most}

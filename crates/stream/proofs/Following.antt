@@ -28,8 +28,7 @@ use Rattle.update.proofs.Openings.{given_searches, opened-moved, opened_writes, 
 use Rattle.update.proofs.Refuses.{refused_never}
 use Rattle.update.proofs.Keeps.{sizes_kept}
 use Rattle.update.proofs.Empties.{empty_held, empty_memory_lem}
-use Rattle.transcript.specs.Transcript.{update_in, Followed, searches_by, follow_by, follow_line, report_on}
-use Rattle.transcript.specs.Manner.{frame_in}
+use Rattle.transcript.specs.Transcript.{update_in, Followed, searches_by, follow_by, follow_line, report_on, frame_in}
 use Rattle.line_buffer.specs.Lines.{report_of}
 use Rattle.stream.specs.Feeding.{answer_to}
 use Rattle.stream.proofs.Answers.{read-within}

@@ -16,8 +16,9 @@ use Rattle.map.specs.Memory.{base}
 use Rattle.map.specs.Room.{sizes_of, long_enough}
 use Rattle.notice.specs.Lines.{line_end, read_line, lines_of}
 use Rattle.update.proofs.Memories.{IsHeld, Says}
-use Rattle.transcript.specs.Transcript.{lines_limit, follow_line, report_on, network_after}
-use Rattle.transcript.specs.Manner.{Manner, frame_in, told_from}
+use Rattle.transcript.specs.Transcript.{lines_limit, follow_line, report_on, network_after, frame_in, answers_from}
+use Rattle.transcript.specs.Manner.{Manner}
+use Rattle.transcript.proofs.Manners.{told_from}
 use Rattle.line_buffer.specs.Lines.{holding, pasted}
 use Rattle.stream.specs.Feeding.{Feeding, stopped, took_line, held_byte, take_byte, feed_bytes}
 use Rattle.line_buffer.proofs.Stops.{going}
@@ -130,7 +131,7 @@ module _ (M : Manner) where
   pub rest_line : (a : Place) (l : List ℕ) (ls : List (List ℕ)) → a.lines < lines_limit
       → told_from M a.lines a.network (take (lines_limit - a.lines) (l ∷ ls))
       ≡ M.text (frame_in (read_line l)) (report_on (a.lines + 1) (follow_line a.network (read_line l))) ++ told_from M (a.lines + 1) (follow_line a.network (read_line l)).network (take (lines_limit - (a.lines + 1)) ls)
-  unfolding told_from
+  unfolding answers_from
   rest_line a l ls h =
       let e : lines_limit - a.lines ≡ suc (lines_limit - (a.lines + 1)) = omega arith in
       ap (λ (k : ℕ). told_from M a.lines a.network (take k (l ∷ ls))) e

@@ -16,7 +16,7 @@ use Rattle.notice.specs.Lines.{line_limit}
 use Rattle.report.specs.Line.{buffer_limit}
 use Rattle.update.proofs.Memories.{IsHeld, Says}
 use Rattle.update.proofs.Empties.{empty_held}
-use Rattle.transcript.specs.Transcript.{lines_limit, transcript, network_in}
+use Rattle.transcript.specs.Transcript.{lines_limit, answers_in, transcript, network_in}
 use Rattle.transcript.specs.Manner.{Manner, as_reports, told_in}
 use Rattle.transcript.proofs.Manners.{told_transcript}
 use Rattle.stream.specs.Feeding.{Begun, begin_call, IsReady, Feeding, stopped, feed_bytes}
@@ -63,7 +63,7 @@ pub record IsMapOf (G : Network) (s : Standing) : Type 0 where
 
 module _ (M : Manner) where
   whole_rest : (input : List ℕ) → rest_from M at_start input ≡ told_in M input
-  unfolding at_start rest_from told_in
+  unfolding at_start rest_from told_in answers_in
   whole_rest input = refl
 
   turned : (s : Standing) → HasBegun s → (ts : List Turn) → Turned M at_start s ts

@@ -13,8 +13,9 @@ use borrow.Author.Tests.{eq-eqb, ne_eqb, leb-true}
 use Rattle.std.proofs.lemmas.Bool.{cases_Bool, or_left}
 use Rattle.graph.specs.Network.{Network}
 use Rattle.notice.specs.Lines.{Line, read_line, lines_of}
-use Rattle.transcript.specs.Transcript.{lines_limit, follow_line, network_after}
-use Rattle.transcript.specs.Manner.{Manner, told_from}
+use Rattle.transcript.specs.Transcript.{lines_limit, follow_line, network_after, answers_from}
+use Rattle.transcript.specs.Manner.{Manner}
+use Rattle.transcript.proofs.Manners.{told_from}
 use Rattle.stream.specs.Feeding.{Feeding, feeding, fed_of, stopped, took_line, feed_bytes, feed_call, finish_call}
 use Rattle.stream.specs.Pieces.{Standing, Turn, turn_told, standing_after, stands_told, used_told, written_told, last_told}
 use Rattle.line_buffer.proofs.Stops.{going, stopped_lines}
@@ -119,15 +120,15 @@ module _ (M : Manner) where
 
   -- the rest of a stream that has had its lines, and of one with nothing begun, is nothing
   pub rest_over : (a : Place) (r : List ℕ) → lines_limit ≤ a.lines → rest_from M a r ≡ []
-  unfolding rest_from told_from
+  unfolding rest_from answers_from
   rest_over a r l = let e : lines_limit - a.lines ≡ 0 = omega arith in ap (λ (k : ℕ). told_from M a.lines a.network (take k (lines_of (a.begun ++ r)))) e
 
   rest_none : (n : ℕ) (G : Network) → rest_from M (record { lines = n; network = G; begun = [] }) [] ≡ []
-  unfolding rest_from told_from lines_of
+  unfolding rest_from answers_from lines_of
   rest_none n G = ap (told_from M n G) (take-nil (lines_limit - n))
 
   none_after : (n : ℕ) (G : Network) (k : ℕ) → told_from M n G (take k []) ≡ []
-  unfolding told_from
+  unfolding answers_from
   none_after n G k = ap (told_from M n G) (take-nil k)
 
   -- a last stretch is a line

@@ -1,5 +1,5 @@
--- THE STEP OF THE STREAM on lent memory: the answer and every byte, for a piece of the input. The code's contracts are equations with `feed_call`
--- and `finish_call`. Assumes nothing.
+-- THE STEP OF THE STREAM on lent memory: the answer and every byte, for a piece of the input. The
+-- code's contracts are equations with `feed_call` and `finish_call`. Assumes nothing.
 use Rattle.std.specs.Prelude.{◌≡◌, Bool, cond, ◌||◌, List, [], ◌∷◌, ℕ, ◌+◌, ◌≤◌, eqb, length, take, Option, Some, None}
 use Rattle.lists.specs.Lists.{overwrite}
 use Rattle.map.specs.Memory.{base, table_words}
@@ -10,8 +10,8 @@ use Rattle.outcome.specs.Numbers.{garbled_line}
 use Rattle.update.specs.UpdateCall.{UpdateLeft, left_of, update_call}
 use Rattle.update.specs.Steps.{map_refusal, refused_with}
 use Rattle.notice.specs.Lines.{line_limit, line_end, read_line}
-use Rattle.transcript.specs.Transcript.{update_in}
-use Rattle.transcript.specs.Manner.{Manner, frame_in}
+use Rattle.transcript.specs.Transcript.{update_in, frame_in}
+use Rattle.transcript.specs.Manner.{Manner}
 use Rattle.line_buffer.specs.Lines.{holding, hold_byte, report_of, pasted, is_stopped}
 use Rattle.stream.specs.declared.Progress.{Progress}
 use Rattle.stream.specs.declared.Fed.{Fed}
@@ -31,7 +31,8 @@ begin_call links pairs =
     let emptied = overwrite (zeros (table_words base)) in
     (progress_of (empty_record base.words) 0 0, emptied links, emptied pairs)
 
--- what the step asks of lent memory and leaves: nothing refuses the map; the line buffer has room for a line, of which at most that is held
+-- what the step asks of lent memory and leaves: nothing refuses the map; the line buffer has room
+-- for a line, of which at most that is held
 pub record IsReady (p : Progress) (links : List ℕ) (B : Lent) (line : List ℕ) : Type 0 where
   pub free : map_refusal base p.rec links B.pairs (sizes_of links B) ≡ 0
   pub room : line_limit ≤ length line
@@ -41,7 +42,9 @@ pub record IsReady (p : Progress) (links : List ℕ) (B : Lent) (line : List ℕ
 
 -- the reader's refusal of a line that spells no frame, or the call that its frame asks for
 unfoldable pub answer_to : Option (List ℕ) → Record → List ℕ → Lent → UpdateLeft
-answer_to None rec links B = let x = refused_with garbled_line rec in left_of x.report x.after links B
+answer_to None rec links B =
+    let x = refused_with garbled_line rec in
+    left_of x.report x.after links B
 answer_to (Some f) rec links B = update_call base rec links B (update_in f)
 
 -- ---- the step, for a manner of telling the answers of lines
@@ -71,14 +74,16 @@ took_line M F =
     let x = answer_to read p.rec F.links F.lent in
     let n = p.lines + 1 in
     let text = M.text read (report_of n (record { report = x.report; after = x.after })) in
-    feeding (fed_of (progress_of x.after n 0) F.fed.used (F.fed.written + length text)) x.links x.lent F.line (pasted text F.fed.written F.out)
+    let fed = fed_of (progress_of x.after n 0) F.fed.used (F.fed.written + length text) in
+    feeding fed x.links x.lent F.line (pasted text F.fed.written F.out)
 
 -- a byte is held
 unfoldable pub held_byte : ℕ → Feeding → Feeding
 held_byte b F =
     let p = F.fed.progress in
     let h = hold_byte b (holding F.line p.held) in
-    feeding (fed_of (progress_of p.rec p.lines h.held) (F.fed.used + 1) F.fed.written) F.links F.lent h.line F.out
+    let fed = fed_of (progress_of p.rec p.lines h.held) (F.fed.used + 1) F.fed.written in
+    feeding fed F.links F.lent h.line F.out
 
 unfoldable pub take_byte : Manner → ℕ → Feeding → Feeding
 take_byte M b F = cond (eqb b line_end) (took_line M (held_byte b F)) (held_byte b F)

@@ -1,5 +1,6 @@
--- WHAT IS PROVED OF THE STREAM: however the input is cut into pieces, and whatever buffers are lent for the answers, the output is that of the whole
--- input, told in the stream's manner: for a stream of reports, the transcript. The theorems are `pieces_told` and `rest_untold`, and for reports
+-- WHAT IS PROVED OF THE STREAM: however the input is cut into pieces, and whatever buffers are lent
+-- for the answers, the output is that of the whole input, told in the stream's manner: for a stream
+-- of reports, the transcript. The theorems are `pieces_told` and `rest_untold`, and for reports
 -- `pieces_alike`, `rest_unread`, `turn_uses` and `turn_all` (proofs/Theorems). Assumes nothing.
 use Rattle.std.specs.Prelude.{◌≡◌, true, List, [], ◌∷◌, ◌++◌, ℕ, ◌≤◌, length, take}
 use Rattle.map.specs.Memory.{base}
@@ -10,7 +11,8 @@ use Rattle.transcript.specs.Manner.{Manner, as_reports, told_in}
 use Rattle.stream.specs.Feeding.{Begun, begin_call, Feeding, feed_call, finish_call}
 use Rattle.stream.specs.declared.Progress.{Progress}
 
--- where a stream stands between two calls: progress, link table, the other tables of its map, line buffer
+-- where a stream stands between two calls: progress, link table, the other tables of its map, line
+-- buffer
 pub record Standing : Type 0 where
   pub progress : Progress
   pub links : List ℕ
@@ -23,7 +25,8 @@ pub record Turn : Type 0 where
   pub out : List ℕ
 
 unfoldable pub standing_after : Feeding → Standing
-standing_after F = record { progress = F.fed.progress; links = F.links; lent = F.lent; line = F.line }
+standing_after F =
+    record { progress = F.fed.progress; links = F.links; lent = F.lent; line = F.line }
 
 -- ---- told in any manner
 
@@ -37,15 +40,21 @@ stands_told M s (t ∷ ts) = stands_told M (standing_after (turn_told M s t)) ts
 
 unfoldable pub used_told : Manner → Standing → List Turn → List ℕ
 used_told M s [] = []
-used_told M s (t ∷ ts) = let F = turn_told M s t in take F.fed.used t.piece ++ used_told M (standing_after F) ts
+used_told M s (t ∷ ts) =
+    let F = turn_told M s t in
+    take F.fed.used t.piece ++ used_told M (standing_after F) ts
 
 unfoldable pub written_told : Manner → Standing → List Turn → List ℕ
 written_told M s [] = []
-written_told M s (t ∷ ts) = let F = turn_told M s t in take F.fed.written F.out ++ written_told M (standing_after F) ts
+written_told M s (t ∷ ts) =
+    let F = turn_told M s t in
+    take F.fed.written F.out ++ written_told M (standing_after F) ts
 
 -- what the end of the input adds
 unfoldable pub last_told : Manner → Standing → List ℕ → List ℕ
-last_told M s out = let F = finish_call M s.progress s.links s.lent s.line out in take F.fed.written F.out
+last_told M s out =
+    let F = finish_call M s.progress s.links s.lent s.line out in
+    take F.fed.written F.out
 
 -- ---- the beginning
 
@@ -60,8 +69,8 @@ pub record HasBegun (s : Standing) : Type 0 where
 -- ---- what is proved
 
 -- However the input is cut, and whatever buffers are lent for the answers, what is written is the
--- whole output of the bytes used; behind the last line of a stream nothing is read. Told as reports,
--- the output is the transcript.
+-- whole output of the bytes used; behind the last line of a stream nothing is read. Told as
+-- reports, the output is the transcript.
 pub record PiecesAlike : Type 0 where
   pub told : (M : Manner) (s : Standing) → HasBegun s → (ts : List Turn) (out : List ℕ)
       → M.room ≤ length out

@@ -11,8 +11,7 @@ ghost use Rattle.notice.specs.Lines.{read_line};
 ghost use Rattle.notice.specs.Calls.{line_found};
 ghost use Rattle.update.specs.UpdateCall.{left_of, update_call};
 ghost use Rattle.update.specs.Steps.{map_refusal};
-ghost use Rattle.transcript.specs.Transcript.{lines_limit, update_in};
-ghost use Rattle.transcript.specs.Manner.{frame_in};
+ghost use Rattle.transcript.specs.Transcript.{lines_limit, update_in, frame_in};
 ghost use Rattle.stream.specs.Feeding.{begin_call, answer_to, IsReady, feeding, took_line, feed_call, finish_call};
 
 use admission::Link;

@@ -1,7 +1,7 @@
--- THE TRANSCRIPT: what a whole input of the stream gives as whole output (section 10 of the rules), over bytes and networks. No word and no table is
--- in it.
+-- THE TRANSCRIPT: what a whole input of the stream gives as whole output (section 10 of the rules),
+-- over bytes and networks. No word and no table is in it.
 -- Assumes nothing.
-use Rattle.std.specs.Prelude.{cond, List, [], ◌∷◌, ◌++◌, ℕ, zero, suc, ◌+◌, eqb, length, get_or, take, drop}
+use Rattle.std.specs.Prelude.{cond, List, [], ◌∷◌, ◌++◌, ℕ, zero, suc, ◌+◌, eqb, length, get_or, take, drop, flat_map, Option, Some, None}
 use Rattle.lists.specs.Lists.{first_of}
 use Rattle.graph.specs.Network.{Network}
 use Rattle.graph.specs.Distance.{vertices}
@@ -22,13 +22,15 @@ lines_limit = 1000000
 
 -- ---- a line's answer
 
--- the update that a frame asks for, by its kind: the opening of a depot that delivers or of a yard, by its code and, behind their number, its
--- neighbours; or the link of two codes
+-- the update that a frame asks for, by its kind: the opening of a depot that delivers or of a yard,
+-- by its code and, behind their number, its neighbours; or the link of two codes
 unfoldable pub update_in : List ℕ → Update
 unfolding opens_depot
 update_in f =
     let kind = get_or f 0 0 in
-    cond (opens_depot kind) (opens (notice_of (eqb kind yard_kind) (get_or f 1 0) (drop 3 f))) (joins (get_or f 1 0) (get_or f 2 0))
+    cond (opens_depot kind)
+    (opens (notice_of (eqb kind yard_kind) (get_or f 1 0) (drop 3 f)))
+    (joins (get_or f 1 0) (get_or f 2 0))
 
 -- what a line gives: its outcome, the network after it, and the searches of its call
 pub record Followed : Type 0 where
@@ -36,7 +38,8 @@ pub record Followed : Type 0 where
   pub network : Network
   pub searches : ℕ
 
--- the searches of an update that is not refused are those of its steps, on the true figures of the network before it
+-- the searches of an update that is not refused are those of its steps, on the true figures of the
+-- network before it
 unfoldable pub searches_by : ℕ → Network → Network → Update → ℕ
 unfolding chart diameter farthest steps
 searches_by zero G H o = length (steps (chart H) o (diameter G) (farthest G)).final.references
@@ -45,9 +48,12 @@ searches_by (suc k) G H o = 0
 -- an update whose refusal is k, 0 for none: the plain list's answer
 unfoldable pub follow_by : ℕ → Network → Update → Followed
 unfolding plain_next plain_answer searches_by
-follow_by k G o = let H = plain_next k G o in record { outcome = plain_answer k G H; network = H; searches = searches_by k G H o }
+follow_by k G o =
+    let H = plain_next k G o in
+    record { outcome = plain_answer k G H; network = H; searches = searches_by k G H o }
 
--- a line as the reader takes it: to the reader a blank line, an overlong one and a last stretch without 0A are garbled (rule 10.3)
+-- a line as the reader takes it: to the reader a blank line, an overlong one and a last stretch
+-- without 0A are garbled (rule 10.3)
 unfoldable pub follow_line : Network → Line → Followed
 unfolding update_in follow_by first_of update_faults
 follow_line G garbled = record { outcome = Refused garbled_line; network = G; searches = 0 }
@@ -69,16 +75,34 @@ report_on n x =
       searches = x.searches;
     }
 
--- the reports of the lines behind the first n, on the map of the network G
-unfoldable pub reports_from : ℕ → Network → List (List ℕ) → List ℕ
-unfolding follow_line read_line report_line report_on
-reports_from n G [] = []
-reports_from n G (l ∷ ls) = let x = follow_line G (read_line l) in report_line (report_on (n + 1) x) ++ reports_from (n + 1) x.network ls
+-- the answer of a line: the frame that it spells, if any, and what its report has
+pub record Answer : Type 0 where
+  pub read : Option (List ℕ)
+  pub report : ReportFields
 
--- the whole output of an input, from an empty map
+-- the frame that a line spells
+abbrev pub frame_in : Line → Option (List ℕ)
+frame_in garbled = None
+frame_in (frame f used) = Some f
+
+-- those of the lines behind the first n, on the map of the network G
+unfoldable pub answers_from : ℕ → Network → List (List ℕ) → List Answer
+unfolding follow_line read_line report_on
+answers_from n G [] = []
+answers_from n G (l ∷ ls) =
+    let x = follow_line G (read_line l) in
+    record { read = frame_in (read_line l); report = report_on (n + 1) x }
+    ∷ answers_from (n + 1) x.network ls
+
+-- and of an input, from an empty map
+unfoldable pub answers_in : List ℕ → List Answer
+unfolding answers_from empty_network lines_of
+answers_in input = answers_from 0 empty_network (take lines_limit (lines_of input))
+
+-- the whole output of an input: the report of each answer
 unfoldable pub transcript : List ℕ → List ℕ
-unfolding reports_from empty_network lines_of
-transcript input = reports_from 0 empty_network (take lines_limit (lines_of input))
+unfolding answers_in report_line
+transcript input = flat_map (λ a. report_line a.report) (answers_in input)
 
 -- ---- the network after
 
