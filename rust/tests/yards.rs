@@ -4,12 +4,12 @@ mod plain;
 
 use inputs::lines::some_input;
 use inputs::Dice;
-use plain::lines::{frame_of, is_frame};
-use plain::network::{are_sound_figures, depth, layer, Pairs};
+use plain::lines::{frame_of, notice_of};
+use plain::network::{are_sound_figures, Pairs};
 use plain::opening::{reckoning, Opened, Status, Work};
 use plain::stream::{answer, output};
 use plain::summary::Mean;
-use plain::{survey, Figures, Map, Network};
+use plain::{survey, Figures, Map, Network, TODAY};
 use std::collections::BTreeSet;
 
 /// The network of these links and of the depots that they name, of which these are yards.
@@ -30,12 +30,12 @@ fn path(size: usize, yards: &[usize]) -> Network {
 
 /// A map of this network, with true figures.
 fn map_of(network: Network) -> Map {
-    Map { figures: network.figures(), network }
+    Map::true_of(network)
 }
 
 /// The same network with other figures.
 fn stored(network: Network, chain: usize, pairs: &[(usize, usize)]) -> Map {
-    Map { network, figures: Figures { chain, pairs: pairs.iter().copied().collect() } }
+    Map::of(Figures { chain, pairs: pairs.iter().copied().collect() }, network)
 }
 
 /// Chain, pairs and references, in their order.
@@ -145,8 +145,8 @@ fn a_last_layer_of_yards_alone() {
     {
         let network = path(size, yards);
         let distances = network.distances(from);
-        assert_eq!((network.eccentricity(&distances), depth(&distances)), (eccentricity, deep), "from {from} of {size}, yards {yards:?}");
-        assert_eq!(layer(&distances, deep), BTreeSet::from([if from == 3 { 0 } else { size - 1 }]));
+        assert_eq!((network.eccentricity(&distances), distances.depth()), (eccentricity, deep), "from {from} of {size}, yards {yards:?}");
+        assert_eq!(distances.layer(deep), BTreeSet::from([if from == 3 { 0 } else { size - 1 }]));
     }
 }
 
@@ -158,7 +158,7 @@ fn one_depot_among_yards() {
     let work = reckoning(&network);
     assert_eq!(found(&work), (0, vec![], vec![0, 1, 2, 3]));
     assert_eq!(marks(&work), (vec![256; 4], vec![1, 2, 0, 2]));
-    assert_eq!(depth(&network.distances(2)), 2);
+    assert_eq!(network.distances(2).depth(), 2);
     assert_eq!(network.summary(), None);
 }
 
@@ -169,7 +169,7 @@ fn yards_alone() {
     let work = reckoning(&network);
     assert_eq!(found(&work), (0, vec![], vec![1, 0, 2]));
     assert_eq!(marks(&work), (vec![256; 3], vec![0, 0, 0]));
-    assert_eq!(depth(&network.distances(0)), 2);
+    assert_eq!(network.distances(0).depth(), 2);
     assert_eq!(network.summary(), None);
 }
 
@@ -261,7 +261,7 @@ fn what_is_sound() {
     closed.yards.insert(0);
     assert!(!closed.is_sound(0) && !closed.is_sound(1));
     for (pair, is_sound) in [((0, 2), true), ((0, 1), false), ((1, 2), false), ((2, 0), false)] {
-        assert_eq!(are_sound_figures(&path(3, &[1]), &Pairs::from([pair]), 2, 1), is_sound, "{pair:?}");
+        assert_eq!(are_sound_figures(TODAY, &path(3, &[1]), &Pairs::from([pair]), 2, 1), is_sound, "{pair:?}");
     }
 }
 
@@ -300,11 +300,12 @@ fn near_yards() {
 /// Kind 04 is laid out as kind 01, and kind 03 is none.
 #[test]
 fn frames_of_yards() {
-    assert_eq!(frame_of(b"040503000204\n"), Some((vec![4, 5, 3, 0, 2, 4], 13)));
-    assert_eq!(frame_of(b"04FF00\n0"), Some((vec![4, 255, 0], 7)));
+    assert_eq!(frame_of(TODAY, b"040503000204\n"), Some((vec![4, 5, 3, 0, 2, 4], 13)));
+    assert_eq!(frame_of(TODAY, b"04FF00\n0"), Some((vec![4, 255, 0], 7)));
     for garbled in ["04\n", "0405\n", "040501\n", "04050000\n", "0405020001", "030500\n", "050500\n", "400500\n"] {
-        assert_eq!(frame_of(garbled.as_bytes()), None, "{garbled}");
+        assert_eq!(frame_of(TODAY, garbled.as_bytes()), None, "{garbled}");
     }
+    let is_frame = |frame: &[u8]| notice_of(TODAY, frame).is_some();
     assert!(is_frame(&[4, 0, 0]) && is_frame(&[4, 0, 1, 0]) && !is_frame(&[4, 0, 1]) && !is_frame(&[3, 0, 0]));
 }
 
@@ -339,7 +340,7 @@ fn assert_true(map: &Map, before: usize, opened: &Opened) {
     }
     let searched: Vec<_> = opened.work.references.iter().map(|&r| map.network.distances(r)).collect();
     for v in map.network.delivering().filter(|v| !opened.work.references.contains(v)) {
-        let cover = |from: &plain::network::Distances| map.network.eccentricity(from) + from[v].expect("a walk leads") < map.figures.chain;
+        let cover = |from: &plain::network::Distances| map.network.eccentricity(from) + from.of(v) < map.figures.chain;
         assert!(searched.iter().any(cover), "depot {v}");
     }
 }
@@ -365,15 +366,15 @@ impl Letters {
 /// Opens depot i as a depot and as a yard beside every set of the earlier ones, links every two that are not linked, and goes on from each opening.
 fn grow(map: &Map, i: usize, size: usize, letters: &mut Letters) {
     for neighbours in usize::from(i > 0)..1 << i {
-        let beside: Vec<u8> = (0..i).filter(|v| neighbours >> v & 1 == 1).map(|v| v as u8).collect();
+        let beside: Vec<usize> = (0..i).filter(|v| neighbours >> v & 1 == 1).collect();
         for is_yard in [false, true] {
             let mut next = map.clone();
-            let opened = if is_yard { next.open_yard(i as u8, &beside) } else { next.open(i as u8, &beside) };
+            let opened = if is_yard { next.open_yard(i, &beside) } else { next.open(i, &beside) };
             let opened = opened.unwrap_or_else(|refusal| panic!("refused with {refusal}"));
             letters.count(&opened);
             assert_true(&next, map.figures.chain, &opened);
             assert!(!is_yard || opened.letter != b'G');
-            for (u, v) in (0..=i as u8).flat_map(|u| (0..u).map(move |v| (u, v))) {
+            for (u, v) in (0..=i).flat_map(|u| (0..u).map(move |v| (u, v))) {
                 let mut linked = next.clone();
                 if let Ok(link) = linked.link(u, v) {
                     letters.count(&link);

@@ -7,8 +7,8 @@ use crate::inputs::lines::{longest_line, notice_line, opening_line, yard_line};
 use crate::inputs::{Dice, Growth, SHAPES};
 use crate::lent::{Lent, SIZES};
 use crate::maps::{any_figures, any_memory, damage, true_map, DAMAGES};
-use crate::plain::lines::frame_of;
-use crate::plain::Map;
+use crate::plain::lines::notice_of_line;
+use crate::plain::{Figures, Map, TODAY};
 use crate::tally::Tally;
 use std::collections::BTreeSet;
 
@@ -226,10 +226,10 @@ fn the_largest_set_of_any_order() {
         assert_eq!(open_batch(&mut m, &lines.concat()), 0);
         let reached = network(&m).open;
         for order in orders(5) {
-            let mut map = Map { figures: network_before.figures(), network: network_before.clone() };
+            let mut map = Map::true_of(network_before.clone());
             for i in order {
-                let (frame, _) = frame_of(&lines[i]).expect("a notice");
-                let _ = map.open_frame(&frame);
+                let notice = notice_of_line(TODAY, &lines[i]).expect("a notice");
+                let _ = map.take(&notice);
             }
             assert!(map.network.open.is_subset(&reached));
             smaller += usize::from(map.network.open.len() < reached.len());
@@ -418,8 +418,8 @@ fn some_batch(dice: &mut Dice, open: &BTreeSet<usize>) -> Vec<u8> {
 /// How many lines a batch opens if each line is looked at once only.
 fn opened_by_one_pass(map: &Map, lines: &[u8]) -> usize {
     let mut map = map.clone();
-    let frames = lines.split_inclusive(|&b| b == 0x0A).filter_map(frame_of);
-    frames.filter(|(frame, _)| map.open_frame(frame).is_ok()).count()
+    let notices = lines.split_inclusive(|&b| b == 0x0A).filter_map(|line| notice_of_line(TODAY, line));
+    notices.filter(|notice| map.take(notice).is_ok()).count()
 }
 
 /// A few batches one after the other, each on what the one before left; true figures stay true.
@@ -434,7 +434,7 @@ fn run_batches(dice: &mut Dice, m: &mut Lent, are_true: bool, tally: &mut Tally)
             continue;
         }
         let opened = network(m).open.len() - before.open.len();
-        let start = Map { figures: Default::default(), network: before };
+        let start = Map::of(Figures::default(), before);
         against += usize::from(opened > opened_by_one_pass(&start, &lines));
         if are_true {
             let mut again = m.clone();
@@ -467,7 +467,7 @@ fn on_false_but_sound_figures() {
         let size = some_size(&mut dice).min(if seed % 10 == 0 { 256 } else { 40 });
         let grown = Growth::some(&mut dice, shape).network(&mut dice, size);
         let mut m = any_memory(&mut dice);
-        store_map(&mut m, &Map { figures: any_figures(&mut dice, &grown), network: grown });
+        store_map(&mut m, &Map::of(any_figures(&mut dice, &grown), grown));
         against += run_batches(&mut dice, &mut m, false, &mut tally);
     }
     tally.assert_only(&[0, 9, 11, 12]);

@@ -149,7 +149,7 @@ fn openings_on_false_but_sound_figures() {
         let size = some_size(&mut dice).min(if seed % 10 == 0 { 256 } else { 40 });
         let grown = Growth::some(&mut dice, shape).network(&mut dice, size);
         let mut m = any_memory(&mut dice);
-        store_map(&mut m, &Map { figures: any_figures(&mut dice, &grown), network: grown });
+        store_map(&mut m, &Map::of(any_figures(&mut dice, &grown), grown));
         // what it leaves is sound again, so the next opening goes on from it
         for _ in 0..3 {
             let open_set = network(&m).open;

@@ -1,84 +1,112 @@
 //! What each C function has to do to the memory that it is lent, by the plain implementation. Each function answers the number that the C function
 //! has to answer.
 use crate::lent::{Buffer, Lent};
-use crate::plain::lines::{frame_of, is_frame, line_of, report_of, Fields};
-use crate::plain::network::{are_sound_figures, depth, layer, Distances};
-use crate::plain::opening::{reckoning, Opened, Status, Work};
+use crate::plain::lines::{frame_of, line_of, notice_of, report_of, Fields};
+use crate::plain::memory::{Marks, Memory, Searched};
+use crate::plain::network::{Distances, Pairs};
+use crate::plain::opening::{reckoning, Opened, Work};
 use crate::plain::summary::Mean;
-use crate::plain::words::{bits_of_table, row_of_codes, table_of_bits};
-use crate::plain::{stream, Figures, Map, Network};
+use crate::plain::{stream, words, Figures, Map, Network, TODAY};
 
-pub const CLOSED: u16 = 65_535;
-pub const SEARCHED: u16 = 256;
-pub const OTHER: u16 = 257;
+pub use crate::plain::memory::CLOSED;
 
-/// The words of the record, and the first of the yard set, which is the last four of them.
-pub const RECORD: usize = 11;
-pub const YARDS: usize = 7;
+pub const SEARCHED: u16 = TODAY.searched;
+pub const OTHER: u16 = TODAY.other;
+
+/// The greatest number of depots, and the words of a row and of a table.
+pub const PLACES: usize = TODAY.places;
+pub const WORDS: usize = TODAY.words();
+pub const TABLE: usize = TODAY.table();
+
+/// The words of the record: open set, number open, chain, pair count, yard set.
+pub const RECORD: usize = TODAY.record();
+pub const NUMBER: usize = WORDS;
+pub const CHAIN: usize = WORDS + 1;
+pub const COUNT: usize = WORDS + 2;
+pub const YARDS: usize = WORDS + 3;
 
 // ---- what stands in the memory
 
+/// The bits of a table, as (row, place).
+pub fn bits_of_table(table: &[u64]) -> Pairs {
+    words::bits_of_table(WORDS, table)
+}
+
+fn memory(m: &Lent) -> Memory {
+    let record = &m.record.data;
+    Memory {
+        shape: TODAY,
+        open: record[..WORDS].to_vec(),
+        number: record[NUMBER],
+        chain: record[CHAIN],
+        count: record[COUNT],
+        yards: record[YARDS..RECORD].to_vec(),
+        codes: Vec::new(),
+        links: m.links.data[..TABLE].to_vec(),
+        pairs: m.pairs.data[..TABLE].to_vec(),
+    }
+}
+
+/// The network that stands in the memory, sound or not.
 pub fn network(m: &Lent) -> Network {
-    Network::of(&m.record.data[..4], &m.record.data[YARDS..RECORD], &m.links.data)
+    Network::of(TODAY, &m.record.data[..WORDS], &m.record.data[YARDS..RECORD], &m.links.data)
 }
 
-/// The figures that are stored, true or false.
-pub fn figures(m: &Lent) -> Figures {
-    Figures { chain: m.record.data[5] as usize, pairs: bits_of_table(&m.pairs.data) }
-}
-
+/// The map that stands in the memory, links and figures being sound.
 fn map(m: &Lent) -> Map {
-    Map { network: network(m), figures: figures(m) }
+    memory(m).map()
+}
+
+/// The same where figures are not asked for, and are passed over.
+fn map_of_links(m: &Lent) -> Map {
+    Memory { chain: 0, pairs: vec![0; TABLE], ..memory(m) }.map()
 }
 
 /// Writes open set, number open, yard set, link table, chain, pair count and pair table.
 pub fn store_map(m: &mut Lent, map: &Map) {
-    m.record.data[..4].copy_from_slice(&row_of_codes(&map.network.open));
-    m.record.data[4] = map.network.open.len() as u64;
-    m.record.data[YARDS..RECORD].copy_from_slice(&row_of_codes(&map.network.yards));
-    m.links.data[..1024].copy_from_slice(&table_of_bits(map.network.bits()));
+    let mut memory = memory(m);
+    memory.store(map);
+    let record = &mut m.record.data;
+    record[..WORDS].copy_from_slice(&memory.open);
+    record[NUMBER] = memory.number;
+    record[YARDS..RECORD].copy_from_slice(&memory.yards);
+    m.links.data[..TABLE].copy_from_slice(&memory.links);
     store_figures(m, &map.figures);
 }
 
 /// Writes chain, pair count and pair table.
 pub fn store_figures(m: &mut Lent, figures: &Figures) {
-    m.record.data[5] = figures.chain as u64;
-    m.record.data[6] = figures.pairs.len() as u64;
-    m.pairs.data[..1024].copy_from_slice(&table_of_bits(figures.pairs.iter().copied()));
+    m.record.data[CHAIN] = figures.chain as u64;
+    m.record.data[COUNT] = figures.pairs.len() as u64;
+    m.pairs.data[..TABLE].copy_from_slice(&words::table_of_bits(WORDS, figures.pairs.iter().copied()));
 }
 
-/// Writes what a search leaves in hop table and layer rows (rules 3.1 and 3.2): yards are in them, so that the last layer's row goes by its depth.
-fn store_search(m: &mut Lent, distances: &Distances) {
-    for code in 0..256 {
-        m.hops.data[code] = distances[code].map_or(CLOSED, |d| d as u16);
-    }
-    let depth = depth(distances);
-    let last = row_of_codes(&layer(distances, depth));
-    let before = if depth == 0 { [0; 4] } else { row_of_codes(&layer(distances, depth - 1)) };
-    let (even, odd) = if depth % 2 == 0 { (last, before) } else { (before, last) };
-    m.even.data[..4].copy_from_slice(&even);
-    m.odd.data[..4].copy_from_slice(&odd);
+/// Writes what a search leaves in hop table and layer rows.
+fn store_search(m: &mut Lent, map: &Map, distances: &Distances) {
+    let searched = Searched::of(TODAY, &map.rows, distances);
+    m.hops.data[..PLACES].copy_from_slice(&searched.hops);
+    m.even.data[..WORDS].copy_from_slice(&searched.even);
+    m.odd.data[..WORDS].copy_from_slice(&searched.odd);
 }
 
 /// Writes bound table, skip table, hop table and layer rows.
-fn store_work(m: &mut Lent, work: &Work) {
-    for code in 0..256 {
-        let (bound, skip) = match work.status.get(&code) {
-            Some(Status::Searched(e)) => (*e as u16, SEARCHED),
-            Some(Status::Skipped(bound, by)) => (*bound as u16, *by as u16),
-            _ => (CLOSED, OTHER),
-        };
-        m.bounds.data[code] = bound;
-        m.skips.data[code] = skip;
-    }
+fn store_work(m: &mut Lent, map: &Map, work: &Work) {
+    let marks = Marks::of(TODAY, &map.rows, work);
+    m.bounds.data[..PLACES].copy_from_slice(&marks.bounds);
+    m.skips.data[..PLACES].copy_from_slice(&marks.skips);
     if let Some(distances) = &work.last {
-        store_search(m, distances);
+        store_search(m, map, distances);
     }
 }
 
 /// The number of places that are marked as searched.
 pub fn searches(m: &Lent) -> u16 {
-    m.skips.data[..256].iter().filter(|&&mark| mark == SEARCHED).count() as u16
+    m.skips.data[..PLACES].iter().filter(|&&mark| mark == SEARCHED).count() as u16
+}
+
+/// Codes as the plain implementation has them.
+fn wide(codes: &[u8]) -> Vec<usize> {
+    codes.iter().map(|&code| code.into()).collect()
 }
 
 // ---- the refusals of memory
@@ -89,51 +117,43 @@ fn is_short<T>(buffer: &Buffer<T>, size: usize) -> bool {
 
 fn is_map_short(m: &Lent) -> bool {
     is_short(&m.record, RECORD)
-        || is_short(&m.links, 1024)
-        || is_short(&m.pairs, 1024)
-        || is_short(&m.hops, 256)
-        || is_short(&m.bounds, 256)
-        || is_short(&m.skips, 256)
-        || is_short(&m.even, 4)
-        || is_short(&m.odd, 4)
+        || is_short(&m.links, TABLE)
+        || is_short(&m.pairs, TABLE)
+        || is_short(&m.hops, PLACES)
+        || is_short(&m.bounds, PLACES)
+        || is_short(&m.skips, PLACES)
+        || is_short(&m.even, WORDS)
+        || is_short(&m.odd, WORDS)
 }
 
 /// 2 and 3 of a call that looks at the links only; the sizes are right.
 fn links_refusal(m: &Lent) -> u8 {
-    let network = network(m);
-    if !network.is_sound(m.record.data[4]) {
-        2
-    } else if network.is_apart() {
-        3
-    } else {
-        0
-    }
+    memory(m).links_refusal()
 }
 
 /// 2 and 3 of a call that looks at the figures too.
 fn map_refusal(m: &Lent) -> u8 {
-    let refusal = links_refusal(m);
-    let (record, pairs) = (&m.record.data, bits_of_table(&m.pairs.data));
-    if refusal != 2 && !are_sound_figures(&network(m), &pairs, record[5], record[6]) {
-        return 2;
-    }
-    refusal
+    memory(m).refusal()
 }
 
 // ---- the calls on a map
 
 pub fn empty(m: &mut Lent) -> u8 {
-    if is_short(&m.record, RECORD) || is_short(&m.links, 1024) || is_short(&m.pairs, 1024) {
+    if is_short(&m.record, RECORD) || is_short(&m.links, TABLE) || is_short(&m.pairs, TABLE) {
         return 1;
     }
     m.record.data[..RECORD].fill(0);
-    m.links.data[..1024].fill(0);
-    m.pairs.data[..1024].fill(0);
+    m.links.data[..TABLE].fill(0);
+    m.pairs.data[..TABLE].fill(0);
     0
 }
 
 fn is_search_short(m: &Lent) -> bool {
-    is_short(&m.record, RECORD) || is_short(&m.links, 1024) || is_short(&m.hops, 256) || is_short(&m.even, 4) || is_short(&m.odd, 4)
+    is_short(&m.record, RECORD)
+        || is_short(&m.links, TABLE)
+        || is_short(&m.hops, PLACES)
+        || is_short(&m.even, WORDS)
+        || is_short(&m.odd, WORDS)
 }
 
 /// 1 to 4 of a call that searches from a depot.
@@ -152,26 +172,28 @@ pub fn search(m: &mut Lent, code: u8) -> u8 {
     if refusal != 0 {
         return refusal;
     }
-    let network = network(m);
-    let distances = network.distances(code.into());
-    store_search(m, &distances);
-    m.eccentricity = network.eccentricity(&distances) as u16;
-    m.depth = depth(&distances) as u16;
+    let map = map_of_links(m);
+    let distances = map.network.distances(code.into());
+    store_search(m, &map, &distances);
+    m.eccentricity = map.network.eccentricity(&distances) as u16;
+    m.depth = distances.depth() as u16;
     0
 }
 
 pub fn within(m: &mut Lent, code: u8, k: u32) -> u8 {
-    if is_short(&m.codes, 256) {
+    if is_short(&m.codes, PLACES) {
         return 1;
     }
     let refusal = search_refusal(m, code);
     if refusal != 0 {
         return refusal;
     }
-    let network = network(m);
-    store_search(m, &network.distances(code.into()));
-    let codes = network.within(code.into(), k);
-    m.codes.data[..codes.len()].copy_from_slice(&codes);
+    let map = map_of_links(m);
+    store_search(m, &map, &map.network.distances(code.into()));
+    let codes = map.network.within(code.into(), k);
+    for (place, &code) in m.codes.data.iter_mut().zip(&codes) {
+        *place = code as u8;
+    }
     m.count = codes.len() as u16;
     0
 }
@@ -181,12 +203,12 @@ pub fn nearest(m: &mut Lent, code: u8) -> u8 {
     if refusal != 0 {
         return refusal;
     }
-    let network = network(m);
-    match network.nearest(code.into(), &m.input()) {
+    let map = map_of_links(m);
+    match map.network.nearest(code.into(), &wide(&m.input())) {
         None => 10,
         Some((found, distance)) => {
-            store_search(m, &network.distances(code.into()));
-            (m.found, m.distance) = (found, distance);
+            store_search(m, &map, &map.network.distances(code.into()));
+            (m.found, m.distance) = (found as u8, distance as u16);
             0
         }
     }
@@ -194,18 +216,19 @@ pub fn nearest(m: &mut Lent, code: u8) -> u8 {
 
 /// The searches go by rising code, so that hop table and layer rows are those from the highest that delivers.
 pub fn summary(m: &mut Lent) -> u8 {
-    if is_search_short(m) || is_short(&m.counts, 256) {
+    if is_search_short(m) || is_short(&m.counts, PLACES) {
         return 1;
     }
     let refusal = links_refusal(m);
     if refusal != 0 {
         return refusal;
     }
-    let network = network(m);
-    match (network.summary(), network.delivering().last()) {
+    let map = map_of_links(m);
+    match (map.network.summary(), map.network.delivering().last()) {
         (Some(summary), Some(highest)) => {
-            store_search(m, &network.distances(highest));
-            m.counts.data[..256].copy_from_slice(&summary.counts);
+            store_search(m, &map, &map.network.distances(highest));
+            m.counts.data[..PLACES].fill(0);
+            m.counts.data[..summary.counts.len()].copy_from_slice(&summary.counts);
             let Mean { sum, pairs, quotient, remainder } = summary.mean;
             (m.sum, m.pair_number, m.quotient, m.remainder) = (sum, pairs, quotient, remainder);
             0
@@ -222,25 +245,26 @@ pub fn reckon(m: &mut Lent) -> u8 {
     if refusal != 0 {
         return refusal;
     }
-    let work = reckoning(&network(m));
+    let map = map_of_links(m);
+    let work = reckoning(&map.network);
     store_figures(m, &work.figures);
-    store_work(m, &work);
+    store_work(m, &map, &work);
     m.searches = searches(m);
     0
 }
 
 pub fn open(m: &mut Lent, code: u8) -> u8 {
-    let neighbours = m.input();
-    change(m, |map| map.open(code, &neighbours))
+    let neighbours = wide(&m.input());
+    change(m, |map| map.open(code.into(), &neighbours))
 }
 
 pub fn open_yard(m: &mut Lent, code: u8) -> u8 {
-    let neighbours = m.input();
-    change(m, |map| map.open_yard(code, &neighbours))
+    let neighbours = wide(&m.input());
+    change(m, |map| map.open_yard(code.into(), &neighbours))
 }
 
 pub fn link(m: &mut Lent, first: u8, second: u8) -> u8 {
-    change(m, |map| map.link(first, second))
+    change(m, |map| map.link(first.into(), second.into()))
 }
 
 /// An opening or a link: what every such call refuses first, and what an accepted one leaves.
@@ -257,7 +281,7 @@ fn change(m: &mut Lent, call: impl FnOnce(&mut Map) -> Result<Opened, u8>) -> u8
         Err(refusal) => refusal,
         Ok(changed) => {
             store_map(m, &map);
-            store_work(m, &changed.work);
+            store_work(m, &map, &changed.work);
             m.searches = searches(m);
             changed.letter
         }
@@ -279,7 +303,7 @@ pub fn open_batch(m: &mut Lent) -> u8 {
         Ok(batch) => {
             if let Some(work) = &batch.last {
                 store_map(m, &map);
-                store_work(m, work);
+                store_work(m, &map, work);
             }
             m.left.data[..batch.left.len()].copy_from_slice(&batch.left);
             m.left_count = batch.left.len() as u8;
@@ -291,10 +315,10 @@ pub fn open_batch(m: &mut Lent) -> u8 {
 // ---- the lines
 
 pub fn read_notice(m: &mut Lent) -> u8 {
-    if is_short(&m.frame, 258) {
+    if is_short(&m.frame, TODAY.frame) {
         return 1;
     }
-    match frame_of(&m.input()) {
+    match frame_of(TODAY, &m.input()) {
         None => 9,
         Some((frame, used)) => {
             m.frame.data[..frame.len()].copy_from_slice(&frame);
@@ -306,11 +330,11 @@ pub fn read_notice(m: &mut Lent) -> u8 {
 }
 
 pub fn write_notice(m: &mut Lent) -> u8 {
-    if is_short(&m.line, 517) {
+    if is_short(&m.line, TODAY.line) {
         return 1;
     }
     let frame = m.input();
-    if !is_frame(&frame) {
+    if notice_of(TODAY, &frame).is_none() {
         return 9;
     }
     let line = line_of(&frame);
@@ -332,7 +356,7 @@ pub fn report(m: &mut Lent, fields: Fields) -> u8 {
 // ---- the stream
 
 fn stream_refusal(m: &Lent) -> u8 {
-    if is_map_short(m) || is_short(&m.line, 517) || is_short(&m.out, 48) || m.held > 517 {
+    if is_map_short(m) || is_short(&m.line, TODAY.line) || is_short(&m.out, 48) || m.held > TODAY.line {
         return 1;
     }
     map_refusal(m)
@@ -348,7 +372,7 @@ fn take_line(m: &mut Lent, written: usize) -> usize {
     let (answer, opened) = stream::answer(&mut map, &m.line.data[..m.held]);
     if let Some(opened) = &opened {
         store_map(m, &map);
-        store_work(m, &opened.work);
+        store_work(m, &map, &opened.work);
     }
     m.lines += 1;
     m.held = 0;
@@ -368,7 +392,7 @@ pub fn feed(m: &mut Lent) -> u8 {
             break;
         }
         used += 1;
-        if m.held < 517 {
+        if m.held < TODAY.line {
             m.line.data[m.held] = byte;
             m.held += 1;
         }

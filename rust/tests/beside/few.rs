@@ -96,7 +96,7 @@ fn sets_of_pairs(network: &Network) -> Vec<Pairs> {
 /// Opens the next depot in every way, or the next yard, on every set of pairs and every chain of a few and the greatest.
 fn open_on_false_figures(m: &mut Lent, network: &Network, is_yard: bool, tally: &mut Tally) {
     let i = network.open.len();
-    store_map(m, &Map { network: network.clone(), figures: Figures::default() });
+    store_map(m, &Map::of(Figures::default(), network.clone()));
     for pairs in sets_of_pairs(network) {
         for chain in [0, 1, 2, 3, 4, 5, 255] {
             store_figures(m, &Figures { chain, pairs: pairs.clone() });

@@ -1,4 +1,6 @@
 //! The memory that a test lends: each buffer with what stands behind it, so that a write past its end shows.
+use crate::expected::{PLACES, RECORD, TABLE, WORDS};
+use crate::plain::TODAY;
 
 /// Of `data` the first `lent` elements are lent; the rest must never change.
 #[derive(Clone, Debug, PartialEq)]
@@ -56,7 +58,8 @@ pub struct Lent {
 }
 
 /// The named size of each buffer, in the order of `set_lent`.
-pub const SIZES: [usize; 14] = [11, 1024, 1024, 256, 256, 256, 4, 4, 258, 517, 48, 256, 64, 256];
+pub const SIZES: [usize; 14] =
+    [RECORD, TABLE, TABLE, PLACES, PLACES, PLACES, WORDS, WORDS, TODAY.frame, TODAY.line, 48, PLACES, 64, PLACES];
 
 impl Lent {
     /// Lends `size` elements of buffer `which`; there have to be that many.

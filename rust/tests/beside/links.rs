@@ -1,6 +1,7 @@
 //! Links between two open depots: on every network of up to five depots and on others by chance, with true figures and with false but sound ones, between
 //! openings and batches, as calls and as lines; and cases worked by hand. What a link leaves is held to a search from every depot as well.
 use crate::both::{self, empty, feed, open, open_as, open_batch, read, reckon, write};
+use crate::expected::bits_of_table;
 use crate::expected::{network, store_figures, store_map};
 use crate::inputs::growths::some_size;
 use crate::inputs::lines::{link_line, notice_line, opening_line};
@@ -9,7 +10,6 @@ use crate::lent::{Buffer, Lent, SIZES};
 use crate::maps::{any_figures, any_memory, damage, true_map, DAMAGES};
 use crate::plain::lines::line_of;
 use crate::plain::network::Pairs;
-use crate::plain::words::bits_of_table;
 use crate::plain::{Figures, Map, Network};
 use crate::tally::Tally;
 use crate::truth::{assert_linked, assert_linked_falsely};
@@ -57,7 +57,7 @@ fn every_link_of_up_to_five_depots() {
     let mut count = 0;
     for network in (0..=5).flat_map(networks) {
         count += 1;
-        store_map(&mut m, &Map { figures: network.figures(), network: network.clone() });
+        store_map(&mut m, &Map::true_of(network.clone()));
         for &(u, v) in &all_pairs(network.open.len()) {
             let mut next = m.clone();
             let answer = link(&mut next, u as u8, v as u8);
@@ -93,7 +93,7 @@ fn every_link_of_up_to_four_depots_and_yards() {
     let mut m = any_memory(&mut Dice::new(26_050_000));
     let mut tally = Tally::new();
     for network in (0..=4).flat_map(networks).flat_map(with_yards) {
-        store_map(&mut m, &Map { figures: network.figures(), network: network.clone() });
+        store_map(&mut m, &Map::true_of(network.clone()));
         for &(u, v) in &all_pairs(network.open.len()) {
             let mut next = m.clone();
             let answer = link(&mut next, u as u8, v as u8);
@@ -112,7 +112,7 @@ fn every_link_of_up_to_four_depots_and_yards() {
 fn every_link_on_false_figures(m: &mut Lent, network: &Network, tally: &mut Tally) {
     let all = all_pairs(network.open.len());
     let ends: Vec<(usize, usize)> = all.iter().copied().filter(|&(u, v)| network.delivers(u) && network.delivers(v)).collect();
-    store_map(m, &Map { network: network.clone(), figures: Figures::default() });
+    store_map(m, &Map::of(Figures::default(), network.clone()));
     for pairs in sets_of(&ends) {
         for chain in [0, 1, 2, 3, 4, 5, 255] {
             store_figures(m, &Figures { chain, pairs: pairs.clone() });
@@ -235,7 +235,7 @@ fn histories_from_false_figures() {
         let (begun, size) = (2 + dice.below(20), 40);
         let mut m = any_memory(&mut dice);
         let grown = growth.network(&mut dice, begun);
-        store_map(&mut m, &Map { figures: any_figures(&mut dice, &grown), network: grown });
+        store_map(&mut m, &Map::of(any_figures(&mut dice, &grown), grown));
         for next in begun..size {
             if dice.once_in(3) {
                 let figures = any_figures(&mut dice, &network(&m));
@@ -315,7 +315,7 @@ fn links_on_false_but_sound_figures() {
         let size = some_size(&mut dice).min(if seed % 10 == 0 { 256 } else { 40 });
         let grown = Growth::some(&mut dice, shape).network(&mut dice, size);
         let mut m = any_memory(&mut dice);
-        store_map(&mut m, &Map { figures: any_figures(&mut dice, &grown), network: grown });
+        store_map(&mut m, &Map::of(any_figures(&mut dice, &grown), grown));
         // what it leaves is sound again, so the next link goes on from it
         for _ in 0..3 {
             let before = m.clone();
@@ -382,7 +382,7 @@ fn map_of(links: &[(usize, usize)]) -> Lent {
         network.link(u, v);
     }
     let mut m = any_memory(&mut Dice::new(26_600_000));
-    store_map(&mut m, &Map { figures: network.figures(), network });
+    store_map(&mut m, &Map::true_of(network));
     m
 }
 

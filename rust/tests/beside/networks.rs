@@ -17,7 +17,7 @@ fn try_network(shape: Shape, which: usize, has_yards: bool, searched: &mut Tally
         growth = growth.with_yards(&mut dice);
     }
     let mut m = any_memory(&mut dice);
-    store_map(&mut m, &Map { network: growth.network(&mut dice, size), figures: Figures::default() });
+    store_map(&mut m, &Map::of(Figures::default(), growth.network(&mut dice, size)));
     (m.record.data[5], m.record.data[6]) = (999, 5);
     m.pairs.data[..1024].fill(7);
     // the first depot, the last, and codes all over

@@ -1,10 +1,10 @@
 //! Faults one by one, on a grid of 100 depots of the codes 0 to 99: each call is held to the refusal that has to come, and to changing nothing.
 use crate::both::{empty, feed, finish, link, nearest, open, open_batch, open_yard, reckon, search, summary, within};
+use crate::expected::bits_of_table;
 use crate::expected::{store_map, YARDS};
 use crate::inputs::{Dice, Growth, Shape};
 use crate::lent::Lent;
 use crate::maps::{any_memory, flip};
-use crate::plain::words::bits_of_table;
 use crate::plain::{Figures, Map};
 use crate::tally::Tally;
 
@@ -12,7 +12,7 @@ fn grid() -> Lent {
     let mut dice = Dice::new(16_000_000);
     let network = Growth::spread(&mut dice, Shape::Grid, 0, 0).network(&mut dice, 100);
     let mut m = any_memory(&mut dice);
-    store_map(&mut m, &Map { figures: network.figures(), network });
+    store_map(&mut m, &Map::true_of(network));
     (m.held, m.lines) = (0, 0);
     m
 }
@@ -229,8 +229,8 @@ fn figures_of_another_map() {
     let other = Growth::spread(&mut dice, Shape::Path, 0, 90).network(&mut dice, 100).figures();
     let mut m = grid();
     let network = crate::expected::network(&m);
-    store_map(&mut m, &Map { network: network.clone(), figures: other });
+    store_map(&mut m, &Map::of(other, network.clone()));
     assert_eq!(answers(&m), [0, 0, 2, 2, 2, 2, 2]);
-    store_map(&mut m, &Map { network, figures: Figures::default() });
+    store_map(&mut m, &Map::of(Figures::default(), network));
     assert_eq!(answers(&m), [0, 0, b'G', b'K', 0, 0, 0]);
 }

@@ -1,8 +1,7 @@
 //! What holds of figures, letter and marks by their definitions, from the distances that a search from every depot finds.
-use crate::expected::{network, CLOSED, OTHER, SEARCHED};
+use crate::expected::{bits_of_table, network, CHAIN, CLOSED, COUNT, NUMBER, OTHER, PLACES, SEARCHED};
 use crate::lent::Lent;
-use crate::plain::network::{depth, Distances, Network, Pairs};
-use crate::plain::words::bits_of_table;
+use crate::plain::network::{Distances, Network, Pairs};
 
 /// The network that stands in the memory, and all its distances.
 struct Truth {
@@ -14,7 +13,7 @@ struct Truth {
 impl Truth {
     fn of(m: &Lent) -> Truth {
         let network = network(m);
-        let all = (0..256).map(|u| network.open.contains(&u).then(|| network.distances(u))).collect();
+        let all = (0..PLACES).map(|u| network.open.contains(&u).then(|| network.distances(u))).collect();
         Truth { network, all }
     }
 
@@ -24,7 +23,7 @@ impl Truth {
     }
 
     fn distance(&self, u: usize, v: usize) -> usize {
-        self.from(u)[v].expect("a walk leads")
+        self.from(u).of(v)
     }
 
     /// The greatest distance to a depot that delivers.
@@ -48,8 +47,8 @@ impl Truth {
 fn assert_figures(m: &Lent, truth: &Truth) {
     let chain = truth.chain();
     let pairs = truth.pairs_at(chain);
-    assert_eq!(m.record.data[5], chain as u64, "the chain");
-    assert_eq!(m.record.data[6], pairs.len() as u64, "the pair count");
+    assert_eq!(m.record.data[CHAIN], chain as u64, "the chain");
+    assert_eq!(m.record.data[COUNT], pairs.len() as u64, "the pair count");
     assert_eq!(bits_of_table(&m.pairs.data), pairs, "the farthest pairs");
 }
 
@@ -60,23 +59,23 @@ fn assert_mark(m: &Lent, truth: &Truth, v: usize) {
         None => assert_eq!((mark, bound), (OTHER, CLOSED.into()), "the mark of the closed code {v}"),
         Some(_) if mark == SEARCHED => assert_eq!(bound, truth.eccentricity(v), "the bound of {v}, searched"),
         Some(_) => {
-            assert!(mark < 256, "depot {v} is neither searched nor skipped");
+            assert!(usize::from(mark) < PLACES, "depot {v} is neither searched nor skipped");
             let by = usize::from(mark);
             assert_eq!(m.skips.data[by], SEARCHED, "depot {v} is skipped for {by}, which was not searched");
             assert_eq!(bound, truth.eccentricity(by) + truth.distance(by, v), "the bound of {v}, skipped for {by}");
-            assert!((bound as u64) < m.record.data[5], "depot {v} is skipped at the bound {bound}");
+            assert!((bound as u64) < m.record.data[CHAIN], "depot {v} is skipped at the bound {bound}");
         }
     }
 }
 
 /// Every depot is searched or skipped, and the searches are those that are marked.
 fn assert_marks(m: &Lent, truth: &Truth) {
-    for v in 0..256 {
+    for v in 0..PLACES {
         assert_mark(m, truth, v);
     }
-    let marked = m.skips.data[..256].iter().filter(|&&mark| mark == SEARCHED).count();
+    let marked = m.skips.data[..PLACES].iter().filter(|&&mark| mark == SEARCHED).count();
     assert_eq!(usize::from(m.searches), marked, "the searches");
-    assert!(marked as u64 <= m.record.data[4], "more searches than depots");
+    assert!(marked as u64 <= m.record.data[NUMBER], "more searches than depots");
 }
 
 /// After a reckoning.
@@ -89,7 +88,7 @@ pub fn assert_reckoned(m: &Lent) {
 /// Exactly these depots were searched, and no rounds followed.
 fn assert_searched_alone(m: &Lent, truth: &Truth, codes: &[usize]) {
     assert_eq!(usize::from(m.searches), codes.len(), "the searches");
-    for v in 0..256 {
+    for v in 0..PLACES {
         let expected = if codes.contains(&v) { (SEARCHED, truth.eccentricity(v) as u16) } else { (OTHER, CLOSED) };
         assert_eq!((m.skips.data[v], m.bounds.data[v]), expected, "the mark of {v}");
     }
@@ -99,8 +98,8 @@ fn assert_searched_alone(m: &Lent, truth: &Truth, codes: &[usize]) {
 pub fn assert_opened(m: &Lent, before: u64, code: u8, letter: u8) {
     let truth = Truth::of(m);
     assert_figures(m, &truth);
-    let change = m.record.data[5].cmp(&before);
-    assert_eq!(letter, [b'S', b'K', b'G'][(change as i8 + 1) as usize], "the letter of a chain of {} after {before}", m.record.data[5]);
+    let change = m.record.data[CHAIN].cmp(&before);
+    assert_eq!(letter, [b'S', b'K', b'G'][(change as i8 + 1) as usize], "the letter of a chain of {} after {before}", m.record.data[CHAIN]);
     assert!(letter != b'G' || truth.network.delivers(code.into()), "the yard {code} made the chain grow");
     if letter == b'S' {
         return assert_marks(m, &truth);
@@ -118,11 +117,11 @@ fn assert_link_marks(m: &Lent, truth: &Truth, first: u8, second: u8, letter: u8)
     assert_eq!(letter, b'K', "a link never makes the chain longer");
     assert_searched_alone(m, truth, &[low, high]);
     let from = truth.from(high);
-    let depth = depth(from);
+    let depth = from.depth();
     let last = if depth % 2 == 0 { &m.even } else { &m.odd };
-    for v in 0..256 {
-        assert_eq!(m.hops.data[v], from[v].map_or(CLOSED, |d| d as u16), "the hop of {v}");
-        assert_eq!(last.data[v / 64] >> (v % 64) & 1 == 1, from[v] == Some(depth), "depot {v} in the last layer");
+    for v in 0..PLACES {
+        assert_eq!(m.hops.data[v], from.to(v).map_or(CLOSED, |d| d as u16), "the hop of {v}");
+        assert_eq!(last.data[v / 64] >> (v % 64) & 1 == 1, from.to(v) == Some(depth), "depot {v} in the last layer");
     }
 }
 
@@ -130,7 +129,7 @@ fn assert_link_marks(m: &Lent, truth: &Truth, first: u8, second: u8, letter: u8)
 pub fn assert_linked(m: &Lent, before: u64, first: u8, second: u8, letter: u8) {
     let truth = Truth::of(m);
     assert_figures(m, &truth);
-    let after = m.record.data[5];
+    let after = m.record.data[CHAIN];
     assert!(after <= before, "the chain is {after} after {before}");
     assert!(before <= 2 * after || !truth.network.yards.is_empty(), "the chain is {after} after {before}");
     assert_eq!(letter == b'S', after < before, "the letter of a chain of {after} after {before}");
@@ -142,11 +141,11 @@ pub fn assert_linked(m: &Lent, before: u64, first: u8, second: u8, letter: u8) {
 pub fn assert_linked_falsely(m: &Lent, before: &Lent, first: u8, second: u8, letter: u8) {
     let truth = Truth::of(m);
     assert_link_marks(m, &truth, first, second, letter);
-    let (chain, pairs) = (m.record.data[5], bits_of_table(&m.pairs.data));
-    assert_eq!(m.record.data[6], pairs.len() as u64, "the pair count");
+    let (chain, pairs) = (m.record.data[CHAIN], bits_of_table(&m.pairs.data));
+    assert_eq!(m.record.data[COUNT], pairs.len() as u64, "the pair count");
     if letter == b'K' {
         let stored = bits_of_table(&before.pairs.data);
-        assert_eq!(chain, before.record.data[5], "the chain");
+        assert_eq!(chain, before.record.data[CHAIN], "the chain");
         assert!(pairs.is_subset(&stored), "a pair is new");
         let way = |&(u, v): &(usize, usize), through: u8| truth.distance(through.into(), u) + truth.distance(through.into(), v);
         let is_far = |pair| chain == 0 || way(pair, first).min(way(pair, second)) as u64 >= chain;
@@ -158,5 +157,5 @@ pub fn assert_linked_falsely(m: &Lent, before: &Lent, first: u8, second: u8, let
         return assert_figures(m, &truth);
     }
     assert!(chain > longest && pairs.is_empty(), "a chain of {chain} for {longest}, {} pairs", pairs.len());
-    assert!(chain < before.record.data[5], "a chain of {chain} that nothing stored had");
+    assert!(chain < before.record.data[CHAIN], "a chain of {chain} that nothing stored had");
 }

@@ -1,10 +1,10 @@
 //! The worked cases of docs/RULES.md, by their numbers; the plain implementation is held to them as well.
 use crate::both::{empty, feed, finish, link, nearest, open, read, reckon, report, search, summary, within, write};
+use crate::expected::bits_of_table;
 use crate::inputs::Dice;
 use crate::lent::{Buffer, Lent};
 use crate::maps::any_memory;
 use crate::plain::lines::Fields;
-use crate::plain::words::bits_of_table;
 use crate::raw;
 use crate::truth::assert_reckoned;
 

@@ -1,11 +1,11 @@
 //! Yards, by cases worked by hand in all memory that a call is lent: what a yard's opening leaves, a last layer of yards alone, yards in rounds, links of
 //! yards, and figures that are false but sound. That every other call goes on with yards is tried where the call is.
 use crate::both::{empty, feed, link, nearest, open, open_yard, reckon, search, summary, within};
+use crate::expected::bits_of_table;
 use crate::expected::{network, store_figures, store_map, RECORD, YARDS};
 use crate::inputs::Dice;
 use crate::lent::{Buffer, Lent};
 use crate::maps::any_memory;
-use crate::plain::words::bits_of_table;
 use crate::plain::{Figures, Map, Network};
 use crate::truth::{assert_opened, assert_reckoned};
 use std::collections::BTreeSet;
@@ -26,7 +26,7 @@ fn map_of(links: &[(usize, usize)], yards: &[usize]) -> Lent {
     }
     network.yards.extend(yards);
     let mut m = emptied();
-    store_map(&mut m, &Map { figures: network.figures(), network });
+    store_map(&mut m, &Map::true_of(network));
     m
 }
 

@@ -2,7 +2,7 @@
 use super::dice::Dice;
 use super::lines::opening_line;
 use crate::plain::Network;
-use std::collections::BTreeSet;
+use std::collections::{BTreeMap, BTreeSet};
 
 /// How the earlier depots that the next one is linked to are chosen.
 #[derive(Clone, Copy, Debug)]
@@ -54,7 +54,7 @@ pub struct Growth {
     pub order: Vec<usize>,
     /// The codes that open as yards.
     pub yards: BTreeSet<usize>,
-    places: Vec<(i64, i64)>,
+    places: BTreeMap<usize, (i64, i64)>,
 }
 
 impl Growth {
@@ -83,22 +83,27 @@ impl Growth {
         Growth::in_order(dice, shape, (0..256).map(|i| (step * i + shift) % 256).collect())
     }
 
-    fn in_order(dice: &mut Dice, shape: Shape, order: Vec<usize>) -> Growth {
-        let places = (0..256).map(|_| (dice.below(10_000) as i64, dice.below(10_000) as i64)).collect();
+    /// These codes open, in this order.
+    pub fn in_order(dice: &mut Dice, shape: Shape, order: Vec<usize>) -> Growth {
+        let codes: BTreeSet<usize> = order.iter().copied().collect();
+        let places = codes.into_iter().map(|code| (code, (dice.below(10_000) as i64, dice.below(10_000) as i64))).collect();
         Growth { shape, order, yards: BTreeSet::new(), places }
     }
 
     /// The same growth with yards among its codes: few, every second, nearly all or all, or so many that one to four of the first depots deliver.
     pub fn with_yards(mut self, dice: &mut Dice) -> Growth {
+        let mut codes = self.order.clone();
+        codes.sort();
+        let codes = codes.into_iter();
         self.yards = match dice.below(8) {
-            0 => (0..256).collect(),
-            1 => (0..256).filter(|_| !dice.once_in(10)).collect(),
+            0 => codes.collect(),
+            1 => codes.filter(|_| !dice.once_in(10)).collect(),
             2 => {
                 let delivering: BTreeSet<usize> = (0..1 + dice.below(4)).map(|_| self.order[dice.below(24)]).collect();
-                (0..256).filter(|code| !delivering.contains(code)).collect()
+                codes.filter(|code| !delivering.contains(code)).collect()
             }
-            3 | 4 => (0..256).filter(|_| dice.once_in(2)).collect(),
-            _ => (0..256).filter(|_| dice.once_in(8)).collect(),
+            3 | 4 => codes.filter(|_| dice.once_in(2)).collect(),
+            _ => codes.filter(|_| dice.once_in(8)).collect(),
         };
         self
     }
@@ -111,10 +116,15 @@ impl Growth {
 
     /// The neighbours of the depot that opens as number i, rising; `size` will open in all.
     pub fn neighbours(&self, dice: &mut Dice, i: usize, size: usize) -> Vec<u8> {
+        self.codes_beside(dice, i, size).into_iter().map(|v| v as u8).collect()
+    }
+
+    /// The same for codes of any width.
+    pub fn codes_beside(&self, dice: &mut Dice, i: usize, size: usize) -> Vec<usize> {
         if i == 0 {
             return Vec::new();
         }
-        self.chosen(dice, i, size).into_iter().map(|v| v as u8).collect()
+        self.chosen(dice, i, size).into_iter().collect()
     }
 
     fn chosen(&self, dice: &mut Dice, i: usize, size: usize) -> BTreeSet<usize> {
@@ -147,7 +157,7 @@ impl Growth {
 
     fn nearest(&self, dice: &mut Dice, i: usize) -> BTreeSet<usize> {
         let far = |v: &usize| {
-            let (a, b) = (self.places[*v], self.places[self.order[i]]);
+            let (a, b) = (self.places[v], self.places[&self.order[i]]);
             (a.0 - b.0).pow(2) + (a.1 - b.1).pow(2)
         };
         let mut near = self.order[..i].to_vec();
@@ -163,8 +173,8 @@ impl Growth {
             let code = self.order[i];
             network.open.insert(code);
             network.yards.extend(self.yards.get(&code));
-            for v in self.neighbours(dice, i, size) {
-                network.link(code, v.into());
+            for v in self.codes_beside(dice, i, size) {
+                network.link(code, v);
             }
         }
         network

@@ -1,5 +1,5 @@
 //! Openings in a batch: up to 64 notice lines together, in whatever order they came.
-use super::lines::{frame_of, is_opening};
+use super::lines::{notice_of_line, Notice};
 use super::opening::{Map, Work};
 
 /// The most lines of a batch.
@@ -25,9 +25,9 @@ impl Map {
         }
         let mut waiting = Vec::new();
         for (number, line) in lines.into_iter().enumerate() {
-            // only frames that open a depot or a yard: a link is garbled here, though the stream takes it
-            let (frame, _) = frame_of(line).filter(|(frame, _)| is_opening(frame)).ok_or(9)?;
-            waiting.push((number as u8, frame));
+            // only frames that open a depot or a yard: a link or a closing is garbled here, though the stream takes it
+            let notice = notice_of_line(self.shape, line).filter(|notice| matches!(notice, Notice::Opening { .. })).ok_or(9)?;
+            waiting.push((number as u8, notice));
         }
         let mut last = None;
         while let Some(opened) = self.open_first(&mut waiting) {
@@ -36,11 +36,11 @@ impl Map {
         Ok(Batch { left: waiting.into_iter().map(|(number, _)| number).collect(), last })
     }
 
-    /// Opens the first of the waiting frames that can be, and takes it out of them. A line that came before it may be next, so that every scan begins
+    /// Opens the first of the waiting notices that can be, and takes it out of them. A line that came before it may be next, so that every scan begins
     /// at the first line.
-    fn open_first(&mut self, waiting: &mut Vec<(u8, Vec<u8>)>) -> Option<Work> {
+    fn open_first(&mut self, waiting: &mut Vec<(u8, Notice)>) -> Option<Work> {
         for place in 0..waiting.len() {
-            if let Ok(opened) = self.open_frame(&waiting[place].1) {
+            if let Ok(opened) = self.take(&waiting[place].1) {
                 waiting.remove(place);
                 return Some(opened.work);
             }

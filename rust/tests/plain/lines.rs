@@ -1,13 +1,27 @@
 //! Notice lines and report lines.
+use super::shape::{Call, Shape};
+
+/// What a frame says.
+#[derive(Clone, Debug, PartialEq)]
+pub enum Notice {
+    Opening { is_yard: bool, code: usize, neighbours: Vec<usize> },
+    Link(usize, usize),
+    Closing(usize),
+}
 
 /// The frame of the line that stands at the start of the input, and the bytes used, 0A with them; none where it is garbled.
-pub fn frame_of(input: &[u8]) -> Option<(Vec<u8>, usize)> {
-    bytes_of(input).filter(|(frame, _)| is_frame(frame))
+pub fn frame_of(shape: &Shape, input: &[u8]) -> Option<(Vec<u8>, usize)> {
+    bytes_of(shape, input).filter(|(frame, _)| notice_of(shape, frame).is_some())
+}
+
+/// What the line at the start of the input says; none where it is garbled.
+pub fn notice_of_line(shape: &Shape, input: &[u8]) -> Option<Notice> {
+    notice_of(shape, &bytes_of(shape, input)?.0)
 }
 
 /// The bytes that the line at the start of the input spells, a frame or not.
-fn bytes_of(input: &[u8]) -> Option<(Vec<u8>, usize)> {
-    let end = input.iter().take(517).position(|&b| b == 0x0A)?;
+fn bytes_of(shape: &Shape, input: &[u8]) -> Option<(Vec<u8>, usize)> {
+    let end = input.iter().take(shape.line).position(|&b| b == 0x0A)?;
     let mut digits = Vec::new();
     for &b in &input[..end] {
         digits.push("0123456789ABCDEF".bytes().position(|d| d == b)? as u8);
@@ -18,18 +32,46 @@ fn bytes_of(input: &[u8]) -> Option<(Vec<u8>, usize)> {
     Some((digits.chunks(2).map(|two| 16 * two[0] + two[1]).collect(), end + 1))
 }
 
-pub fn is_frame(frame: &[u8]) -> bool {
-    is_opening(frame) || is_link(frame)
+/// What a frame says, none where it is garbled: a kind that there is and as many codes as belong to it. An opening has code, neighbour count and that many
+/// neighbours, fewer than depots can be open; a link has two codes, a closing one.
+pub fn notice_of(shape: &Shape, frame: &[u8]) -> Option<Notice> {
+    let (&byte, behind) = frame.split_first()?;
+    let kind = shape.kind(byte)?;
+    if behind.len() % kind.width != 0 {
+        return None;
+    }
+    let numbers: Vec<usize> =
+        behind.chunks(kind.width).map(|bytes| bytes.iter().fold(0, |high, &low| 256 * high + usize::from(low))).collect();
+    match (kind.call, &numbers[..]) {
+        (Call::Opening | Call::YardOpening, &[code, count, ref neighbours @ ..]) => {
+            let is_right = count == neighbours.len() && count < shape.places;
+            is_right.then(|| Notice::Opening { is_yard: kind.call == Call::YardOpening, code, neighbours: neighbours.to_vec() })
+        }
+        (Call::Link, &[first, second]) => Some(Notice::Link(first, second)),
+        (Call::Closing, &[code]) => Some(Notice::Closing(code)),
+        _ => None,
+    }
 }
 
-/// Kind 01, or for a yard 04, code, neighbour count, and that many neighbours.
-pub fn is_opening(frame: &[u8]) -> bool {
-    frame.len() >= 3 && [1, 4].contains(&frame[0]) && frame.len() == 3 + usize::from(frame[2])
-}
-
-/// Kind 02 and two codes.
-pub fn is_link(frame: &[u8]) -> bool {
-    frame.len() == 3 && frame[0] == 2
+impl Notice {
+    /// The frame of what is said, with codes of one or of two bytes, in which they have room.
+    pub fn frame(&self, width: usize) -> Vec<u8> {
+        let (byte, numbers) = match self {
+            Notice::Opening { is_yard, code, neighbours } => {
+                (if *is_yard { 4 } else { 1 }, [&[*code, neighbours.len()], &neighbours[..]].concat())
+            }
+            Notice::Link(first, second) => (2, vec![*first, *second]),
+            Notice::Closing(code) => (3, vec![*code]),
+        };
+        let mut frame = vec![if width == 2 { 0x10 + byte } else { byte }];
+        for number in numbers {
+            if width == 2 {
+                frame.push((number / 256) as u8);
+            }
+            frame.push((number % 256) as u8);
+        }
+        frame
+    }
 }
 
 /// The line of a frame.

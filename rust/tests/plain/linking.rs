@@ -1,16 +1,16 @@
 //! A link between two depots that are open already; either or both may be yards.
 use super::network::{Distances, Figures, Network, Pairs};
-use super::opening::{distance, Map, Opened, Work};
+use super::opening::{Map, Opened, Work};
 
 /// The refusals 4, 13 and 14 of a link, 0 for none.
-fn refusal(network: &Network, first: u8, second: u8) -> u8 {
-    if [first, second].iter().any(|&code| !network.open.contains(&code.into())) {
+fn refusal(network: &Network, first: usize, second: usize) -> u8 {
+    if [first, second].iter().any(|code| !network.open.contains(code)) {
         return 4;
     }
     if first == second {
         return 13;
     }
-    if network.are_linked(first.into(), second.into()) {
+    if network.are_linked(first, second) {
         return 14;
     }
     0
@@ -20,7 +20,7 @@ fn refusal(network: &Network, first: u8, second: u8) -> u8 {
 fn linking(network: &Network, stored: &Figures, low: usize, high: usize) -> Opened {
     let (from_low, from_high) = (network.distances(low), network.distances(high));
     let chain = stored.chain;
-    let through = |end: &Distances, pair: &(usize, usize)| distance(end, pair.0) + distance(end, pair.1);
+    let through = |end: &Distances, pair: &(usize, usize)| end.of(pair.0) + end.of(pair.1);
     let apart = |pair: &(usize, usize)| chain.min(through(&from_low, pair)).min(through(&from_high, pair));
     let pairs: Pairs = stored.pairs.iter().copied().filter(|pair| apart(pair) >= chain).collect();
     if chain == 0 || !pairs.is_empty() {
@@ -40,12 +40,12 @@ fn linking(network: &Network, stored: &Figures, low: usize, high: usize) -> Open
 
 impl Map {
     /// Links two depots, or says which of 4, 13 and 14 refuses it. In which order they are named is no matter.
-    pub fn link(&mut self, first: u8, second: u8) -> Result<Opened, u8> {
+    pub fn link(&mut self, first: usize, second: usize) -> Result<Opened, u8> {
         match refusal(&self.network, first, second) {
             0 => {}
             refusal => return Err(refusal),
         }
-        let (low, high) = (first.min(second).into(), first.max(second).into());
+        let (low, high) = (first.min(second), first.max(second));
         self.network.link(low, high);
         let linked = linking(&self.network, &self.figures, low, high);
         self.figures = linked.work.figures.clone();

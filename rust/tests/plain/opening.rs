@@ -1,6 +1,9 @@
 //! The opening of a depot or a yard, and the reference rounds that it shares with the whole reckoning.
+use super::lines::Notice;
 use super::network::{Distances, Figures, Network, Pairs};
-use std::collections::{BTreeMap, BTreeSet};
+use super::rows::Rows;
+use super::shape::{Shape, TODAY};
+use std::collections::BTreeMap;
 
 /// What the rounds did with a depot. A bound stands with the reference that gave it.
 #[derive(Clone, Debug, PartialEq)]
@@ -57,7 +60,7 @@ impl Work {
         self.note_search(network, r, distances.clone());
         for (&v, status) in self.status.iter_mut() {
             if let Status::Remaining(bound) = status {
-                let new = e + distance(&distances, v);
+                let new = e + distances.of(v);
                 if bound.is_none_or(|(old, _)| new < old) {
                     *bound = Some((new, r));
                 }
@@ -75,11 +78,11 @@ impl Work {
         }
     }
 
-    /// The next reference (rule 5.4), a yard or not.
+    /// The next reference (rule 5.4), a yard or not: codes rise here, so that the lowest of equal degree stays.
     fn next(&self, network: &Network) -> Option<usize> {
         let mut best = None;
         for (&v, status) in &self.status {
-            let degree = network.rows[v].len();
+            let degree = network.beside(v).len();
             if matches!(status, Status::Remaining(_)) && best.is_none_or(|(_, most)| degree > most) {
                 best = Some((v, degree));
             }
@@ -94,11 +97,6 @@ impl Work {
     }
 }
 
-/// The distance of an open depot, on a map that hangs together.
-pub fn distance(distances: &Distances, v: usize) -> usize {
-    distances[v].expect("the network hangs together")
-}
-
 /// The whole reckoning of a network that hangs together.
 pub fn reckoning(network: &Network) -> Work {
     let mut work = Work::begun(network, Figures::default());
@@ -106,7 +104,7 @@ pub fn reckoning(network: &Network) -> Work {
     work
 }
 
-/// An accepted opening or link.
+/// An accepted opening, link or closing.
 pub struct Opened {
     pub letter: u8,
     pub work: Work,
@@ -122,7 +120,7 @@ fn opening(network: &Network, stored: &Figures, a: usize) -> Opened {
         let figures = Figures { chain: e, pairs: network.farthest_from(a, &distances) };
         return Opened { letter: b'G', work: Work::searched(network, a, figures, distances) };
     }
-    let through = |pair: &(usize, usize)| distance(&distances, pair.0) + distance(&distances, pair.1);
+    let through = |pair: &(usize, usize)| distances.of(pair.0) + distances.of(pair.1);
     let mut pairs: Pairs = stored.pairs.iter().copied().filter(|pair| through(pair) >= chain).collect();
     if !is_yard && e == chain {
         pairs.extend(network.farthest_from(a, &distances));
@@ -138,10 +136,14 @@ fn opening(network: &Network, stored: &Figures, a: usize) -> Opened {
     Opened { letter: b'S', work }
 }
 
-/// The refusals 5 to 8 of a notice, 0 for none.
-fn refusal(open: &BTreeSet<usize>, code: u8, neighbours: &[u8]) -> u8 {
-    if open.contains(&code.into()) {
+/// The refusals 5, 16, 6, 7 and 8 of a notice, in this order, 0 for none.
+fn refusal(shape: &Shape, network: &Network, code: usize, neighbours: &[usize]) -> u8 {
+    let open = &network.open;
+    if open.contains(&code) {
         return 5;
+    }
+    if open.len() == shape.places {
+        return 16;
     }
     if neighbours.is_empty() && !open.is_empty() {
         return 6;
@@ -149,7 +151,7 @@ fn refusal(open: &BTreeSet<usize>, code: u8, neighbours: &[u8]) -> u8 {
     if neighbours.windows(2).any(|two| two[0] >= two[1]) {
         return 7;
     }
-    if neighbours.iter().any(|&v| !open.contains(&v.into())) {
+    if neighbours.iter().any(|v| !open.contains(v)) {
         return 8;
     }
     0
@@ -158,43 +160,67 @@ fn refusal(open: &BTreeSet<usize>, code: u8, neighbours: &[u8]) -> u8 {
 /// A map that is sound and hangs together.
 #[derive(Clone)]
 pub struct Map {
+    pub shape: &'static Shape,
     pub network: Network,
     pub figures: Figures,
+    pub rows: Rows,
 }
 
 impl Map {
     pub fn empty() -> Map {
-        Map { network: Network::empty(), figures: Figures::default() }
+        Map::of_shape(TODAY)
     }
 
-    /// Opens a depot that delivers, or says which of 5 to 8 refuses it.
-    pub fn open(&mut self, code: u8, neighbours: &[u8]) -> Result<Opened, u8> {
+    /// The empty map of a shape.
+    pub fn of_shape(shape: &'static Shape) -> Map {
+        Map { shape, network: Network::empty(), figures: Figures::default(), rows: Rows::empty(shape) }
+    }
+
+    /// A map of these figures, true or false, and this network, whose depots have opened in rising order of their codes.
+    pub fn of(figures: Figures, network: Network) -> Map {
+        let mut map = Map::empty();
+        network.open.iter().for_each(|&code| map.rows.open(code));
+        Map { network, figures, ..map }
+    }
+
+    /// A map of this network with true figures.
+    pub fn true_of(network: Network) -> Map {
+        let figures = network.figures();
+        Map::of(figures, network)
+    }
+
+    /// Opens a depot that delivers, or says which of 5 to 8 and 16 refuses it.
+    pub fn open(&mut self, code: usize, neighbours: &[usize]) -> Result<Opened, u8> {
         self.open_as(false, code, neighbours)
     }
 
-    /// Opens a yard, or says which of 5 to 8 refuses it.
-    pub fn open_yard(&mut self, code: u8, neighbours: &[u8]) -> Result<Opened, u8> {
+    /// Opens a yard, or says which of 5 to 8 and 16 refuses it.
+    pub fn open_yard(&mut self, code: usize, neighbours: &[usize]) -> Result<Opened, u8> {
         self.open_as(true, code, neighbours)
     }
 
-    /// Opens what a frame that opens something names: kind 04 a yard.
-    pub fn open_frame(&mut self, frame: &[u8]) -> Result<Opened, u8> {
-        self.open_as(frame[0] == 4, frame[1], &frame[3..])
+    /// Does what a notice says.
+    pub fn take(&mut self, notice: &Notice) -> Result<Opened, u8> {
+        match notice {
+            Notice::Opening { is_yard, code, neighbours } => self.open_as(*is_yard, *code, neighbours),
+            Notice::Link(first, second) => self.link(*first, *second),
+            Notice::Closing(code) => self.close(*code),
+        }
     }
 
-    fn open_as(&mut self, is_yard: bool, code: u8, neighbours: &[u8]) -> Result<Opened, u8> {
-        match refusal(&self.network.open, code, neighbours) {
+    fn open_as(&mut self, is_yard: bool, a: usize, neighbours: &[usize]) -> Result<Opened, u8> {
+        match refusal(self.shape, &self.network, a, neighbours) {
             0 => {}
             refusal => return Err(refusal),
         }
-        let a = usize::from(code);
         self.network.open.insert(a);
         if is_yard {
             self.network.yards.insert(a);
         }
         for &v in neighbours {
-            self.network.link(a, v.into());
+            self.network.link(a, v);
         }
+        self.rows.open(a);
         let opened = opening(&self.network, &self.figures, a);
         self.figures = opened.work.figures.clone();
         Ok(opened)

@@ -23,7 +23,7 @@ impl Mean {
 pub struct Summary {
     /// Over all pairs u < v of depots that deliver.
     pub mean: Mean,
-    /// How many depots have the eccentricity 0, 1 and so on: 256 places.
+    /// How many depots have the eccentricity 0, 1 and so on, up to the greatest.
     pub counts: Vec<u16>,
 }
 
@@ -33,13 +33,15 @@ impl Network {
         if self.delivering().count() < 2 {
             return None;
         }
-        let mut counts = vec![0; 256];
+        let mut counts = Vec::new();
         let (mut sum, mut pairs) = (0, 0);
         for u in self.delivering() {
             let distances = self.distances(u);
-            counts[self.eccentricity(&distances)] += 1;
+            let e = self.eccentricity(&distances);
+            counts.resize(counts.len().max(e + 1), 0);
+            counts[e] += 1;
             for v in self.delivering().filter(|&v| u < v) {
-                sum += distances[v].expect("the network hangs together") as u64;
+                sum += distances.of(v) as u64;
                 pairs += 1;
             }
         }
