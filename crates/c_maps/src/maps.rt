@@ -27,7 +27,7 @@ pub extern "C" fn zorpedi_empty(words: &mut [u64], links: &mut [u64], pairs: &mu
 
 // The search from a depot. 0, its eccentricity, which is to depots that deliver, and its depth, the distance of the last layer, which is of all open
 // depots; or 1 (short), 2 (spoilt), 3 (apart), 4 (absent).
-#[tactic(auto, unfolding(crate::specs::Outs::search_out))]
+#[tactic(auto, unfolding(crate::specs::Outs::search_out, c_values::specs::Outs::on_words))]
 #[unsafe(no_mangle)]
 pub extern "C" fn zorpedi_search(
     words: &[u64],

@@ -7,7 +7,7 @@ use map::Scratch;
 use outcome::Refusal;
 
 // The depots at most k handovers from a depot. 0, and how many they are; or 1 (short), 2 (spoilt), 3 (apart), 4 (absent).
-#[tactic(auto, unfolding(crate::specs::Nears::within_out))]
+#[tactic(auto, unfolding(crate::specs::Nears::within_out, c_values::specs::Outs::on_words))]
 #[unsafe(no_mangle)]
 pub extern "C" fn zorpedi_within(
     words: &[u64],
@@ -40,7 +40,7 @@ pub extern "C" fn zorpedi_within(
 }
 
 // The open depot of a list nearest to a depot. 0, the depot found and its distance; or 1 (short), 2 (spoilt), 3 (apart), 4 (absent), 10 (nobody).
-#[tactic(auto, unfolding(crate::specs::Nears::nearest_out))]
+#[tactic(auto, unfolding(crate::specs::Nears::nearest_out, c_values::specs::Outs::on_words))]
 #[unsafe(no_mangle)]
 pub extern "C" fn zorpedi_nearest(
     words: &[u64],

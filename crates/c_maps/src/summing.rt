@@ -8,7 +8,7 @@ use outcome::Refusal;
 
 // The network report. 0, the sum of the distances, the number of pairs, quotient and remainder of the mean; or 1 (short), 2 (spoilt), 3 (apart),
 // 15 (too few).
-#[tactic(auto, unfolding(crate::specs::Summaries::summary_out))]
+#[tactic(auto, unfolding(crate::specs::Summaries::summary_out, c_values::specs::Outs::on_words))]
 #[unsafe(no_mangle)]
 pub extern "C" fn zorpedi_summary(
     words: &[u64],
