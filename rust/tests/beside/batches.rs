@@ -1,7 +1,7 @@
 //! Openings in a batch: lines in any order, two notices for one code, lines that cannot be opened, garbled lines, too many lines or none; on true maps,
 //! false figures, damaged maps and memory of no map.
 use crate::both::{empty, open, open_batch, open_yard, reckon};
-use crate::expected::{network, store_map};
+use crate::expected::{network, store_map, CHAIN, COUNT, NUMBER};
 use crate::inputs::growths::some_size;
 use crate::inputs::lines::{longest_line, notice_line, opening_line, yard_line};
 use crate::inputs::{Dice, Growth, SHAPES};
@@ -77,7 +77,7 @@ fn a_chain_of_64_lines_in_reverse_order() {
         let mut m = path(24_000_000, &[0]);
         let mut single = m.clone();
         assert_eq!(open_batch(&mut m, &lines.concat()), 0);
-        assert_eq!((m.left_count, &m.record.data[4..7]), (0, &[65, 64, 1][..]));
+        assert_eq!((m.left_count, &m.record.data[NUMBER..=COUNT]), (0, &[65, 64, 1][..]));
         // one by one, in the order in which they can be opened
         for i in 1..=64 {
             assert_eq!(open(&mut single, code(i), &[code(i - 1)]), b'G');
@@ -98,7 +98,7 @@ fn a_chain_of_64_lines_in_any_order() {
         }
         let mut m = path(24_100_000 + seed, &[0]);
         assert_eq!((open_batch(&mut m, &lines.concat()), m.left_count), (0, 0));
-        assert_eq!(m.record.data[4..7], [65, 64, 1]);
+        assert_eq!(m.record.data[NUMBER..=COUNT], [65, 64, 1]);
     }
 }
 
@@ -109,7 +109,7 @@ fn the_first_of_two_notices_for_a_code() {
     let mut m = path(24_200_000, &[0]);
     assert_eq!((open_batch(&mut m, &lines.concat()), left(&m)), (0, &[2][..]));
     assert!(are_linked(&m, 9, 20) && !are_linked(&m, 9, 0));
-    assert_eq!(m.record.data[4..7], [3, 2, 1]);
+    assert_eq!(m.record.data[NUMBER..=COUNT], [3, 2, 1]);
     // with the lines about it the other way round 9 stands beside 0
     let mut m = path(24_200_000, &[0]);
     let lines = [&lines[2], &lines[1], &lines[0]].map(|line| line.as_slice());
@@ -131,19 +131,19 @@ fn yards_in_a_batch() {
         let mut m = path(24_250_000, &[0]);
         assert_eq!((open_batch(&mut m, &lines.concat()), left(&m)), (0, &[2][..]));
         assert_eq!(network(&m).yards, if first { BTreeSet::from([9, 20]) } else { BTreeSet::from([20]) });
-        assert_eq!(m.record.data[4..7], if first { [3, 0, 0] } else { [3, 2, 1] });
+        assert_eq!(m.record.data[NUMBER..=COUNT], if first { [3, 0, 0] } else { [3, 2, 1] });
     }
     let lines: Vec<Vec<u8>> = (1..=64).rev().map(|i| opening_line(i % 2 == 1, 3 * i, &[3 * (i - 1) as u8])).collect();
     let mut m = path(24_260_000, &[0]);
     assert_eq!((open_batch(&mut m, &lines.concat()), m.left_count), (0, 0));
-    assert_eq!(m.record.data[4..7], [65, 64, 1]);
+    assert_eq!(m.record.data[NUMBER..=COUNT], [65, 64, 1]);
     assert_eq!(network(&m).yards, (1..=64).step_by(2).map(|i| 3 * i).collect());
     // a yard is refused as a depot is: taken, lonely, unsorted, unknown
     let lines = [yard_line(0, &[3]), yard_line(200, &[]), yard_line(200, &[3, 0]), yard_line(200, &[200]), notice_line(3, &[0])];
     assert_eq!((open_batch(&mut m, &lines.concat()), m.left_count), (0, 5));
     // one yard that is open bears a batch
     assert_eq!((empty(&mut m), open_yard(&mut m, 7, &[])), (0, b'K'));
-    assert_eq!((open_batch(&mut m, &notice_line(8, &[7])), m.left_count, m.record.data[4]), (0, 0, 2));
+    assert_eq!((open_batch(&mut m, &notice_line(8, &[7])), m.left_count, m.record.data[NUMBER]), (0, 0, 2));
 }
 
 /// A line for each way to be refused, and none of them stands in the way of the others: taken, lonely, unsorted, unknown, itself, twice the same.
@@ -203,7 +203,7 @@ fn a_full_map() {
     let mut m = path(24_600_000, &(0..=254).collect::<Vec<u8>>());
     let lines = [longest_line(), notice_line(255, &[0])];
     assert_eq!((open_batch(&mut m, &lines.concat()), left(&m)), (0, &[1][..]));
-    assert_eq!(m.record.data[4..6], [256, 2]);
+    assert_eq!(m.record.data[NUMBER..=CHAIN], [256, 2]);
     let before = without_left(&m);
     assert_eq!((open_batch(&mut m, &lines.concat()), left(&m)), (0, &[0, 1][..]));
     assert_eq!(without_left(&m), before);
@@ -327,12 +327,12 @@ fn the_first_refusal_of_several() {
     // depots 5 and 150 are open without links; nobody counts them; a row is short
     m.record.data[0] = 1 << 5;
     m.record.data[2] = 1 << (150 - 128);
-    m.record.data[4] = 2;
+    m.record.data[NUMBER] = 2;
     assert_eq!(open_batch(&mut m, &b"\n".repeat(65)), 3);
     let mut figures = m.clone();
-    figures.record.data[6] = 1;
+    figures.record.data[COUNT] = 1;
     assert_eq!(open_batch(&mut figures, &b"\n".repeat(65)), 2);
-    m.record.data[4] = 0;
+    m.record.data[NUMBER] = 0;
     assert_eq!(open_batch(&mut m, &b"\n".repeat(65)), 2);
     m.set_lent(12, 63);
     assert_eq!(open_batch(&mut m, &b"\n".repeat(65)), 1);

@@ -1,6 +1,6 @@
 //! The calls on a map, by chance: lists of openings, true and false figures, damaged maps, any memory. Links are tried more closely in links.rs.
 use crate::both::{empty, link, open, open_as, open_batch, open_yard, reckon, search, summary};
-use crate::expected::{network, store_map};
+use crate::expected::{network, store_map, CHAIN, TABLE};
 use crate::inputs::growths::some_size;
 use crate::inputs::{Dice, Growth, SHAPES};
 use crate::lent::SIZES;
@@ -81,7 +81,7 @@ fn run_list(seed: u64, size: usize, tally: &mut Tally) {
             assert_eq!(open_as(&mut short, is_yard, code, &neighbours), 1);
             tally.count(1);
         }
-        let chain = m.record.data[5];
+        let chain = m.record.data[CHAIN];
         let answer = open_as(&mut m, is_yard, code, &neighbours);
         tally.count(answer);
         if b"GKS".contains(&answer) && (size <= 40 || dice.once_in(8)) {
@@ -131,7 +131,7 @@ fn searches_and_reckonings_of_true_maps() {
         for word in [5, 6] {
             m.record.data[word] = dice.word();
         }
-        for word in 0..1024 {
+        for word in 0..TABLE {
             m.pairs.data[word] = dice.word();
         }
         assert_eq!(reckon(&mut m), 0);

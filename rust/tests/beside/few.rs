@@ -1,6 +1,6 @@
 //! Every growth of a few depots, with every choice of yards among them, on true figures and on false but sound ones.
 use crate::both::{empty, open_as};
-use crate::expected::{store_figures, store_map};
+use crate::expected::{store_figures, store_map, CHAIN};
 use crate::inputs::Dice;
 use crate::lent::Lent;
 use crate::maps::any_memory;
@@ -30,7 +30,7 @@ fn grow(m: &Lent, i: usize, size: usize, kinds: &[bool], tally: &mut Tally) {
         for &is_yard in kinds {
             let mut next = m.clone();
             let letter = open_as(&mut next, is_yard, CODES[i], &neighbours);
-            assert_opened(&next, m.record.data[5], CODES[i], letter);
+            assert_opened(&next, m.record.data[CHAIN], CODES[i], letter);
             tally.count(letter);
             if i + 1 < size {
                 grow(&next, i + 1, size, kinds, tally);

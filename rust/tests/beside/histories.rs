@@ -1,7 +1,7 @@
 //! Histories of openings: a network of a shape grows depot by depot, and before each opening come calls that are bent so that they are refused. In some
 //! the depots open in batches too, whose lines are shuffled; in some there are yards among them.
 use crate::both::{empty, open_as, open_batch, reckon};
-use crate::expected::{network, store_figures};
+use crate::expected::{network, store_figures, CHAIN, COUNT, NUMBER};
 use crate::inputs::lines::{notice_line, opening_line};
 use crate::inputs::{Dice, Growth, Shape};
 use crate::lent::{Lent, SIZES};
@@ -131,7 +131,7 @@ impl History {
     fn call(&mut self, notice: &Notice) -> u8 {
         self.doubt();
         self.calls += 1;
-        let before = self.m.record.data[5];
+        let before = self.m.record.data[CHAIN];
         let answer = match notice.short {
             None => open_as(&mut self.m, notice.is_yard, notice.code, &notice.neighbours),
             Some(which) => {
@@ -324,7 +324,7 @@ fn mixed(shape: Shape, letters: &[u8]) {
     let history = all_depots(shape, 1);
     history.tally.assert_all(&[1, 5, 6, 7, 8], 8);
     history.tally.assert_all(letters, 1);
-    assert_eq!((history.calls, history.m.record.data[4]), (512, 256));
+    assert_eq!((history.calls, history.m.record.data[NUMBER]), (512, 256));
 }
 
 #[test]
@@ -354,20 +354,20 @@ fn all_depots_and_yards() {
         growth.yards = (0..256).step_by(every).collect();
         let history = history.grow(&growth, 256, 1);
         history.tally.assert_all(b"GK", 1);
-        assert_eq!((history.calls, history.m.record.data[4], network(&history.m).yards), (512, 256, growth.yards));
+        assert_eq!((history.calls, history.m.record.data[NUMBER], network(&history.m).yards), (512, 256, growth.yards));
     }
 }
 
 #[test]
 fn all_depots_in_a_path() {
     let record = all_depots(Shape::Path, 0).m.record.data;
-    assert_eq!(record[4..7], [256, 255, 1]);
+    assert_eq!(record[NUMBER..=COUNT], [256, 255, 1]);
 }
 
 #[test]
 fn all_depots_linked() {
     let record = all_depots(Shape::Whole, 0).m.record.data;
-    assert_eq!(record[4..7], [256, 1, 32_640]);
+    assert_eq!(record[NUMBER..=COUNT], [256, 1, 32_640]);
 }
 
 /// Openings and batches in turns: the network of a shape grows whole, whatever the order of the lines.
@@ -377,7 +377,7 @@ fn in_batches(shape: Shape, size: usize, letters: &[u8]) {
         let mut history = History::begun(23_100_000 + way as u64, None);
         let growth = Growth::spread(&mut history.dice, shape, way, 29 * way + 5);
         let history = history.grow_mixed(&growth, size);
-        assert!(history.m.record.data[4] as usize <= size);
+        assert!(history.m.record.data[NUMBER] as usize <= size);
         tally.add(&history.tally);
     }
     tally.assert_all(&[0, 9, 11, 12], 4);

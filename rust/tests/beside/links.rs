@@ -1,8 +1,7 @@
 //! Links between two open depots: on every network of up to five depots and on others by chance, with true figures and with false but sound ones, between
 //! openings and batches, as calls and as lines; and cases worked by hand. What a link leaves is held to a search from every depot as well.
 use crate::both::{self, empty, feed, open, open_as, open_batch, read, reckon, write};
-use crate::expected::bits_of_table;
-use crate::expected::{network, store_figures, store_map};
+use crate::expected::{bits_of_table, network, store_figures, store_map, CHAIN, COUNT, NUMBER};
 use crate::inputs::growths::some_size;
 use crate::inputs::lines::{link_line, notice_line, opening_line};
 use crate::inputs::{Dice, Growth, SHAPES};
@@ -63,7 +62,7 @@ fn every_link_of_up_to_five_depots() {
             let answer = link(&mut next, u as u8, v as u8);
             assert_eq!(answer == 14, network.are_linked(u, v));
             if answer != 14 {
-                assert_linked(&next, m.record.data[5], u as u8, v as u8, answer);
+                assert_linked(&next, m.record.data[CHAIN], u as u8, v as u8, answer);
             }
             tally.count(answer);
         }
@@ -99,7 +98,7 @@ fn every_link_of_up_to_four_depots_and_yards() {
             let answer = link(&mut next, u as u8, v as u8);
             assert_eq!(answer == 14, network.are_linked(u, v));
             if answer != 14 {
-                assert_linked(&next, m.record.data[5], u as u8, v as u8, answer);
+                assert_linked(&next, m.record.data[CHAIN], u as u8, v as u8, answer);
             }
             tally.count(answer);
         }
@@ -196,7 +195,7 @@ fn histories_with_links() {
         assert_eq!(empty(&mut m), 0);
         let mut next = 0;
         while next < size {
-            let chain = m.record.data[5];
+            let chain = m.record.data[CHAIN];
             if dice.once_in(3) {
                 let (first, second, answer) = some_link(&mut dice, &mut m);
                 if b"KS".contains(&answer) && (size < 256 || dice.once_in(8)) {
@@ -293,7 +292,7 @@ fn links_one_after_the_other() {
         let mut ends: Vec<(usize, usize)> = codes.iter().flat_map(|&u| codes.iter().map(move |&v| (u, v))).filter(|p| p.0 < p.1).collect();
         dice.shuffle(&mut ends);
         for (u, v) in ends.into_iter().take(60) {
-            let chain = m.record.data[5];
+            let chain = m.record.data[CHAIN];
             let answer = link(&mut m, u as u8, v as u8);
             if answer != 14 {
                 assert_linked(&m, chain, u as u8, v as u8, answer);
@@ -392,7 +391,7 @@ fn path(size: usize) -> Lent {
 
 /// chain and pairs
 fn figures(m: &Lent) -> (u64, Vec<(usize, usize)>) {
-    (m.record.data[5], bits_of_table(&m.pairs.data).into_iter().collect())
+    (m.record.data[CHAIN], bits_of_table(&m.pairs.data).into_iter().collect())
 }
 
 /// The path of seven becomes a ring: every eccentricity is 3, no bound is below it, and 5 is searched last.
@@ -465,11 +464,11 @@ fn the_first_refusal_of_several() {
     assert_eq!((link(&mut m, 0, 1), link(&mut m, 1, 1), link(&mut m, 1, 7), link(&mut m, 7, 7)), (14, 13, 4, 4));
     // depot 7 without links; a pair that nobody counts; a row that is short
     m.record.data[0] |= 1 << 7;
-    m.record.data[4] = 4;
+    m.record.data[NUMBER] = 4;
     assert_eq!((link(&mut m, 0, 1), link(&mut m, 1, 1), link(&mut m, 8, 8)), (3, 3, 3));
-    m.record.data[6] += 1;
+    m.record.data[COUNT] += 1;
     assert_eq!((link(&mut m, 0, 1), link(&mut m, 1, 1), link(&mut m, 8, 8), link(&mut m, 0, 2)), (2, 2, 2, 2));
-    m.record.data[4] = 3;
+    m.record.data[NUMBER] = 3;
     assert_eq!((link(&mut m, 0, 1), link(&mut m, 1, 1), link(&mut m, 8, 8), link(&mut m, 0, 2)), (2, 2, 2, 2));
     for which in 0..8 {
         let mut short = m.clone();

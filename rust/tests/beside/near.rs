@@ -1,7 +1,7 @@
 //! The depots within so many handovers, and the nearest of a list: on true maps of every shape, damaged maps and memory of no map; every bound of k that
 //! matters, and lists that are empty, long, closed, repeated or hold the start.
 use crate::both::{empty, nearest, open, search, within};
-use crate::expected::network;
+use crate::expected::{network, CHAIN, COUNT, NUMBER, TABLE};
 use crate::inputs::Dice;
 use crate::lent::{Lent, SIZES};
 use crate::maps::{any_memory, damage, true_map, DAMAGES};
@@ -142,9 +142,9 @@ fn the_first_refusal_of_several() {
     assert_eq!((nearest(&mut m, 30, &[30]), nearest(&mut m, 30, &[]), within(&mut m, 30, 5)), (4, 4, 4));
     // depot 150 is open without a link; the number open is wrong; a row is short
     m.record.data[2] |= 1 << (150 - 128);
-    m.record.data[4] = 3;
+    m.record.data[NUMBER] = 3;
     assert_eq!((nearest(&mut m, 30, &[]), within(&mut m, 30, 5)), (3, 3));
-    m.record.data[4] = 2;
+    m.record.data[NUMBER] = 2;
     assert_eq!((nearest(&mut m, 30, &[]), within(&mut m, 30, 5)), (2, 2));
     m.set_lent(7, 3);
     assert_eq!((nearest(&mut m, 30, &[]), within(&mut m, 30, 5)), (1, 1));
@@ -156,8 +156,8 @@ fn figures_do_not_matter() {
     let mut m = any_memory(&mut Dice::new(22_500_000));
     assert_eq!(empty(&mut m), 0);
     open(&mut m, 7, &[]);
-    (m.record.data[5], m.record.data[6]) = (u64::MAX, 9);
-    m.pairs.data[..1024].fill(u64::MAX);
+    (m.record.data[CHAIN], m.record.data[COUNT]) = (u64::MAX, 9);
+    m.pairs.data[..TABLE].fill(u64::MAX);
     assert_eq!((within(&mut m, 7, 0), nearest(&mut m, 7, &[7])), (0, 0));
 }
 

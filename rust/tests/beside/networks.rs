@@ -1,6 +1,6 @@
 //! Searches and reckonings of every kind of network, at sizes about a word's end, the greatest and the least.
 use crate::both::{reckon, search};
-use crate::expected::store_map;
+use crate::expected::{store_map, CHAIN, COUNT, TABLE};
 use crate::inputs::{Dice, Growth, Shape};
 use crate::maps::any_memory;
 use crate::plain::{Figures, Map};
@@ -18,8 +18,8 @@ fn try_network(shape: Shape, which: usize, has_yards: bool, searched: &mut Tally
     }
     let mut m = any_memory(&mut dice);
     store_map(&mut m, &Map::of(Figures::default(), growth.network(&mut dice, size)));
-    (m.record.data[5], m.record.data[6]) = (999, 5);
-    m.pairs.data[..1024].fill(7);
+    (m.record.data[CHAIN], m.record.data[COUNT]) = (999, 5);
+    m.pairs.data[..TABLE].fill(7);
     // the first depot, the last, and codes all over
     let ends = [growth.order[0], growth.order[size.max(1) - 1]];
     for code in ends.into_iter().chain((0..5).map(|k| 51 * k + 3)) {

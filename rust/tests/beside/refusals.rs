@@ -1,7 +1,6 @@
 //! Faults one by one, on a grid of 100 depots of the codes 0 to 99: each call is held to the refusal that has to come, and to changing nothing.
 use crate::both::{empty, feed, finish, link, nearest, open, open_batch, open_yard, reckon, search, summary, within};
-use crate::expected::bits_of_table;
-use crate::expected::{store_map, YARDS};
+use crate::expected::{bits_of_table, store_map, CHAIN, COUNT, NUMBER, PLACES, TABLE, YARDS};
 use crate::inputs::{Dice, Growth, Shape};
 use crate::lent::Lent;
 use crate::maps::{any_memory, flip};
@@ -60,7 +59,7 @@ fn each_single_link_bit() {
 #[test]
 fn some_single_link_bits_with_every_call() {
     let mut m = grid();
-    for i in 0..1024 {
+    for i in 0..TABLE {
         let (u, v) = (i % 256, (i + 64 * (i / 256)) % 256);
         flip(&mut m.links.data, u, v);
         assert_eq!(answers(&m), [2; 7], "bit {v} of row {u}");
@@ -88,7 +87,7 @@ fn links_to_closed_codes() {
 fn every_number_open_but_the_right_one() {
     let mut m = grid();
     for number in (0..300).chain([65_536 + 100, (1 << 32) + 100, u64::MAX]) {
-        m.record.data[4] = number;
+        m.record.data[NUMBER] = number;
         let right = if number == 100 { [0, 0, b'K', b'S', 0, 0, 0] } else { [2; 7] };
         assert_eq!(answers(&m), right, "{number} open");
     }
@@ -101,7 +100,7 @@ fn each_code_of_the_open_set() {
         let mut m = grid();
         m.record.data[v / 64] ^= 1 << (v % 64);
         assert_eq!(answers(&m), [2; 7], "code {v}, not counted");
-        m.record.data[4] = if v < 100 { 99 } else { 101 };
+        m.record.data[NUMBER] = if v < 100 { 99 } else { 101 };
         assert_eq!(answers(&m), [if v < 100 { 2 } else { 3 }; 7], "code {v}");
     }
 }
@@ -144,9 +143,9 @@ fn single_pairs() {
         let (u, v) = (i % 128, 32 * (i / 128) + i % 32);
         for count in 0..3 {
             let mut m = grid();
-            m.pairs.data[..1024].fill(0);
+            m.pairs.data[..TABLE].fill(0);
             flip(&mut m.pairs.data, u, v);
-            (m.record.data[5], m.record.data[6]) = (3, count);
+            (m.record.data[CHAIN], m.record.data[COUNT]) = (3, count);
             let answer = feed(&mut m.clone(), b"");
             assert_eq!(answer, if u < v && v < 100 && count == 1 { 0 } else { 2 }, "pair {u}, {v}, counted {count}");
             let opened = open(&mut m.clone(), 200, &[0]);
@@ -165,16 +164,16 @@ fn single_pairs() {
 fn every_chain() {
     for chain in (0..300).chain([65_536, 65_536 + 3, 1 << 32, u64::MAX]) {
         let mut m = grid();
-        m.record.data[5] = chain;
-        assert_eq!(feed(&mut m.clone(), b""), if chain < 256 { 0 } else { 2 }, "chain {chain}");
+        m.record.data[CHAIN] = chain;
+        assert_eq!(feed(&mut m.clone(), b""), if chain < PLACES as u64 { 0 } else { 2 }, "chain {chain}");
         assert_eq!(open(&mut m.clone(), 200, &[0]) == 2, chain > 255);
         assert_eq!(link(&mut m.clone(), 0, 99) == 2, chain > 255);
-        assert_eq!(open_batch(&mut m.clone(), LINE), if chain < 256 { 0 } else { 2 });
+        assert_eq!(open_batch(&mut m.clone(), LINE), if chain < PLACES as u64 { 0 } else { 2 });
         assert_eq!((search(&mut m.clone(), 0), reckon(&mut m.clone())), (0, 0));
         assert_eq!(empty(&mut m), 0);
-        m.record.data[5] = chain;
-        assert_eq!(open_batch(&mut m, LINE), if chain < 256 { 12 } else { 2 });
-        assert_eq!(link(&mut m, 0, 0), if chain < 256 { 4 } else { 2 });
+        m.record.data[CHAIN] = chain;
+        assert_eq!(open_batch(&mut m, LINE), if chain < PLACES as u64 { 12 } else { 2 });
+        assert_eq!(link(&mut m, 0, 0), if chain < PLACES as u64 { 4 } else { 2 });
         let first = [b'K', b'S', 2][usize::from(chain > 0) + usize::from(chain > 255)];
         assert_eq!(open(&mut m, 7, &[]), first, "the first opening, chain {chain}");
     }
@@ -199,12 +198,12 @@ fn the_first_refusal_of_several() {
     assert_eq!((open_batch(&mut m, b"\n"), open_batch(&mut m, &[b'\n'; 65])), (9, 11));
     // depot 150 is open without a link
     m.record.data[2] |= 1 << (150 - 128);
-    m.record.data[4] = 101;
+    m.record.data[NUMBER] = 101;
     assert_eq!((open(&mut m, 0, &[]), search(&mut m, 200), reckon(&mut m), open_batch(&mut m, &[b'\n'; 65])), (3, 3, 3, 3));
     assert_eq!((link(&mut m, 0, 1), link(&mut m, 1, 1), link(&mut m, 200, 200), open_yard(&mut m, 0, &[])), (3, 3, 3, 3));
     // the pair count is wrong: only who looks at figures sees it
     let mut figures = m.clone();
-    figures.record.data[6] += 1;
+    figures.record.data[COUNT] += 1;
     assert_eq!((open(&mut figures, 0, &[]), search(&mut figures, 200), reckon(&mut figures)), (2, 3, 3));
     assert_eq!((feed(&mut figures, b""), finish(&mut figures), open_batch(&mut figures, &[b'\n'; 65])), (2, 2, 2));
     assert_eq!((link(&mut figures, 0, 1), link(&mut figures, 1, 1), link(&mut figures, 200, 200)), (2, 2, 2));
@@ -213,7 +212,7 @@ fn the_first_refusal_of_several() {
     yard.record.data[YARDS + 3] = 1 << 63;
     assert_eq!((open(&mut yard, 0, &[]), open_yard(&mut yard, 0, &[]), search(&mut yard, 200), reckon(&mut yard)), (2, 2, 2, 2));
     // so is the number open
-    m.record.data[4] = 100;
+    m.record.data[NUMBER] = 100;
     assert_eq!((open(&mut m, 0, &[]), search(&mut m, 200), reckon(&mut m), open_batch(&mut m, &[b'\n'; 65])), (2, 2, 2, 2));
     assert_eq!((link(&mut m, 0, 1), link(&mut m, 1, 1), link(&mut m, 200, 200)), (2, 2, 2));
     m.set_lent(7, 3);

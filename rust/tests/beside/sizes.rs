@@ -1,5 +1,6 @@
 //! Buffers one element below their named size, at it and one above it, in every combination, for every call.
 use crate::both::{empty, feed, finish, link, nearest, open, open_batch, open_yard, read, reckon, report, search, summary, within, write};
+use crate::expected::{RECORD, YARDS};
 use crate::inputs::lines::notice_line;
 use crate::inputs::Dice;
 use crate::lent::{Lent, SIZES};
@@ -91,7 +92,7 @@ fn of_an_opening() {
 #[test]
 fn of_a_record_without_its_yards() {
     let (mut m, code) = small_map(900);
-    m.record.data[7..11].fill(0);
+    m.record.data[YARDS..RECORD].fill(0);
     let closed = closed_code(&m);
     (m.held, m.lines) = (3, 5);
     for words in 0..=12 {
@@ -110,7 +111,7 @@ fn of_a_record_without_its_yards() {
             feed(&mut m.clone(), b""),
             finish(&mut m.clone()),
         ];
-        assert!(answers.iter().all(|&answer| (answer == 1) == (words < 11)), "{words} words: {answers:?}");
+        assert!(answers.iter().all(|&answer| (answer == 1) == (words < RECORD)), "{words} words: {answers:?}");
     }
 }
 

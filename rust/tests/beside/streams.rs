@@ -1,10 +1,11 @@
 //! The stream: pieces of many sizes, little room for reports, damaged maps, the last lines.
 use crate::both::{empty, feed, finish};
-use crate::expected::RECORD;
+use crate::expected::{NUMBER, RECORD, TABLE};
 use crate::inputs::lines::{link_line, some_input, some_line};
 use crate::inputs::{Dice, Growth, SHAPES};
 use crate::lent::{Buffer, Lent, SIZES};
 use crate::maps::{any_memory, damage, true_map, DAMAGES};
+use crate::plain::TODAY;
 use crate::tally::Tally;
 
 fn begun(dice: &mut Dice) -> Lent {
@@ -49,7 +50,7 @@ fn pieces_of_many_sizes() {
         whole.extend_from_slice(&m.out.data[..m.written]);
         let lines = whole.iter().filter(|&&b| b == 0x0A).count();
         assert_eq!(lines as u32, m.lines);
-        let (record, links, pairs) = (m.record.data[..RECORD].to_vec(), m.links.data[..1024].to_vec(), m.pairs.data[..1024].to_vec());
+        let (record, links, pairs) = (m.record.data[..RECORD].to_vec(), m.links.data[..TABLE].to_vec(), m.pairs.data[..TABLE].to_vec());
         for (piece, room) in [(1, 48), (7, 95), (40, 96), (600, 200), (5_000, 1_000)] {
             // a call compares all memory, so that few bytes a call are for short inputs
             if input.len() > 60 * piece {
@@ -57,7 +58,7 @@ fn pieces_of_many_sizes() {
             }
             let mut m = begun(&mut dice);
             assert_eq!(run(&mut m, &mut dice, &input, piece, room), whole);
-            assert_eq!((&m.record.data[..RECORD], &m.links.data[..1024], &m.pairs.data[..1024]), (&record[..], &links[..], &pairs[..]));
+            assert_eq!((&m.record.data[..RECORD], &m.links.data[..TABLE], &m.pairs.data[..TABLE]), (&record[..], &links[..], &pairs[..]));
         }
     }
 }
@@ -74,7 +75,7 @@ fn growths_of_256_depots() {
         let mut m = begun(&mut dice);
         m.out = Buffer::new(dice.bytes(48 * 257));
         assert_eq!(feed(&mut m, &input), 0);
-        assert_eq!((m.used, m.lines, m.record.data[4]), (input.len(), 256, 256));
+        assert_eq!((m.used, m.lines, m.record.data[NUMBER]), (input.len(), 256, 256));
     }
 }
 
@@ -95,13 +96,13 @@ fn from_any_memory() {
             _ => {}
         }
         match dice.below(6) {
-            0 => m.held = 517 + dice.below(3),
+            0 => m.held = TODAY.line + dice.below(3),
             1 => m.held = dice.pick(&[usize::MAX, 1 << 32]),
             2 => m.held = 0,
             3 => {
                 // a whole line is held, as no stream holds it
                 let line = some_line(&mut dice);
-                m.held = line.len().min(517);
+                m.held = line.len().min(TODAY.line);
                 m.line.data[..m.held].copy_from_slice(&line[..m.held]);
             }
             _ => {}

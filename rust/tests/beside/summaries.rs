@@ -1,6 +1,7 @@
 //! The network report: on true maps of every shape, damaged maps and memory of no map, the greatest networks, and each refusal. What is answered is
 //! held to the searches of the archive as well.
 use crate::both::{empty, open, open_yard, search, summary};
+use crate::expected::{CHAIN, COUNT, NUMBER, PLACES};
 use crate::inputs::Dice;
 use crate::lent::{Lent, SIZES};
 use crate::maps::{any_figures, any_memory, damage, true_map, DAMAGES};
@@ -14,7 +15,7 @@ fn assert_summed(m: &Lent, network: &Network) {
     assert_eq!(2 * m.pair_number, n * (n - 1));
     assert_eq!(m.quotient * m.pair_number + m.remainder, m.sum);
     assert!(m.remainder < m.pair_number);
-    let counts = &m.counts.data[..256];
+    let counts = &m.counts.data[..PLACES];
     assert_eq!(counts.iter().map(|&c| u64::from(c)).sum::<u64>(), n);
     let (mut again, mut sums) = (vec![0; 256], 0);
     let mut searched = m.clone();
@@ -113,7 +114,7 @@ fn the_greatest_networks() {
     }
     assert_eq!(summary(&mut path), 0);
     assert_eq!((path.sum, path.pair_number, path.quotient, path.remainder), (2_796_160, 32_640, 85, 21_760));
-    assert!(path.counts.data[..128].iter().all(|&n| n == 0) && path.counts.data[128..256].iter().all(|&n| n == 2));
+    assert!(path.counts.data[..128].iter().all(|&n| n == 0) && path.counts.data[128..PLACES].iter().all(|&n| n == 2));
 
     let mut whole = any_memory(&mut Dice::new(27_500_000));
     assert_eq!(empty(&mut whole), 0);
@@ -135,9 +136,9 @@ fn the_first_refusal_of_several() {
     assert_eq!(summary(&mut m), 15);
     // depot 150 is open without a link; the number open is wrong; a buffer is short
     m.record.data[2] |= 1 << (150 - 128);
-    m.record.data[4] = 2;
+    m.record.data[NUMBER] = 2;
     assert_eq!(summary(&mut m), 3);
-    m.record.data[4] = 1;
+    m.record.data[NUMBER] = 1;
     assert_eq!(summary(&mut m), 2);
     m.set_lent(13, 255);
     assert_eq!(summary(&mut m), 1);
@@ -168,7 +169,7 @@ fn figures_do_not_matter() {
         let first = summary(&mut m);
         let mut other = m.clone();
         expected::store_figures(&mut other, &any_figures(&mut dice, &network));
-        (other.record.data[5], other.record.data[6]) = (dice.word(), dice.word());
+        (other.record.data[CHAIN], other.record.data[COUNT]) = (dice.word(), dice.word());
         assert_eq!(summary(&mut other), first);
         assert_eq!((other.sum, &other.counts), (m.sum, &m.counts));
         if first == 0 {

@@ -1,6 +1,6 @@
 //! The worked cases of docs/RULES.md, by their numbers; the plain implementation is held to them as well.
 use crate::both::{empty, feed, finish, link, nearest, open, read, reckon, report, search, summary, within, write};
-use crate::expected::bits_of_table;
+use crate::expected::{bits_of_table, CHAIN, COUNT, NUMBER, PLACES, TABLE};
 use crate::inputs::Dice;
 use crate::lent::{Buffer, Lent};
 use crate::maps::any_memory;
@@ -17,7 +17,7 @@ fn emptied() -> Lent {
 
 /// depots, chain, pair count
 fn figures(m: &Lent) -> (u64, u64, u64) {
-    (m.record.data[4], m.record.data[5], m.record.data[6])
+    (m.record.data[NUMBER], m.record.data[CHAIN], m.record.data[COUNT])
 }
 
 fn pairs(m: &Lent) -> Vec<(usize, usize)> {
@@ -144,7 +144,7 @@ fn the_summary_of_the_path_of_seven() {
     assert_eq!(summary(&mut m), 0);
     assert_eq!((m.sum, m.pair_number, m.quotient, m.remainder), (56, 21, 2, 14));
     assert_eq!(m.counts.data[..8], [0, 0, 0, 1, 2, 2, 2, 0]);
-    assert!(m.counts.data[8..256].iter().all(|&n| n == 0));
+    assert!(m.counts.data[8..PLACES].iter().all(|&n| n == 0));
     assert_eq!(m.hops.data[..8], [6, 5, 4, 3, 2, 1, 0, 65_535]);
     assert_eq!((m.even.data[0], m.odd.data[0]), (1, 2));
 }
@@ -156,8 +156,8 @@ fn figures_before_a_reckoning() {
     open(&mut single, 0, &[]);
     for (mut m, right, searches) in [(emptied(), (0, 0, 0), 0), (single, (1, 0, 0), 1), (path_of_seven(), (7, 6, 1), 6)] {
         for (chain, count) in [(right.1, right.2), (3, 2), (5, 2), (65_535, u32::MAX.into()), (u64::MAX, u64::MAX)] {
-            (m.record.data[5], m.record.data[6]) = (chain, count);
-            m.pairs.data[..1024].fill(count);
+            (m.record.data[CHAIN], m.record.data[COUNT]) = (chain, count);
+            m.pairs.data[..TABLE].fill(count);
             assert_eq!((reckon(&mut m), figures(&m), m.searches), (0, right, searches));
             assert_reckoned(&m);
         }
@@ -171,7 +171,7 @@ fn the_empty_and_the_single_map() {
     assert_eq!(reckon(&mut m), 0);
     assert_eq!((figures(&m), m.searches), ((0, 0, 0), 0));
     assert_eq!(m.hops, hops);
-    assert!(m.skips.data[..256].iter().all(|&mark| mark == 257) && m.bounds.data[..256].iter().all(|&bound| bound == 65_535));
+    assert!(m.skips.data[..PLACES].iter().all(|&mark| mark == 257) && m.bounds.data[..PLACES].iter().all(|&bound| bound == 65_535));
     for code in 0..=255 {
         assert_eq!(search(&mut m, code), 4);
     }
@@ -207,19 +207,19 @@ fn the_greatest_values() {
 fn false_figures() {
     // an empty map with a chain: shrank, chain 0, 1 search
     let mut m = emptied();
-    m.record.data[5] = 9;
+    m.record.data[CHAIN] = 9;
     assert_eq!(open(&mut m, 3, &[]), b'S');
     assert_eq!((figures(&m), m.searches), ((1, 0, 0), 1));
     // a chain that no search reaches stays, without pairs: depots 0 and 1, chain 9, pair (0,1); 2 opens beside both
     let mut m = emptied();
     open(&mut m, 0, &[]);
     open(&mut m, 1, &[0]);
-    m.record.data[5] = 9;
+    m.record.data[CHAIN] = 9;
     assert_eq!(open(&mut m, 2, &[0, 1]), b'S');
     assert_eq!((figures(&m), pairs(&m)), ((3, 2, 0), vec![]));
     // chain 0 and a false pair, with a depot open: grew
-    m.record.data[5] = 0;
-    m.record.data[6] = 1;
+    m.record.data[CHAIN] = 0;
+    m.record.data[COUNT] = 1;
     m.pairs.data[0] = 4;
     assert_eq!(open(&mut m, 9, &[2]), b'G');
     assert_eq!(pairs(&m), [(0, 9), (1, 9)]);

@@ -1,8 +1,7 @@
 //! Yards, by cases worked by hand in all memory that a call is lent: what a yard's opening leaves, a last layer of yards alone, yards in rounds, links of
 //! yards, and figures that are false but sound. That every other call goes on with yards is tried where the call is.
 use crate::both::{empty, feed, link, nearest, open, open_yard, reckon, search, summary, within};
-use crate::expected::bits_of_table;
-use crate::expected::{network, store_figures, store_map, RECORD, YARDS};
+use crate::expected::{bits_of_table, network, store_figures, store_map, CHAIN, RECORD, YARDS};
 use crate::inputs::Dice;
 use crate::lent::{Buffer, Lent};
 use crate::maps::any_memory;
@@ -42,7 +41,7 @@ fn stored(mut m: Lent, chain: usize, pairs: &[(usize, usize)]) -> Lent {
 
 /// chain and pairs
 fn figures(m: &Lent) -> (u64, Vec<(usize, usize)>) {
-    (m.record.data[5], bits_of_table(&m.pairs.data).into_iter().collect())
+    (m.record.data[CHAIN], bits_of_table(&m.pairs.data).into_iter().collect())
 }
 
 /// The last four words of the record, in all of which a yard can be; emptying zeroes them.

@@ -2,7 +2,7 @@
 use crate::plain::lines::Notice;
 use crate::plain::memory::Memory;
 use crate::plain::words::bits_of_table;
-use crate::plain::{NARROW, WIDE};
+use crate::plain::{Map, NARROW, WIDE};
 use crate::steps::{opening, yard_opening, Held};
 
 /// The sizes and the marks of both maps, as numbers.
@@ -36,7 +36,7 @@ fn what_stands_where() {
     // 300 and 65,535: the lower code stands in the higher row
     assert_eq!((pairs[0], bits_of_table(8, &pairs).len()), (0b0100, 1));
     // the narrow map lists no codes, and has its rows four words apart
-    let narrow = Memory::of(&crate::plain::Map::of_shape(&NARROW));
+    let narrow = Memory::of(&Map::of_shape(&NARROW));
     assert_eq!((narrow.links.len(), narrow.codes.len()), (1_024, 0));
 }
 

@@ -15,8 +15,8 @@ pub fn yard_opening(code: usize, neighbours: &[usize]) -> Notice {
     Notice::Opening { is_yard: true, code, neighbours: neighbours.to_vec() }
 }
 
-/// So many codes in any order, no two the same: those at the edges of a width, and of the marks,
-/// are among the first and the last.
+/// So many codes in any order, no two the same, with some of those at the edges of a width and of
+/// the marks among them.
 pub fn some_codes(dice: &mut Dice, n: usize) -> Vec<usize> {
     let mut codes: Vec<usize> = (0..65_536).collect();
     dice.shuffle(&mut codes);
