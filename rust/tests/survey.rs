@@ -9,7 +9,7 @@ use inputs::{Dice, Growth, Shape, SHAPES};
 use plain::stream::LINES;
 use plain::summary::Mean;
 use plain::survey::{output, FILES};
-use plain::Network;
+use plain::{Network, TODAY};
 use process::{assert_same, ended, failed, program, repository, written_and_said};
 use std::env;
 use std::ffi::OsStr;
@@ -41,7 +41,7 @@ fn path(size: usize) -> Network {
 
 /// Sum, pairs, quotient and remainder, and the counts that are not 0, each with its eccentricity.
 fn summary(network: &Network) -> ([u64; 4], Vec<(usize, u16)>) {
-    let summary = network.summary().expect("two depots or more");
+    let summary = network.summary(TODAY).expect("two depots or more");
     let Mean { sum, pairs, quotient, remainder } = summary.mean;
     assert_eq!(summary.counts.len(), 256);
     let counts = summary.counts.into_iter().enumerate().filter(|&(_, n)| n != 0).collect();
@@ -83,9 +83,9 @@ fn the_longest_path() {
 #[test]
 fn too_few() {
     let mut network = Network::empty();
-    assert_eq!(network.summary(), None);
+    assert_eq!(network.summary(TODAY), None);
     network.open.insert(5);
-    assert_eq!(network.summary(), None);
+    assert_eq!(network.summary(TODAY), None);
 }
 
 // ---- the program
@@ -268,7 +268,12 @@ fn files_past_the_most() {
     // what goes wrong among the first is said besides, and is the status
     names[0] = "missing.txt";
     let (written, said) = folder.fails(&names);
-    assert!(written.starts_with("R15\n1 1 1 0\n") && said.contains("missing.txt: No such file") && said.contains("3 files") && said.lines().count() == 2);
+    assert!(
+        written.starts_with("R15\n1 1 1 0\n")
+            && said.contains("missing.txt: No such file")
+            && said.contains("3 files")
+            && said.lines().count() == 2
+    );
 }
 
 /// The greatest sums: 1,000 of the longest path, each 2,796,160 over 32,640 pairs, of which 21,760 are left over 85 times the pairs.

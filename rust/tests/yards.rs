@@ -159,7 +159,7 @@ fn one_depot_among_yards() {
     assert_eq!(found(&work), (0, vec![], vec![0, 1, 2, 3]));
     assert_eq!(marks(&work), (vec![256; 4], vec![1, 2, 0, 2]));
     assert_eq!(network.distances(2).depth(), 2);
-    assert_eq!(network.summary(), None);
+    assert_eq!(network.summary(TODAY), None);
 }
 
 #[test]
@@ -170,7 +170,7 @@ fn yards_alone() {
     assert_eq!(found(&work), (0, vec![], vec![1, 0, 2]));
     assert_eq!(marks(&work), (vec![256; 3], vec![0, 0, 0]));
     assert_eq!(network.distances(0).depth(), 2);
-    assert_eq!(network.summary(), None);
+    assert_eq!(network.summary(TODAY), None);
 }
 
 // ---- rounds
@@ -272,7 +272,7 @@ fn what_is_sound() {
 #[test]
 fn reports_with_yards() {
     let summary = |network: Network| {
-        let summary = network.summary().expect("two depots deliver");
+        let summary = network.summary(TODAY).expect("two depots deliver");
         let Mean { sum, pairs, quotient, remainder } = summary.mean;
         let counts: Vec<(usize, u16)> = summary.counts.into_iter().enumerate().filter(|&(_, n)| n != 0).collect();
         ([sum, pairs, quotient, remainder], counts)

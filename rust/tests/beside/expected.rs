@@ -224,11 +224,10 @@ pub fn summary(m: &mut Lent) -> u8 {
         return refusal;
     }
     let map = map_of_links(m);
-    match (map.network.summary(), map.network.delivering().last()) {
+    match (map.network.summary(TODAY), map.network.delivering().last()) {
         (Some(summary), Some(highest)) => {
             store_search(m, &map, &map.network.distances(highest));
-            m.counts.data[..PLACES].fill(0);
-            m.counts.data[..summary.counts.len()].copy_from_slice(&summary.counts);
+            m.counts.data[..PLACES].copy_from_slice(&summary.counts);
             let Mean { sum, pairs, quotient, remainder } = summary.mean;
             (m.sum, m.pair_number, m.quotient, m.remainder) = (sum, pairs, quotient, remainder);
             0

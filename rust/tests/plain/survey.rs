@@ -37,7 +37,7 @@ pub fn output_of<F: AsRef<[u8]>>(shape: &'static Shape, files: &[F]) -> String {
     let mut lines = String::new();
     let (mut sum, mut pairs) = (0, 0);
     for file in files.iter().take(FILES) {
-        match followed_on(shape, file.as_ref()).network.summary() {
+        match followed_on(shape, file.as_ref()).network.summary(shape) {
             None => lines += "R15\n",
             Some(summary) => {
                 lines += &line_of(summary.mean);

@@ -4,6 +4,7 @@ use crate::by_rows::ByRows;
 use crate::inputs::{Dice, Growth, Shape, SHAPES};
 use crate::plain::lines::Notice;
 use crate::plain::network::Pairs;
+use crate::plain::CLOSING;
 use crate::steps::{assert_step, opening, some_codes, yard_opening, Held};
 
 /// How often each letter came.
@@ -121,11 +122,12 @@ fn lists_and_reports() {
         let held = large(seed, shape, size);
         let rows = ByRows::of(&held.memory);
         let codes: Vec<usize> = held.memory.codes[..size].iter().map(|&code| code.into()).collect();
-        let summary = held.map.network.summary().expect("two depots deliver");
+        let summary = held.map.network.summary(&CLOSING).expect("two depots deliver");
         assert_eq!((summary.mean.sum, summary.mean.pairs), rows.sum());
+        assert_eq!(summary.counts.len(), 512);
         for e in 0..512 {
             let count = (0..size).filter(|&row| rows.eccentricity(row) == e).count();
-            assert_eq!(usize::from(summary.counts.get(e).copied().unwrap_or(0)), count, "eccentricity {e}");
+            assert_eq!(usize::from(summary.counts[e]), count, "eccentricity {e}");
         }
         let mut dice = Dice::new(seed + 100);
         for k in [0, 1, 2, 3, 200, 255, 256, 399, 65_535, u32::MAX] {
