@@ -22,7 +22,7 @@ GROUPS = [
         'empty_refusals', 'search_refusals', 'within_refusals', 'nearest_refusals', 'summary_refusals', 'reckon_refusals', 'update_refusals', 'batch_refusals',
         'search_correct', 'within_correct', 'nearest_correct', 'summary_correct', 'reckon_correct', 'update_correct', 'update_tables', 'emptied_is_empty', 'batch_correct', 'batch_most',
         'histories_agree']),
-    ('lines', 'notice report', ['one_line', 'round_trip', 'line_injective']),
+    ('lines', 'notice report', ['reader_refusals', 'writer_refusals', 'frame_is', 'line_is', 'one_line', 'round_trip', 'report_refusals', 'line_injective']),
     ('sentences', 'sentences', ['reads_written', 'written_reads', 'sentence_injective', 'sentence_one_line']),
     ('the stream', 'stream', ['pieces_alike', 'rest_unread', 'turn_uses', 'turn_all', 'pieces_told', 'narration_tells', 'transcript_tells', 'answers_same', 'garbled_same', 'events_same']),
     ('the programs', 'feeding', []),

@@ -1,73 +1,90 @@
--- A REPORT behind what is written. Assumes nothing.
-use mathlib.Core.Path.{◌≡◌, refl, sym, ap, ◌∙◌}
-use mathlib.Core.List.{List, ◌++◌}
+-- A TEXT in a part of the output that is lent for it, and a REPORT so behind what is written. Assumes nothing.
+use mathlib.Core.Path.{◌≡◌, sym, ap, ap₂, ◌∙◌}
+use mathlib.Core.List.{List, ◌++◌, append_assoc}
 use Prim.Native.Nat.{ℕ, ◌+◌, ◌-◌, ◌≤◌}
 use native.Mathlib.Omega.{arith}
-use lib.ListN.{length, take, drop, length-append, length-take, length-drop, drop_of_length-le}
-use lib.Seq.{take_all}
+use lib.ListN.{length, take, drop, length-append, length-take, length-drop, take-append-drop}
+use lib.Seq.{drop-drop}
 use borrow.Author.Tests.{le-ltb}
-use Rattle.std.specs.Prelude.{Result, Ok, Err, IsOk}
+use Rattle.std.specs.Prelude.{Ok}
+use Rattle.std.specs.Result.{result_unwrap_or}
+use Rattle.std.proofs.lemmas.List.{drop-take}
 use Rattle.lists.specs.Lists.{overwrite}
-use Rattle.outcome.specs.declared.Refusal.{Refusal}
-use Rattle.outcome.proofs.Numbering.{refuses}
-use Rattle.report.specs.Line.{buffer_limit, ReportLeft, report_done, report_left, report_line, report_call, written_of}
+use Rattle.lists.proofs.Fills.{overwrite_take}
+use Rattle.outcome.specs.Answers.{Left, leaves}
+use Rattle.report.specs.Line.{buffer_limit, report_line, report_call}
 use Rattle.report.specs.declared.ReportFields.{ReportFields}
 use Rattle.line_buffer.specs.Lines.{pasted}
-use Rattle.lists.proofs.Appends.{append_none}
+
+-- a text at the start of a part, and what stands behind the part
+pub over_part : (text rest : List ℕ) (m : ℕ) → length text ≤ m → overwrite text (take m rest) ++ drop m rest ≡ text ++ drop (length text) rest
+unfolding overwrite
+over_part text rest m l =
+    let n = length text in
+    let e : m ≡ n + (m - n) = omega arith in
+    append_assoc text (drop n (take m rest)) (drop m rest)
+    ∙ ap (λ (r : List ℕ). text ++ r) (
+    ap (λ (k : ℕ). drop n (take k rest) ++ drop k rest) e
+    ∙ ap (λ (r : List ℕ). r ++ drop (n + (m - n)) rest) (drop-take n (m - n) rest)
+    ∙ ap (λ (r : List ℕ). take (m - n) (drop n rest) ++ r) (sym (drop-drop (m - n) n rest))
+    ∙ take-append-drop (m - n) (drop n rest))
+
+-- a part of m bytes from `at` on, and a text of n over its first bytes
+module _ (text out : List ℕ) (at m : ℕ) (room : at + m ≤ length out) {n : ℕ} {part : List ℕ} (is : part ≡ overwrite text (take m (drop at out)))
+    (same : length part ≡ length (take m (drop at out))) (long : n ≡ length text) where
+  size : length (take m (drop at out)) ≡ m
+  size = omega (arith, length-take m (drop at out), length-drop at out, room)
+
+  fits : length text ≤ m
+  unfolding overwrite
+  fits = omega (arith, ap length is, same, size, length-append text (drop (length text) (take m (drop at out))))
+
+  pub part_fits : at + n ≤ length out
+  part_fits = omega (arith, fits, long, room)
+
+  pub part_put : (take at out ++ (part ++ drop m (drop at out)) ≡ pasted text at out)
+      × (at + n ≡ at + length text)
+      × (at + n ≤ length (take at out ++ (part ++ drop m (drop at out))))
+  unfolding pasted overwrite
+  part_put = (
+    ap (λ (r : List ℕ). take at out ++ r) (ap (λ (p : List ℕ). p ++ drop m (drop at out)) is ∙ over_part text (drop at out) m fits),
+    ap (λ (k : ℕ). at + k) long,
+    omega (
+      arith,
+      part_fits,
+      same,
+      size,
+      length-append (take at out) (part ++ drop m (drop at out)),
+      length-append part (drop m (drop at out)),
+      length-take at out,
+      length-drop at out,
+      length-drop m (drop at out),
+    ),
+  )
+
+pub ruleset part_laws = (part_fits, part_put)
+
+-- ---- a report
 
 -- the writer on a part that is long enough
-report_into : (r : ReportFields) (buffer : List ℕ) → buffer_limit ≤ length buffer → report_call r buffer ≡ report_left (report_done (length (report_line r))) (overwrite (report_line r) buffer)
+report_into : (r : ReportFields) (buffer : List ℕ) → buffer_limit ≤ length buffer → report_call r buffer ≡ leaves (Ok (length (report_line r))) (overwrite (report_line r) buffer)
 unfolding report_call
 report_into r buffer k = rw (le-ltb (length buffer) buffer_limit k)
 
--- the part from `at` on, put back
-part_back : (out part : List ℕ) (at : ℕ) → take at out ++ (part ++ drop (length out - at) (drop at out)) ≡ take at out ++ part
-part_back out part at = ap (λ (r : List ℕ). take at out ++ r) (ap (λ (r : List ℕ). part ++ r) (drop_of_length-le (drop at out) {i = length out - at} (omega (arith, length-drop at out))) ∙ append_none part)
+module _ (r : ReportFields) (buffer : List ℕ) (room : buffer_limit ≤ length buffer) where
+  pub line_long : {n : ℕ} → n ≡ result_unwrap_or (report_call r buffer).answer 0 → n ≡ length (report_line r)
+  line_long e = e ∙ ap (λ (l : Left ℕ (List ℕ)). result_unwrap_or l.answer 0) (report_into r buffer room)
 
--- an answer without a refusal's number is a length
-no_refusal : (w : Result ℕ Refusal) → (written_of w).refusal ≡ 0 → IsOk w
-unfolding written_of
-no_refusal (Ok n) e = refl
-no_refusal (Err k) e = absurd (refuses k e)
+  pub line_over : {part : List ℕ} → part ≡ (report_call r buffer).lent → part ≡ overwrite (report_line r) buffer
+  line_over e = e ∙ ap (λ (l : Left ℕ (List ℕ)). l.lent) (report_into r buffer room)
 
-module _ (r : ReportFields) (out : List ℕ) (at : ℕ) (k : at + buffer_limit ≤ length out) where
-  room : buffer_limit ≤ length (drop at out)
-  room = omega (arith, length-drop at out)
+  pub line_within : {n : ℕ} {part : List ℕ} → n ≡ result_unwrap_or (report_call r buffer).answer 0 → part ≡ (report_call r buffer).lent → n ≤ length part
+  unfolding overwrite
+  line_within e f = omega (arith, line_long e, ap length (line_over f), length-append (report_line r) (drop (length (report_line r)) buffer))
 
-  -- the report is written, and nothing beside it
-  module _ (w : Result ℕ Refusal) {part : List ℕ} (given : report_left (written_of w) part ≡ report_call r (take (length out - at) (drop at out))) where
-    written : report_left (written_of w) part ≡ report_left (report_done (length (report_line r))) (overwrite (report_line r) (drop at out))
-    written = given ∙ ap (report_call r) (take_all (length out - at) (drop at out) (omega (arith, length-drop at out))) ∙ report_into r (drop at out) room
+  pub line_handed : {n : ℕ} {part line : List ℕ} → n ≡ result_unwrap_or (report_call r buffer).answer 0 → part ≡ (report_call r buffer).lent → line ≡ take n part
+      → length line ≡ length (report_line r)
+  line_handed e f g =
+      ap length (g ∙ ap₂ (λ (k : ℕ) (l : List ℕ). take k l) (line_long e) (line_over f) ∙ overwrite_take (report_line r) buffer)
 
-    -- it is not refused
-    pub report_taken : IsOk w
-    report_taken = no_refusal w (ap (λ (x : ReportLeft). x.answer.refusal) written)
-
-    report_length : {n : ℕ} → w ≡ Ok n → n ≡ length (report_line r)
-    unfolding written_of
-    report_length q = sym (ap (λ (x : Result ℕ Refusal). (written_of x).written) q) ∙ ap (λ (x : ReportLeft). x.answer.written) written
-
-    report_placed : take at out ++ (part ++ drop (length out - at) (drop at out)) ≡ pasted (report_line r) at out
-    unfolding pasted
-    report_placed = part_back out part at ∙ ap (λ (x : ReportLeft). take at out ++ x.buffer) written
-
-    -- and it has room
-    pub report_fits : {n : ℕ} → w ≡ Ok n → length part ≡ length (take (length out - at) (drop at out)) → at + n ≤ length out
-    unfolding overwrite
-    report_fits q same =
-        let z = ap (λ (x : ReportLeft). length x.buffer) written in
-        omega (arith, report_length q, same, z, length-append (report_line r) (drop (length (report_line r)) (drop at out)), length-drop at out, length-take (length out - at) (drop at out))
-
-    -- the ending of a line that was written
-    pub report_put : {n : ℕ} → w ≡ Ok n → length part ≡ length (take (length out - at) (drop at out))
-        → (take at out ++ (part ++ drop (length out - at) (drop at out)) ≡ pasted (report_line r) at out)
-        × (at + n ≡ at + length (report_line r))
-        × (at + n ≤ length (take at out ++ (part ++ drop (length out - at) (drop at out))))
-    report_put {n} q same =
-        let back = ap length (part_back out part at) in (
-          report_placed,
-          ap (λ (m : ℕ). at + m) (report_length q),
-          omega (arith, report_fits q same, back, length-append (take at out) part, length-take at out, length-take (length out - at) (drop at out), length-drop at out),
-        )
-
-pub ruleset report_put_laws = (report_taken, report_fits, report_put)
+pub ruleset line_put = (line_over, line_within, line_handed)

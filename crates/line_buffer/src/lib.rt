@@ -183,8 +183,8 @@ impl Tells for Reports {
     }
 }
 
-// Writes a report behind what is written, and answers the place behind it.
-#[tactic(auto, using(crate::proofs::Putting::report_put_laws))]
+// Writes a report behind what is written, into as many bytes as its line may want, and answers the place behind it.
+#[tactic(auto, using(crate::proofs::Putting::part_laws))]
 fn put_report(kept: &mut KeptTexts, out: &mut [u8], at: usize, report: ReportFields) -> usize
     requires { at + buffer_limit ≤ length out.old }
     ensures { let line = report_line report in
@@ -192,7 +192,18 @@ fn put_report(kept: &mut KeptTexts, out: &mut [u8], at: usize, report: ReportFie
         × (result ≡ at + length line)
         × (result ≤ length out.new) }
 {
-    at + report::write_report_by(kept, &mut out[at..], report).unwrap()
+    at + put_line(kept, &mut out[at..at + report::BUFFER_LIMIT], report)
+}
+
+// Writes a report into the bytes that it is lent, and answers how long the part is that is handed back.
+#[tactic(auto, using(crate::proofs::Putting::line_put))]
+fn put_line(kept: &mut KeptTexts, lent: &mut [u8], report: ReportFields) -> usize
+    requires { buffer_limit ≤ length lent.old }
+    ensures over { lent.new ≡ overwrite (report_line report) lent.old }
+    ensures long { result ≡ length (report_line report) }
+{
+    let written = report::report_line(kept, lent, report);
+    written.part().len()
 }
 
 // The report of line `number`.

@@ -5,8 +5,8 @@ use mathlib.Core.Logic.{◌⊎◌, inl, inr, ◌↔◌}
 use mathlib.Core.Bool.{Bool, true, false, not, cond, ◌&&◌}
 use mathlib.Core.List.{List, [], ◌∷◌, Memᴰ}
 use Prim.Native.Nat.{ℕ, suc, ◌<◌}
-use lib.Dec.{T, leb}
-use borrow.Author.Tests.{leb-false, lt-leb, not-true, not-false}
+use lib.Dec.{T, leb, ltb}
+use borrow.Author.Tests.{leb-false, lt-leb, ltb-true, lt-ltb, not-true, not-false}
 use Rattle.lists.specs.Lists.{allb, first_of}
 use Rattle.lists.specs.Conditions.{FirstHolds, Refuses, IsShort}
 use Rattle.lists.proofs.Tests.{clash, t→true, true→t, false→not}
@@ -63,6 +63,14 @@ decides_short (b ∷ bs) = go (leb b.0 b.1) refl (decides_short bs)
         either : not (all_fit bs) ≡ false → (b.1 < b.0) ⊎ IsShort bs → ⊥
         either e (inl l) = clash t (lt-leb b.0 b.1 l)
         either e (inr s) = d.fails e s
+
+-- one buffer alone, by its length
+pub decides_below : (n limit : ℕ) → Decides (ltb n limit) (IsShort ((limit, n) ∷ []))
+decides_below n limit = decides_iff (λ e. inl (ltb-true n limit e), back)
+  where
+    back : (n < limit) ⊎ ⊥ → ltb n limit ≡ true
+    back (inl l) = lt-ltb n limit l
+    back (inr x) = absurd x
 
 -- ---- THE FIRST THAT HOLDS
 

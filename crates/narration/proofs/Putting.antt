@@ -1,14 +1,15 @@
 -- A SENTENCE ON A LINE, behind what is written. Assumes nothing.
-use mathlib.Core.Path.{◌≡◌, refl, sym, ap, ◌∙◌}
-use mathlib.Core.List.{List, [], ◌∷◌, ◌++◌, append_assoc}
+use mathlib.Core.Path.{◌≡◌, sym, ap, ap₂, ◌∙◌}
+use mathlib.Core.List.{List, [], ◌∷◌, ◌++◌}
 use Prim.Native.Nat.{ℕ, ◌+◌, ◌-◌, ◌≤◌, ◌<◌}
 use native.Mathlib.Omega.{arith}
-use lib.ListN.{length, set, take, drop, length-append, length-take, length-drop, take-append-drop}
+use lib.ListN.{length, set, take, drop, length-append, length-take, length-drop}
 use lib.Seq.{drop-drop}
 use borrow.Author.Tests.{le-ltb}
-use Rattle.std.specs.Prelude.{Result, Ok, Err, IsOk, Option, Some}
-use Rattle.std.proofs.lemmas.List.{drop-take}
+use Rattle.std.specs.Prelude.{Result, Ok, Option, Some}
+use Rattle.std.specs.Result.{result_unwrap_or}
 use Rattle.lists.specs.Lists.{overwrite}
+use Rattle.lists.proofs.Fills.{overwrite_take}
 use Rattle.outcome.specs.declared.Refusal.{Refusal}
 use Rattle.notice.specs.Lines.{line_end}
 use Rattle.decimal.specs.Placed.{Placed}
@@ -19,6 +20,7 @@ use Rattle.sentences.specs.Sentence.{sentence_of}
 use Rattle.sentences.specs.declared.Event.{Event}
 use Rattle.sentences.specs.declared.Said.{Said}
 use Rattle.line_buffer.specs.Lines.{pasted}
+use Rattle.line_buffer.proofs.Putting.{over_part}
 use Rattle.narration.specs.Narration.{event_in, said_on, sentence_text}
 
 -- what a call of the writer leaves: its answer, and the part that it was lent
@@ -30,77 +32,62 @@ write_into : (s : Said) (part : List ℕ) → buffer_limit ≤ length part → w
 unfolding write_call
 write_into s part k = rw (le-ltb (length part) buffer_limit k)
 
--- a text at the start of a part, and what stands behind the part
-over_part : (text rest : List ℕ) (m : ℕ) → length text ≤ m → overwrite text (take m rest) ++ drop m rest ≡ text ++ drop (length text) rest
-unfolding overwrite
-over_part text rest m l =
-    let n = length text in
-    let e : m ≡ n + (m - n) = omega arith in
-    append_assoc text (drop n (take m rest)) (drop m rest)
-    ∙ ap (λ (r : List ℕ). text ++ r) (
-    ap (λ (k : ℕ). drop n (take k rest) ++ drop k rest) e
-    ∙ ap (λ (r : List ℕ). r ++ drop (n + (m - n)) rest) (drop-take n (m - n) rest)
-    ∙ ap (λ (r : List ℕ). take (m - n) (drop n rest) ++ r) (sym (drop-drop (m - n) n rest))
-    ∙ take-append-drop (m - n) (drop n rest))
+module _ (s : Said) (buffer : List ℕ) (room : buffer_limit ≤ length buffer) where
+  pub said_long : {n : ℕ} → n ≡ result_unwrap_or (write_call s buffer).0 0 → n ≡ length (sentence_of s)
+  said_long e = e ∙ ap (λ (l : Left). result_unwrap_or l.0 0) (write_into s buffer room)
 
-module _ (s : Said) (out : List ℕ) (at m : ℕ) (is : m ≡ buffer_limit) (k : at + (buffer_limit + 1) ≤ length out) (w : Result ℕ Refusal) {part : List ℕ} (given : ◌≡◌ {A = Left} (w, part) (write_call s (take m (drop at out)))) where
+  pub said_over : {part : List ℕ} → part ≡ (write_call s buffer).1 → part ≡ overwrite (sentence_of s) buffer
+  said_over e = e ∙ ap (λ (l : Left). l.1) (write_into s buffer room)
+
+  pub said_within : {n : ℕ} {part : List ℕ} → n ≡ result_unwrap_or (write_call s buffer).0 0 → part ≡ (write_call s buffer).1 → n ≤ length part
+  unfolding overwrite
+  said_within e f = omega (arith, said_long e, ap length (said_over f), length-append (sentence_of s) (drop (length (sentence_of s)) buffer))
+
+  pub said_handed : {n : ℕ} {part line : List ℕ} → n ≡ result_unwrap_or (write_call s buffer).0 0 → part ≡ (write_call s buffer).1 → line ≡ take n part
+      → length line ≡ length (sentence_of s)
+  said_handed e f g =
+      ap length (g ∙ ap₂ (λ (k : ℕ) (l : List ℕ). take k l) (said_long e) (said_over f) ∙ overwrite_take (sentence_of s) buffer)
+
+pub ruleset said_put = (said_over, said_within, said_handed)
+
+module _ (s : Said) (out : List ℕ) (at m : ℕ) (is : m ≡ buffer_limit) (k : at + (buffer_limit + 1) ≤ length out) {n : ℕ} {part : List ℕ}
+    (over : part ≡ overwrite (sentence_of s) (take m (drop at out))) (same : length part ≡ length (take m (drop at out))) (long : n ≡ length (sentence_of s)) where
   size : length (take m (drop at out)) ≡ m
   size = omega (arith, is, length-take m (drop at out), length-drop at out)
 
-  written : ◌≡◌ {A = Left} (w, part) (Ok (length (sentence_of s)), overwrite (sentence_of s) (take m (drop at out)))
-  written = given ∙ write_into s (take m (drop at out)) (omega (arith, size, is))
+  pub sentence_fits : n ≤ buffer_limit
+  unfolding overwrite
+  sentence_fits =
+      omega (arith, same, ap length over, size, is, long, length-append (sentence_of s) (drop (length (sentence_of s)) (take m (drop at out))))
 
-  -- it is not refused
-  pub sentence_taken : IsOk w
-  sentence_taken = rw (ap (λ (l : Left). l.0) written) refl
+  sentence_placed : Placed (sentence_of s) at out (at + n) (take at out ++ (part ++ drop m (drop at out)))
+  unfolding overwrite
+  sentence_placed = record {
+    behind = ap (λ (x : ℕ). at + x) long;
+    is = ap (λ (r : List ℕ). take at out ++ r) (
+        ap (λ (l : List ℕ). l ++ drop m (drop at out)) over
+        ∙ over_part (sentence_of s) (drop at out) m (omega (arith, sentence_fits, is, long))
+        ∙ ap (λ (r : List ℕ). sentence_of s ++ r) (drop-drop (length (sentence_of s)) at out));
+  }
 
-  module _ {n : ℕ} (q : w ≡ Ok n) where
-    length_is : n ≡ length (sentence_of s)
-    length_is = go (sym q ∙ ap (λ (l : Left). l.0) written)
-      where
-        go : {x y : ℕ} → ◌≡◌ {A = Result ℕ Refusal} (Ok x) (Ok y) → x ≡ y
-        go e = ap (λ (r : Result ℕ Refusal). length_of r) e
-          where
-            length_of : Result ℕ Refusal → ℕ
-            length_of (Ok x) = x
-            length_of (Err y) = 0
+  pub place_within : at + n < length (take at out ++ (part ++ drop m (drop at out)))
+  place_within = omega (
+    arith,
+    sentence_fits,
+    same,
+    size,
+    is,
+    length-append (take at out) (part ++ drop m (drop at out)),
+    length-append part (drop m (drop at out)),
+    length-take at out,
+    length-drop m (drop at out),
+    length-drop at out,
+  )
 
-    -- and fits
-    module _ (same : length part ≡ length (take m (drop at out))) where
-      pub sentence_fits_in : n ≤ buffer_limit
-      unfolding overwrite
-      sentence_fits_in =
-          let z = ap (λ (l : Left). length l.1) written in
-          omega (arith, same, z, size, is, length_is, length-append (sentence_of s) (drop (length (sentence_of s)) (take m (drop at out))))
+  pub line_put : Placed (sentence_of s ++ line_end ∷ []) at out (at + n + 1) (set (take at out ++ (part ++ drop m (drop at out))) (at + n) 10)
+  line_put = placed_join sentence_placed (placed_byte (at + n) (take at out ++ (part ++ drop m (drop at out))) 10 place_within) (omega arith)
 
-      sentence_placed : Placed (sentence_of s) at out (at + n) (take at out ++ (part ++ drop m (drop at out)))
-      unfolding overwrite
-      sentence_placed = record {
-        behind = ap (λ (x : ℕ). at + x) length_is;
-        is = ap (λ (r : List ℕ). take at out ++ r) (
-            ap (λ (l : Left). l.1 ++ drop m (drop at out)) written
-            ∙ over_part (sentence_of s) (drop at out) m (omega (arith, sentence_fits_in, is, length_is))
-            ∙ ap (λ (r : List ℕ). sentence_of s ++ r) (drop-drop (length (sentence_of s)) at out));
-      }
-
-      pub place_within : at + n < length (take at out ++ (part ++ drop m (drop at out)))
-      place_within = omega (
-        arith,
-        sentence_fits_in,
-        same,
-        size,
-        is,
-        length-append (take at out) (part ++ drop m (drop at out)),
-        length-append part (drop m (drop at out)),
-        length-take at out,
-        length-drop m (drop at out),
-        length-drop at out,
-      )
-
-      pub line_put : Placed (sentence_of s ++ line_end ∷ []) at out (at + n + 1) (set (take at out ++ (part ++ drop m (drop at out))) (at + n) 10)
-      line_put = placed_join sentence_placed (placed_byte (at + n) (take at out ++ (part ++ drop m (drop at out))) 10 place_within) (omega arith)
-
-pub ruleset sentence_put = (sentence_taken, sentence_fits_in, place_within, line_put)
+pub ruleset sentence_put = (sentence_fits, place_within, line_put)
 
 -- ---- what is put is the answer's text
 

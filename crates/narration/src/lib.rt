@@ -5,6 +5,7 @@
 pub mod promises;
 
 ghost use Rattle.std.specs.Prelude.{◌≡◌, [], ◌∷◌, ◌++◌, ◌+◌, ◌≤◌, length};
+ghost use Rattle.lists.specs.Lists.{overwrite};
 ghost use Rattle.decimal.specs.Placed.{Placed};
 ghost use Rattle.notice.specs.Lines.{line_end};
 ghost use Rattle.sentences.specs.Sentence.{sentence_of};
@@ -83,12 +84,23 @@ fn said_on(event: Event, report: ReportFields) -> Said
 }
 
 // Puts a sentence and the line's end at a place of the buffer.
+#[tactic(auto, using(crate::proofs::Putting::sentence_put))]
 fn put_sentence(out: &mut [u8], at: usize, said: Said) -> usize
     requires { at + (buffer_limit + 1) ≤ length out.old }
     ensures { Placed (sentence_of said ++ line_end ∷ []) at out.old result out.new }
 {
-    let part = &mut out[at..at + sentences::BUFFER_LIMIT];
-    let end = at + sentences::write_sentence(part, said).unwrap();
+    let end = at + put_said(&mut out[at..at + sentences::BUFFER_LIMIT], said);
     out[end] = 10;
     end + 1
+}
+
+// Writes a sentence into the bytes that it is lent, and answers how long the part is that is handed back.
+#[tactic(auto, using(crate::proofs::Putting::said_put))]
+fn put_said(lent: &mut [u8], said: Said) -> usize
+    requires { buffer_limit ≤ length lent.old }
+    ensures over { lent.new ≡ overwrite (sentence_of said) lent.old }
+    ensures long { result ≡ length (sentence_of said) }
+{
+    let written = sentences::sentence_line(lent, said);
+    written.part().len()
 }

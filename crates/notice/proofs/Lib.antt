@@ -14,3 +14,7 @@ pub mod Readings
 pub mod Examples
 -- The reader in one pass.
 pub mod Passes
+-- The tests of frames and lines are the published words.
+pub mod Frames
+-- Which refusals the two calls give.
+pub mod Refusals

@@ -13,11 +13,16 @@ use Rattle.outcome.specs.declared.Refusal.{Refusal}
 use Rattle.std.specs.Prelude.{Result, Ok, Err}
 use Rattle.hexadecimal.specs.Hex.{is_byte}
 use Rattle.notice.specs.Lines.{Line, garbled, frame, read_line}
-use Rattle.notice.specs.Calls.{frame_limit, line_done, line_refused, reading_of, LineLeft, line_left, read_into, read_call}
+use Rattle.notice.specs.Calls.{frame_limit, read_into, read_call}
+use Rattle.outcome.specs.Answers.{Left, leaves, answer_of}
 use Rattle.notice.specs.declared.Frame.{Frame}
 use Rattle.lists.proofs.Scans.{all-at}
 use Rattle.notice.proofs.Tests.{length_most, frame_parts}
 use Rattle.notice.proofs.Theorems.{read_is_frame}
+
+-- what the reader leaves
+abbrev ReadLeft : Type 0
+ReadLeft = Left Frame (List ℕ)
 
 -- the reader on a frame buffer that is long enough
 read_into_lem : (text buffer : List ℕ) → frame_limit ≤ length buffer → read_call text buffer ≡ read_into (read_line text) buffer
@@ -59,30 +64,43 @@ stands_in f buffer l k = record {
   neighbours = ap (take (length f - 3)) (drop-append-le 3 f (drop (length f) buffer) l) ∙ take_at (drop 3 f) (drop (length f) buffer) (length f - 3) (length-drop 3 f);
 }
 
+-- the numbers in an answer, of a frame or of a refusal; 0 where it has none
+length_in : Result Frame ℕ → ℕ
+length_in (Ok w) = w.length
+length_in (Err k) = 0
+
+used_in : Result Frame ℕ → ℕ
+used_in (Ok w) = w.used
+used_in (Err k) = 0
+
+number_in : Result Frame ℕ → ℕ
+number_in (Ok w) = 0
+number_in (Err k) = k
+
 -- the reader's answers, one by one
-pub frame_read : (text buffer : List ℕ) {r : Result Frame Refusal} {w : Frame} {after : List ℕ} → frame_limit ≤ length buffer → r ≡ Ok w → line_left (reading_of r) after ≡ read_call text buffer
+pub frame_read : (text buffer : List ℕ) {r : Result Frame Refusal} {w : Frame} {after : List ℕ} → frame_limit ≤ length buffer → r ≡ Ok w → leaves (answer_of r) after ≡ read_call text buffer
     → (f : List ℕ) × (read_line text ≡ frame f w.used) × FrameStands f w.length after
-unfolding reading_of read_into
-frame_read text buffer {r} {w} {after} k g e = go (read_line text) refl (sym (ap (λ (x : Result Frame Refusal). line_left (reading_of x) after) g) ∙ e ∙ read_into_lem text buffer k)
+unfolding read_into length_in used_in number_in
+frame_read text buffer {r} {w} {after} k g e = go (read_line text) refl (sym (ap (λ (x : Result Frame Refusal). leaves (answer_of x) after) g) ∙ e ∙ read_into_lem text buffer k)
   where
-    go : (l : Line) → read_line text ≡ l → line_left (line_done w.length w.used) after ≡ read_into l buffer → (f : List ℕ) × (read_line text ≡ frame f w.used) × FrameStands f w.length after
-    go garbled q r = let z : ◌≡◌ {A = ℕ} 0 garbled_line = ap (λ (x : LineLeft). x.answer.refusal) r in absurd (omega arith)
+    go : (l : Line) → read_line text ≡ l → leaves (Ok w) after ≡ read_into l buffer → (f : List ℕ) × (read_line text ≡ frame f w.used) × FrameStands f w.length after
+    go garbled q r = let z : ◌≡◌ {A = ℕ} 0 garbled_line = ap (λ (x : ReadLeft). number_in x.answer) r in absurd (omega arith)
     go (frame f v) q r =
         let p = frame-length text f v q in
-        let s : length f ≡ w.length = sym (ap (λ (x : LineLeft). x.answer.written) r) in
-        let t : overwrite f buffer ≡ after = sym (ap (λ (x : LineLeft). x.buffer) r) in
-        let u : v ≡ w.used = sym (ap (λ (x : LineLeft). x.answer.used) r) in
+        let s : length f ≡ w.length = sym (ap (λ (x : ReadLeft). length_in x.answer) r) in
+        let t : overwrite f buffer ≡ after = sym (ap (λ (x : ReadLeft). x.lent) r) in
+        let u : v ≡ w.used = sym (ap (λ (x : ReadLeft). used_in x.answer) r) in
         (f, q ∙ ap (frame f) u, subst (λ (m : ℕ). FrameStands f m after) s (subst (FrameStands f (length f)) t (stands_in f buffer p.0 p.1)))
 
 -- a line that does not read
-pub garbled_read : (text buffer : List ℕ) {r : Result Frame Refusal} {e : Refusal} {after : List ℕ} → frame_limit ≤ length buffer → r ≡ Err e → line_left (reading_of r) after ≡ read_call text buffer
+pub garbled_read : (text buffer : List ℕ) {r : Result Frame Refusal} {e : Refusal} {after : List ℕ} → frame_limit ≤ length buffer → r ≡ Err e → leaves (answer_of r) after ≡ read_call text buffer
     → (read_line text ≡ garbled) × (number_of e ≡ garbled_line)
-unfolding reading_of read_into
-garbled_read text buffer {r} {e} {after} k g h = go (read_line text) refl (sym (ap (λ (x : Result Frame Refusal). line_left (reading_of x) after) g) ∙ h ∙ read_into_lem text buffer k)
+unfolding read_into number_in length_in
+garbled_read text buffer {r} {e} {after} k g h = go (read_line text) refl (sym (ap (λ (x : Result Frame Refusal). leaves (answer_of x) after) g) ∙ h ∙ read_into_lem text buffer k)
   where
-    go : (l : Line) → read_line text ≡ l → line_left (line_refused (number_of e)) after ≡ read_into l buffer → (read_line text ≡ garbled) × (number_of e ≡ garbled_line)
-    go garbled q r = (q, ap (λ (x : LineLeft). x.answer.refusal) r)
+    go : (l : Line) → read_line text ≡ l → leaves (Err (number_of e)) after ≡ read_into l buffer → (read_line text ≡ garbled) × (number_of e ≡ garbled_line)
+    go garbled q r = (q, ap (λ (x : ReadLeft). number_in x.answer) r)
     go (frame f v) q r =
         let p = frame-length text f v q in
-        let z : 0 ≡ length f = ap (λ (x : LineLeft). x.answer.written) r in
+        let z : 0 ≡ length f = ap (λ (x : ReadLeft). length_in x.answer) r in
         absurd (omega (arith, p))

@@ -12,7 +12,9 @@ use Rattle.std.proofs.lemmas.Bool.{and_parts, and_from}
 use Rattle.lists.specs.Lists.{allb, overwrite}
 use Rattle.notice.specs.Lines.{line_limit, line_end, opens_depot, frame_length, is_frame, line_of, end_of, spells_frame, garbled, frame, read_head, read_line}
 use Rattle.hexadecimal.specs.Hex.{is_byte, digits_of, bytes_of}
-use Rattle.notice.specs.Calls.{frame_limit, line_done, line_left, read_into, read_call, write_call}
+use Rattle.notice.specs.Calls.{frame_limit, read_into, read_call, write_call}
+use Rattle.std.specs.Prelude.{Ok}
+use Rattle.outcome.specs.Answers.{leaves}
 use Rattle.notice.proofs.Tests.{length-opening, length_most, length-only, Spells, frame_parts, spells_parts}
 use Rattle.hexadecimal.proofs.Spelling.{length_digits, all_digits, bytes_digits, digits_bytes, bytes_below}
 use Rattle.notice.proofs.Ends.{length_line, end_is, end_digits}
@@ -134,7 +136,7 @@ one_line s t f m n p q = read_written s f m p ∙ sym (read_written t f n q)
 
 -- what the writer leaves in a line buffer, the reader reads as the frame
 pub round_trip : (f line buffer : List ℕ) → is_frame f ≡ true → allb is_byte f ≡ true → line_limit ≤ length line → frame_limit ≤ length buffer
-    → read_call (write_call f line).buffer buffer ≡ line_left (line_done (length f) (length (line_of f))) (overwrite f buffer)
+    → read_call (write_call f line).lent buffer ≡ leaves (Ok (record { length = length f; used = length (line_of f) })) (overwrite f buffer)
 unfolding read_call write_call read_into overwrite
 round_trip f line buffer h b k l =
     rw (le-ltb (length line) line_limit k, h, le-ltb (length buffer) frame_limit l, written_reads f (drop (length (line_of f)) line) h b)

@@ -4,3 +4,5 @@ pub mod Lines
 pub mod Kinds
 -- The reader's and the writer's call on lent memory: answer and every byte.
 pub mod Calls
+-- Which refusals the two calls give, in the published words.
+pub mod Refusals

@@ -4,10 +4,13 @@
 
 #![tactic(auto)]
 
+pub mod promises;
+
 ghost use Rattle.std.specs.Prelude.{◌≡◌, ◌<◌, ◌≤◌, eqb, length, take, IfSome};
+ghost use Rattle.outcome.specs.Answers.{answer_of, leaves};
 ghost use Rattle.notice.specs.Lines.{line_limit, yard_kind, opens_depot, frame_length, is_frame, spells_frame, read_line};
 ghost use Rattle.notice.specs.Kinds.{byte_of, KindIs};
-ghost use Rattle.notice.specs.Calls.{frame_limit, line_found, reading_of, writing_of, line_left, read_call, write_call};
+ghost use Rattle.notice.specs.Calls.{frame_limit, line_found, read_call, write_call};
 
 use hexadecimal::Digits;
 use outcome::Refusal;
@@ -78,9 +81,9 @@ pub struct Frame {
 
 // Reads the line that the input begins with into the frame buffer. It does not judge the neighbours:
 // the opening does.
-#[tactic(auto, using(crate::proofs::Answers::reading), unfolding(crate::specs::Calls::reading_of))]
+#[tactic(auto, using(crate::proofs::Answers::reading))]
 pub fn read_notice(frame: &mut [u8], input: &[u8]) -> Result<Frame, Refusal>
-    ensures { line_left (reading_of result) frame.new ≡ read_call input.now frame.old }
+    ensures { leaves (answer_of result) frame.new ≡ read_call input.now frame.old }
 {
     if frame.len() < FRAME_LIMIT {
         return Err(Refusal::Short);
@@ -129,9 +132,9 @@ pub fn read_frame(buffer: &mut [u8], input: &[u8]) -> Option<usize>
 }
 
 // Writes the line of a frame, which is the whole slice, into the line buffer, and answers its length.
-#[tactic(auto, using(crate::proofs::Answers::writing), unfolding(crate::specs::Calls::writing_of))]
+#[tactic(auto, using(crate::proofs::Answers::writing))]
 pub fn write_notice(line: &mut [u8], frame: &[u8]) -> Result<usize, Refusal>
-    ensures { line_left (writing_of result) line.new ≡ write_call frame.now line.old }
+    ensures { leaves (answer_of result) line.new ≡ write_call frame.now line.old }
 {
     if line.len() < LINE_LIMIT {
         return Err(Refusal::Short);

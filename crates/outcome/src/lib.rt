@@ -1,8 +1,8 @@
-// What calls answer: why one is refused, and of an opening how the longest chain changed.
+// What calls answer: why one is refused, of an opening how the longest chain changed, and of a writer what it wrote.
 
 #![tactic(auto)]
 
-ghost use Rattle.std.specs.Prelude.{◌≡◌};
+ghost use Rattle.std.specs.Prelude.{◌≡◌, ◌≤◌, length, take};
 ghost use Rattle.outcome.specs.Outcome.{letter_of};
 ghost use Rattle.outcome.specs.Refusals.{number_of};
 
@@ -68,5 +68,24 @@ pub fn letter(o: Outcome) -> u8
             Change::Shrank => b'S',
         },
         Outcome::Refused(_) => b'R',
+    }
+}
+
+// ---- what is written
+
+// The memory that a writer was lent, and how many of its first bytes it wrote.
+#[derive(Drop)]
+pub struct Written<'a> {
+    pub lent: &'a mut [u8],
+    pub length: usize,
+}
+
+impl<'a> Written<'a> {
+    // The written part of what was lent.
+    pub fn part(&self) -> &[u8]
+        requires { self.now.length ≤ length self.now.lent.now }
+        ensures { result.now ≡ take self.now.length self.now.lent.now }
+    {
+        &self.lent[..self.length]
     }
 }

@@ -24,7 +24,8 @@ use Rattle.decimal.proofs.Decimals.{decimal_word, decimal_byte}
 use Rattle.decimal.proofs.Places.{placed_byte, placed_join, placed_text, placed_end, placed_whole}
 use Rattle.report.specs.declared.ReportFields.{ReportFields}
 use Rattle.report.proofs.Texts.{figures_most}
-use Rattle.report.specs.Line.{outcome_text, figures_text, report_line, buffer_limit, report_done, report_refused, ReportLeft, report_left, written_of, report_call, handed_back}
+use Rattle.report.specs.Line.{outcome_text, figures_text, report_line, buffer_limit, report_call}
+use Rattle.outcome.specs.Answers.{answer_of, Left, leaves}
 
 -- ---- the outcome
 
@@ -51,14 +52,14 @@ pub ruleset outcome_put = (accepted_placed, refused_placed, decimal_byte, length
 
 -- ---- the call
 
-pub report_short : (r : ReportFields) (buffer : List ℕ) → length buffer < buffer_limit → report_left (report_refused short_buffer) buffer ≡ report_call r buffer
+pub report_short : (r : ReportFields) (buffer : List ℕ) → length buffer < buffer_limit → leaves (Err short_buffer) buffer ≡ report_call r buffer
 unfolding report_call
 report_short r buffer h = rw (lt-ltb (length buffer) buffer_limit h)
 
-pub report_done_lem : (r : ReportFields) {buffer after : List ℕ} {end : ℕ} → Placed (report_line r) 0 buffer end after → buffer_limit ≤ length buffer → report_left (report_done end) after ≡ report_call r buffer
+pub report_done_lem : (r : ReportFields) {buffer after : List ℕ} {end : ℕ} → Placed (report_line r) 0 buffer end after → buffer_limit ≤ length buffer → leaves (Ok end) after ≡ report_call r buffer
 unfolding report_call
 report_done_lem r {buffer} w k =
-    ap₂ (λ (n : ℕ) (l : List ℕ). report_left (report_done n) l) (w.behind ∙ zero-add (length (report_line r))) (placed_whole w)
+    ap₂ (λ (n : ℕ) (l : List ℕ). leaves (Ok n) l) (w.behind ∙ zero-add (length (report_line r))) (placed_whole w)
     ∙ rw (le-ltb (length buffer) buffer_limit k)
 
 -- the pieces of a line, and its ending
@@ -69,30 +70,18 @@ line_placed r {b₃ = b₃} {e₃ = e₃} p q s h = placed_join (placed_join (pl
 
 pub ruleset written = (report_short, report_done_lem, line_placed, decimal_word, figures_most, length-set)
 
--- ---- the part handed back
+-- ---- what is handed back
 
--- the line lies within the buffer
-call_within : (r : ReportFields) (buffer : List ℕ) → (report_call r buffer).answer.written ≤ length (report_call r buffer).buffer
-unfolding report_call overwrite
-call_within r buffer = go (ltb (length buffer) buffer_limit)
-  where
-    go : (b : Bool) → let l = cond b (report_left (report_refused short_buffer) buffer) (report_left (report_done (length (report_line r))) (overwrite (report_line r) buffer)) in l.answer.written ≤ length l.buffer
-    go true = zero-le
-    go false = omega (arith, length-append (report_line r) (drop (length (report_line r)) buffer))
-
--- the part is as long as the answer tells, which of a refusal is 0
-told : (w : Result ℕ Refusal) → result_unwrap_or w 0 ≡ (written_of w).written
-unfolding written_of
+-- the length is the answer's, which of a refusal is 0
+told : (w : Result ℕ Refusal) → result_unwrap_or w 0 ≡ result_unwrap_or (answer_of w) 0
 told (Ok n) = refl
 told (Err k) = refl
 
-pub part_length : (r : ReportFields) (buffer : List ℕ) (w : Result ℕ Refusal) {after : List ℕ} {k : ℕ} → k ≡ result_unwrap_or w 0 → report_left (written_of w) after ≡ report_call r buffer → k ≡ length (take k after)
-part_length r buffer w {after} {k} p e =
-    let n : k ≡ (report_call r buffer).answer.written = p ∙ told w ∙ ap (λ (l : ReportLeft). l.answer.written) e in
-    let m : length after ≡ length (report_call r buffer).buffer = ap (λ (l : ReportLeft). length l.buffer) e in
-    sym (length-take-le k after (omega (arith, call_within r buffer)))
+module _ (w : Result ℕ Refusal) {after : List ℕ} {call : Left ℕ (List ℕ)} (e : leaves (answer_of w) after ≡ call) where
+  pub length_told : {k : ℕ} → k ≡ result_unwrap_or w 0 → k ≡ result_unwrap_or call.answer 0
+  length_told p = p ∙ told w ∙ ap (λ (l : Left ℕ (List ℕ)). result_unwrap_or l.answer 0) e
 
--- the parts are those of the call
-pub line_handed : (w : Result ℕ Refusal) {after : List ℕ} {call : ReportLeft} {k : ℕ} → k ≡ result_unwrap_or w 0 → report_left (written_of w) after ≡ call → take k after ∷ after ∷ [] ≡ handed_back call
-unfolding handed_back
-line_handed w {after} p e = ap (λ (n : ℕ). take n after ∷ after ∷ []) (p ∙ told w) ∙ ap handed_back e
+  pub lent_told : after ≡ call.lent
+  lent_told = ap (λ (l : Left ℕ (List ℕ)). l.lent) e
+
+pub ruleset handed = (length_told, lent_told)

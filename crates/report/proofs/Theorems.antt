@@ -1,13 +1,14 @@
--- No two reports have the same line, the longest line has 45 bytes, and the part handed back is the line. Assumes nothing.
-use mathlib.Core.Path.{◌≡◌, refl, sym, ap, ap₂, ◌∙◌}
-use mathlib.Core.Bool.{true, false}
+-- No two reports have the same line, the longest line has 45 bytes, which refusal the call gives, and the part handed back is the line. Assumes nothing.
+use mathlib.Core.Path.{◌≡◌, refl, sym, ap, ap₂, ◌∙◌, subst}
+use mathlib.Core.Bool.{Bool, true, false, cond}
+use lib.Dec.{ltb}
 use mathlib.Core.List.{List, [], ◌∷◌, ◌++◌, append_assoc}
 use Prim.Native.Nat.{ℕ, ◌+◌, ◌^◌, ◌≤◌, ◌<◌}
 use native.Mathlib.Omega.{arith}
-use lib.ListN.{length, length-append}
+use lib.ListN.{length, take, length-append}
 use borrow.Author.Tests.{lt-ltb, le-ltb}
 use Rattle.std.proofs.lemmas.Bool.{and_parts}
-use Rattle.lists.specs.Lists.{allb, overwrite}
+use Rattle.lists.specs.Lists.{allb, first_of, overwrite}
 use Rattle.lists.proofs.Fills.{overwrite_take}
 use Rattle.lists.proofs.Tests.{clash}
 use Rattle.outcome.specs.Outcome.{letter_of, refusal_of}
@@ -17,7 +18,14 @@ use Rattle.outcome.specs.declared.Outcome.TheVariants.{Accepted, Refused}
 use Rattle.decimal.specs.Decimal.{spell, decimal, field}
 use Rattle.decimal.proofs.Decimals.{decimal_word, decimal_half, decimal_byte, is_graph, decimal_graph, decimal_injective}
 use Rattle.report.specs.declared.ReportFields.{ReportFields}
-use Rattle.report.specs.Line.{outcome_text, figures_text, report_line, IsWithin, buffer_limit, report_call, handed_back}
+use Rattle.report.specs.Line.{outcome_text, figures_text, report_line, IsWithin, buffer_limit, report_call, ReportRefuses}
+use Rattle.std.specs.Result.{result_unwrap_or}
+use Rattle.outcome.specs.Answers.{Left, leaves, numbered, unless, Refuses}
+use Rattle.outcome.specs.Numbers.{short_buffer}
+use Rattle.outcome.proofs.Answers.{refuses_by}
+use Rattle.lists.specs.Conditions.{IsShort}
+use Rattle.lists.proofs.Conditions.{decides_below}
+use Rattle.std.specs.Prelude.{Ok, Err}
 
 -- ---- the outcome's text
 
@@ -127,15 +135,40 @@ pub line_longest : length (report_line longest) ≡ 45
 unfolding longest report_line figures_text field outcome_text letter_of refusal_of decimal spell
 line_longest = refl
 
+-- ---- which refusal
+
+pub report_refusals : ReportRefuses report_call
+unfolding report_call first_of numbered unless allb
+report_refusals r buffer = subst (Refuses cs buffer) (same short) (refuses_by ts cs (refl, decides_below (length buffer) buffer_limit, λ f. tt) refl buffer done refl)
+  where
+    short : Bool
+    short = ltb (length buffer) buffer_limit
+
+    cs : List (Type 0 × ℕ)
+    cs = (IsShort ((buffer_limit, length buffer) ∷ []), short_buffer) ∷ []
+
+    ts : List (Bool × ℕ)
+    ts = (short, short_buffer) ∷ []
+
+    done : Left ℕ (List ℕ)
+    done = leaves (Ok (length (report_line r))) (overwrite (report_line r) buffer)
+
+    same : (b : Bool) → unless (numbered (first_of ((b, short_buffer) ∷ []))) buffer done ≡ cond b (leaves (Err short_buffer) buffer) done
+    same true = refl
+    same false = refl
+
 -- ---- the part handed back: the line itself, and nothing exactly where the buffer is short
 
-pub part_written : (r : ReportFields) (buffer : List ℕ) → buffer_limit ≤ length buffer → handed_back (report_call r buffer) ≡ report_line r ∷ overwrite (report_line r) buffer ∷ []
-unfolding handed_back report_call
-part_written r buffer h = rw (le-ltb (length buffer) buffer_limit h) (ap (λ (part : List ℕ). part ∷ overwrite (report_line r) buffer ∷ []) (overwrite_take (report_line r) buffer))
+abbrev part_of : Left ℕ (List ℕ) → List ℕ
+part_of left = take (result_unwrap_or left.answer 0) left.lent
 
-pub part_refused : (r : ReportFields) (buffer : List ℕ) → length buffer < buffer_limit → handed_back (report_call r buffer) ≡ [] ∷ buffer ∷ []
-unfolding handed_back report_call
-part_refused r buffer h = rw (lt-ltb (length buffer) buffer_limit h)
+pub part_written : (r : ReportFields) (buffer : List ℕ) → buffer_limit ≤ length buffer → part_of (report_call r buffer) ≡ report_line r
+unfolding report_call
+part_written r buffer h = rw (le-ltb (length buffer) buffer_limit h) (overwrite_take (report_line r) buffer)
+
+pub part_refused : (r : ReportFields) (buffer : List ℕ) → length buffer < buffer_limit → part_of (report_call r buffer) ≡ []
+unfolding report_call
+part_refused r buffer h = rw (lt-ltb (length buffer) buffer_limit h) refl
 
 pub line_some : (r : ReportFields) → report_line r ≡ [] → ⊥
 line_some r e = let l : length (report_line r) ≡ 0 = ap length e in omega (arith, line_length r)

@@ -2,15 +2,19 @@
 
 #![tactic(auto)]
 
-ghost use Rattle.std.specs.Prelude.{◌≡◌, map, ◌+◌, ◌≤◌, length};
+pub mod promises;
+
+ghost use Rattle.std.specs.Prelude.{◌≡◌, ◌+◌, ◌≤◌, length};
+ghost use Rattle.std.specs.Result.{result_unwrap_or};
+ghost use Rattle.outcome.specs.Answers.{answer_of, leaves};
 ghost use Rattle.decimal.specs.Decimal.{field};
 ghost use Rattle.decimal.specs.Placed.{Placed};
-ghost use Rattle.report.specs.Line.{outcome_text, written_of, report_left, report_call, handed_back};
+ghost use Rattle.report.specs.Line.{outcome_text, report_call};
 
 mod kept;
 
 pub use kept::KeptTexts;
-use outcome::{Outcome, Refusal};
+use outcome::{Outcome, Refusal, Written};
 
 // the bytes that a line is lent; in specifications `buffer_limit`
 pub const BUFFER_LIMIT: usize = 48;
@@ -27,13 +31,13 @@ pub struct ReportFields {
 }
 
 // Writes the line of a report at the start of the caller's buffer, and answers its length. What the line has like those before it is kept, and copied.
-#[tactic(auto, using(crate::proofs::Lines::written), unfolding(crate::specs::Line::written_of))]
-pub fn write_report_by(
+#[tactic(auto, using(crate::proofs::Lines::written))]
+fn write_report_by(
     kept: &mut KeptTexts,
     line: &mut [u8],
     report: ReportFields,
 ) -> Result<usize, Refusal>
-    ensures { report_left (written_of result) line.new ≡ report_call report line.old }
+    ensures { leaves (answer_of result) line.new ≡ report_call report line.old }
 {
     if line.len() < BUFFER_LIMIT {
         return Err(Refusal::Short);
@@ -48,21 +52,25 @@ pub fn write_report_by(
 
 // The same for a single line, of which nothing is kept.
 pub fn write_report(line: &mut [u8], report: ReportFields) -> Result<usize, Refusal>
-    ensures { report_left (written_of result) line.new ≡ report_call report line.old }
+    ensures { leaves (answer_of result) line.new ≡ report_call report line.old }
 {
     write_report_by(&mut KeptTexts::new(), line, report)
 }
 
-// The same, with the written part handed back as a part of the caller's buffer, and the whole buffer
-// beside it: the part is empty exactly where the buffer is too short.
-#[tactic(auto, using(crate::proofs::Lines::part_length, crate::proofs::Lines::line_handed))]
-pub fn report_line<'a>(line: &'a mut [u8], report: ReportFields) -> [&'a [u8]; 2]
-    ensures { map (λ x. x.now) result ≡ handed_back (report_call report line.old) }
+// Writes the line of a report at the start of the caller's buffer, which is handed back and the part of
+// it that was written: it is empty exactly where the buffer is too short.
+#[tactic(auto, using(crate::proofs::Lines::handed))]
+pub fn report_line<'a>(
+    kept: &mut KeptTexts,
+    line: &'a mut [u8],
+    report: ReportFields,
+) -> Written<'a>
+    ensures same { result.lent.ghost_name ≡ line.entry.ghost_name }
+    ensures length { result.length ≡ result_unwrap_or (report_call report line.old).answer 0 }
+    ensures lent { result.lent.now ≡ (report_call report line.old).lent }
 {
-    let written = write_report(&mut *line, report).unwrap_or(0);
-    let whole = &line[..];
-    let part = &whole[..written];
-    [part, whole]
+    let length = write_report_by(kept, &mut *line, report).unwrap_or(0);
+    Written { lent: line, length }
 }
 
 // Puts a space and the outcome's letter, with the number of a refusal, at a place of the line: five

@@ -1,7 +1,6 @@
 -- The writer's call on lent memory: one definition from what was lent to the answer and every byte.
 -- Assumes nothing.
-use Rattle.std.specs.Prelude.{List, [], ◌∷◌, ℕ, length, take, Result, Ok, Err, nat_lt, if◌then◌else◌}
-use Rattle.std.specs.Result.{result_unwrap_or}
+use Rattle.std.specs.Prelude.{List, ℕ, length, Result, Ok, Err, nat_lt, if◌then◌else◌}
 use Rattle.lists.specs.Lists.{overwrite}
 use Rattle.outcome.specs.declared.Refusal.{Refusal}
 use Rattle.outcome.specs.declared.Refusal.TheVariants.{Short}
@@ -17,7 +16,3 @@ unfoldable pub write_call : Said → List ℕ → Result ℕ Refusal × List ℕ
 write_call s buffer =
     if nat_lt (length buffer) buffer_limit then (Err Short, buffer)
     else (Ok (length (sentence_of s)), overwrite (sentence_of s) buffer)
-
--- the written part, which is empty exactly where the call is refused, and the whole buffer
-unfoldable pub handed_back : Result ℕ Refusal × List ℕ → List (List ℕ)
-handed_back left = take (result_unwrap_or left.0 0) left.1 ∷ left.1 ∷ []

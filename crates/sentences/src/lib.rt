@@ -7,16 +7,17 @@
 
 pub mod promises;
 
-ghost use Rattle.std.specs.Prelude.{◌≡◌, map, ◌++◌, ◌+◌, ◌≤◌, length, option_copied};
+ghost use Rattle.std.specs.Prelude.{◌≡◌, ◌++◌, ◌+◌, ◌≤◌, length, option_copied};
+ghost use Rattle.std.specs.Result.{result_unwrap_or};
 ghost use Rattle.decimal.specs.Decimal.{decimal};
 ghost use Rattle.decimal.specs.Front.{front_of};
 ghost use Rattle.decimal.specs.Placed.{Placed};
 ghost use Rattle.sentences.specs.Sentence.{start_of, middle_of, figures_of, sentence_of, half_limit};
 ghost use Rattle.sentences.specs.Readers.{behind, part};
 ghost use Rattle.sentences.specs.Reading.{read_event, read_link, read_outcome, read_said, read_sentence};
-ghost use Rattle.sentences.specs.Calls.{write_call, handed_back};
+ghost use Rattle.sentences.specs.Calls.{write_call};
 
-use outcome::{Change, Outcome, Refusal};
+use outcome::{Change, Outcome, Refusal, Written};
 
 // the bytes that a sentence is lent; in specifications `buffer_limit`
 pub const BUFFER_LIMIT: usize = 160;
@@ -52,15 +53,16 @@ pub fn write_sentence(line: &mut [u8], said: Said) -> Result<usize, Refusal>
     Ok(put_sentence(line, 0, said))
 }
 
-// The same, with the written part handed back as a part of the caller's buffer, and the whole buffer
-// beside it: the part is empty exactly where the buffer is too short.
-pub fn sentence_line<'a>(line: &'a mut [u8], said: Said) -> [&'a [u8]; 2]
-    ensures { map (λ x. x.now) result ≡ handed_back (write_call said line.old) }
+// The same, with the caller's buffer handed back and the part of it that was written: it is empty
+// exactly where the buffer is too short.
+#[tactic(auto, using(crate::proofs::Calls::handed))]
+pub fn sentence_line<'a>(line: &'a mut [u8], said: Said) -> Written<'a>
+    ensures same { result.lent.ghost_name ≡ line.entry.ghost_name }
+    ensures length { result.length ≡ result_unwrap_or (write_call said line.old).0 0 }
+    ensures lent { result.lent.now ≡ (write_call said line.old).1 }
 {
-    let written = write_sentence(&mut *line, said).unwrap_or(0);
-    let whole = &line[..];
-    let part = &whole[..written];
-    [part, whole]
+    let length = write_sentence(&mut *line, said).unwrap_or(0);
+    Written { lent: line, length }
 }
 
 // Reads a sentence, which is the whole text.

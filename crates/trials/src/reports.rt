@@ -1,20 +1,28 @@
 // Report lines, each beside its text, and a buffer one byte too short, which has none.
 use crate::tally::Tally;
 use outcome::{Change, Outcome};
-use report::ReportFields;
+use report::{KeptTexts, ReportFields};
 
 // Whether a report's line, in a buffer of 48 bytes, is the text, and the buffer keeps what stands behind it.
 fn is_line(fields: ReportFields, text: &[u8]) -> bool {
     let mut line = [b'x'; 48];
-    let [written, whole] = report::report_line(&mut line, fields);
-    written == text && whole.len() == 48 && whole[47] == b'x'
+    let written = report::report_line(&mut KeptTexts::new(), &mut line, fields);
+    let length = written.length;
+    let whole = &written.lent[..];
+    if whole.len() != 48 || length > 48 {
+        return false;
+    }
+    let part = &whole[..length];
+    part == text && whole[47] == b'x'
 }
 
 // Whether a buffer of 47 bytes is handed back without a line, unchanged.
 fn is_refused(fields: ReportFields) -> bool {
     let mut line = [b'x'; 47];
-    let [written, whole] = report::report_line(&mut line, fields);
-    written.is_empty() && whole == [b'x'; 47].as_slice()
+    let written = report::report_line(&mut KeptTexts::new(), &mut line, fields);
+    let length = written.length;
+    let whole = &written.lent[..];
+    length == 0 && whole == [b'x'; 47].as_slice()
 }
 
 // The first line of a day, a refused one, the longest, and the buffer too short.

@@ -2,13 +2,11 @@
 -- when the digits are known to spell a frame.
 use mathlib.Core.Path.{sym, ◌∙◌}
 use borrow.Author.Tests.{not-false}
-use Rattle.notice.specs.Calls.{reading_of}
 use Rattle.notice.proofs.Answers.{digits_fit, read_done}
 use borrow.Author.Rules.{rules}
 use Rattle.notice.proofs.read_notice.Goals as goal
 
 pub returns : goal.returns
-unfolding reading_of
 returns c =
     read_done _ c.first_part-head.ensures c.leading-digits.result.are_digits c.leading-digits.ensures _ c.read_bytes.ensures
     c.if-end-head.false c.if-head-end-ne10.false (sym c.spells_frame.ensures ∙ not-false _ c.if-not-spells_frame.false-raw) c.if-frame-lt-FRAME_LIMIT.false

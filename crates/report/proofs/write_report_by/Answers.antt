@@ -4,7 +4,7 @@ use lib.ListN.{length}
 use Prim.Native.Nat.{◌≤◌}
 use Rattle.decimal.specs.Decimal.{decimal}
 use Rattle.decimal.proofs.Decimals.{decimal_word}
-use Rattle.report.specs.Line.{figures_text, written_of}
+use Rattle.report.specs.Line.{figures_text}
 use Rattle.report.proofs.Texts.{figures_most}
 use Rattle.report.proofs.Lines.{report_done_lem, line_placed}
 use borrow.Author.Rules.{rules}
@@ -19,7 +19,6 @@ figures-fit : (c : Start) → length (figures_text c.args.report) ≤ 29
 figures-fit c = figures_most c.args.report (search rules) (search rules) (search rules) (search rules)
 
 pub returns : goal.returns
-unfolding written_of
 returns c =
     report_done_lem _ (line_placed _ c.put-a.ensures c.put_outcome-b.ensures.0
     c.put-end.ensures (omega (arith, number_fits (goal.at.returns c).Start, figures-fit (goal.at.returns c).Start))) (omega arith)
