@@ -1,6 +1,7 @@
-// The program: the network report of each notice file that is named as an argument, a line for each,
-// and a last line that totals them. A file that cannot be read is said on standard error, and counts
-// as far as it was read; a write that fails is said too, and ends the run. Both are the exit status.
+// The program: the network report of each notice file that is named as an argument, a line for
+// each, and a last line that totals them. A file that cannot be read is said on standard error, and
+// counts as far as it was read; a write that fails is said too, and ends the run. Both are the exit
+// status.
 #![tactic(auto)]
 
 mod files;

@@ -1,15 +1,14 @@
 -- WHAT WAS READ of a file, by how its reading ended, and the map after it. Assumes nothing.
-use Rattle.std.proofs.Common.{◌≡◌, ℕ, List, [], ◌∷◌, ◌++◌, Option, None, Some, IfSome, refl, sym, ap, ◌∙◌, append_assoc, append-nil, length, ◌≤◌, subst}
+use Rattle.std.proofs.Common.{◌≡◌, ℕ, List, [], ◌++◌, Option, None, Some, IfSome, refl, sym, ap, ◌∙◌, append_assoc, append-nil, ◌≤◌, subst}
 use mathlib.Core.Bool.{Bool, true, false}
 use mathlib.Core.Logic.{◌⊎◌, inl, inr}
 use Rattle.std.specs.declared.io.Error.{Error}
-use Rattle.std.specs.Io.KnownBytes.{Appends, Consumes, IsAtEnd}
-use Rattle.std.proofs.KnownBytes.{Consumes-whole}
+use Rattle.std.specs.Io.KnownBytes.{Consumes, IsAtEnd}
 use Rattle.transcript.specs.Transcript.{lines_limit, network_in}
 use Rattle.transcript.specs.Manner.{as_reports}
-use Rattle.stream.specs.Pieces.{Standing, Turn, stands_told, used_told, HasBegun}
+use Rattle.stream.specs.Pieces.{Standing, stands_told, used_told, HasBegun}
 use Rattle.stream.proofs.Theorems.{IsMapOf, network_told, unfollowed_told}
-use Rattle.feeding.specs.Reading.{IsAnswered, IsOver, IsCut, HasTurned, Reads}
+use Rattle.feeding.specs.Reading.{IsAnswered, IsOver, IsCut, Reads}
 use Rattle.feeding.proofs.Turns.{turned_none}
 use Rattle.feeding.specs.declared.Ending.{Ending}
 use Rattle.feeding.specs.declared.Ending.TheVariants.{Stopped, Whole, Failed, Unwritten, Endless}

@@ -1,6 +1,6 @@
 -- A RUN OVER NOTICE FILES: what was read of each, and what is written of it. Where the bytes of a
 -- file or of the writer are not known, nothing is said of them. Assumes nothing.
-use Rattle.std.specs.Prelude.{◌≡◌, true, false, Bool, List, [], ◌∷◌, ◌++◌, ℕ, zero, suc, ◌≤◌, length, Option, None, Some, Result, Ok, Err}
+use Rattle.std.specs.Prelude.{◌≡◌, true, false, Bool, List, [], ◌∷◌, ◌++◌, ℕ, suc, ◌≤◌, length, Option, None, Some, Result, Ok, Err}
 use mathlib.Core.Logic.{◌⊎◌}
 use Rattle.std.specs.declared.io.Error.{Error}
 use Rattle.std.specs.Io.KnownBytes.{Appends}

@@ -1,5 +1,5 @@
 -- `surveys::report_file`: the map that the stream leaves is that of what was read of the file, and so is its report.
-use Rattle.std.proofs.Common.{arith, rules, tests, ◌∙◌}
+use Rattle.std.proofs.Common.{rules, tests, ◌∙◌}
 use Rattle.stream.proofs.Theorems.{stands_ready}
 use Rattle.summaries.proofs.Theorems.{answered_as, answered_is}
 use Rattle.summaries.proofs.Summed.{map_summed}

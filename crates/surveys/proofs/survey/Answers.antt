@@ -1,11 +1,9 @@
 -- `surveys::survey`: a file's line more, or the last line, or a write failed.
-use Rattle.std.proofs.Common.{[], ◌∷◌, ◌++◌, rules, arith, refl, sym, ap, subst, ◌∙◌, ◌≡◌}
+use Rattle.std.proofs.Common.{[], ◌∷◌, ◌++◌, arith, refl, subst}
 use mathlib.Core.Bool.{false}
 use lib.ListN.{length-append}
 use Rattle.std.specs.Io.KnownBytes.{Appends}
-use Rattle.std.proofs.KnownBytes.{Appends-nil}
 use Rattle.feeding.specs.Reading.{AppendsPart}
-use Rattle.summaries.specs.Run.{no_totals}
 use Rattle.summaries.proofs.Summed.{total_is}
 use Rattle.surveys.proofs.Lines.{none_read, none_totalled, none_of_files, none_written, firsts_read, read_more, totals_then}
 use Rattle.surveys.proofs.Lines.{written_more, written_part_more, written_last, written_part_last}
@@ -26,7 +24,7 @@ loop-i-preserved g c =
         so.4.0 ++ is.0 ∷ [],
         simp length-append (omega (arith, so.4.1)),
         read_more _ _ _ so.4.0 is.0 _ so.4.1 so.4.2 is.1,
-        totals_then _ _ _ _ so.4.3 is.3,
+        totals_then _ _ so.4.0 is.0 so.4.3 is.3,
         written_more _ _ _ so.4.0 so.4.4 is.0 is.2,
       ),
     )
