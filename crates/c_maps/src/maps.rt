@@ -7,7 +7,7 @@ use map::{Room, Scratch};
 use outcome::Refusal;
 
 // Empties a map. 0; or 1 (short).
-#[tactic(auto, unfolding(crate::specs::Outs::empty_out))]
+#[tactic(auto, unfolding(crate::specs::Outs::empty_out, c_values::specs::Outs::on_words))]
 #[unsafe(no_mangle)]
 pub extern "C" fn zorpedi_empty(words: &mut [u64], links: &mut [u64], pairs: &mut [u64]) -> u8
     ensures { (result, words.new, (links.new, pairs.new)) ≡ empty_out words.old links.old pairs.old }
@@ -60,7 +60,7 @@ pub extern "C" fn zorpedi_search(
 }
 
 // The whole reckoning. 0, and the number of searches; or 1 (short), 2 (spoilt), 3 (apart).
-#[tactic(auto, unfolding(crate::specs::Outs::reckon_out))]
+#[tactic(auto, unfolding(crate::specs::Outs::reckon_out, c_values::specs::Outs::on_words))]
 #[unsafe(no_mangle)]
 pub extern "C" fn zorpedi_reckon(
     words: &mut [u64],

@@ -22,7 +22,11 @@ use Rattle.map.specs.declared.Record.{Record}
 use Rattle.checks.proofs.Theorems.{sound_links_iff}
 use Rattle.map.specs.Room.{Lent, sizes_of}
 use Rattle.rounds.specs.Leaves.{rounds_leave}
-use Rattle.reckon.specs.ReckonCall.{reckon_refusal, figured_by, Searches, ReckonLeft, reckon_given, reckon_call}
+use Rattle.std.specs.Prelude.{None, Ok}
+use Rattle.outcome.specs.Answers.{numbered, Left, leaves}
+use Rattle.outcome.proofs.Answers.{done_leaves}
+use Rattle.reckon.specs.declared.Reckoned.{Reckoned}
+use Rattle.reckon.specs.ReckonCall.{reckon_refusal, figured_by, reckon_call}
 use Rattle.lent_map.proofs.Refuses.{refused_never}
 use Rattle.update.proofs.Memories.{IsHeld, open_below}
 use Rattle.rounds.proofs.Reading.{pairs_read}
@@ -36,7 +40,7 @@ use Rattle.graph.proofs.Yards.{yards_connected}
 unfoldable pub path_result : ℕ → ℕ → Result
 path_result k number =
     let S = reckon (chart (path k)) in (
-      Searches (length S.references),
+      length S.references,
       S.references,
       (number, S.candidate, count_pairs (vertices (path k)) S.pairs),
       mapl (λ v. cond ((path k).is_open v) (mark_of 256 257 (S.status v)) 257) (range 256),
@@ -65,28 +69,28 @@ module _ (k number : ℕ) (low : k ≤ 256) (counts : number ≡ countb (path k)
   connected_pass : connected (map_network base rec links) ≡ true
   connected_pass = rw lent.network ((connected_iff (path k) held.net.sound held.net.small).1 held.net.connected)
 
-  accepts : reckon_refusal base rec links (sizes_of links B) ≡ 0
-  unfolding reckon_refusal
+  accepts : None ≡ reckon_refusal base rec links (sizes_of links B)
+  unfolding reckon_refusal numbered
   accepts =
-      sym (refused_never base rec links [] false lent.long links_pass refl
+      ap numbered (refused_never base rec links [] false lent.long links_pass refl
       (sym (yards_connected (row_bit 4 rec.yards) (network_of 4 rec.members links)) ∙ connected_pass))
 
   -- ---- what it leaves
 
-  abbrev left_by : Network → ReckonLeft
+  abbrev reckoned : ℕ → Record → Reckoned
+  reckoned n after = record { searches = n; after = after }
+
+  abbrev left_by : Network → Left Reckoned Lent
   left_by G =
       let R = reckon (chart G) in
-      record {
-        reckoned = record {
-          answer = Searches (length R.references);
-          after = record { members = rec.members; number = rec.number; chain = R.candidate; count = count_pairs (range 256) R.pairs; yards = rec.yards };
-        };
-        lent = rounds_leave base G R B;
-      }
+      leaves
+      (Ok (reckoned (length R.references)
+      (record { members = rec.members; number = rec.number; chain = R.candidate; count = count_pairs (range 256) R.pairs; yards = rec.yards })))
+      (rounds_leave base G R B)
 
   left_is : reckon_call base rec links B ≡ left_by (path k)
-  unfolding reckon_call reckon_given figured_by
-  left_is = ap (λ (m : ℕ). reckon_given m base rec links B) accepts ∙ ap left_by lent.network
+  unfolding reckon_call figured_by
+  left_is = sym (done_leaves B (left_by (map_network base rec links)) accepts) ∙ ap left_by lent.network
 
   -- the pairs join open depots
   ends : (u v : ℕ) → T (S.pairs u v) → T ((path k).is_open u) × T ((path k).is_open v)
@@ -107,12 +111,12 @@ module _ (k number : ℕ) (low : k ≤ 256) (counts : number ≡ countb (path k)
 
   -- ---- ITS RESULT
 
-  pub path_result_lem : result_of (reckon_call base) rec links B ≡ path_result k number
+  pub path_result_lem : result_of (reckon_call base) rec links B ≡ Ok (path_result k number)
   unfolding result_of path_result rounds_leave
   path_result_lem =
       rw (left_is, lent.network, lent.counted, count_is, pairs_are_lem)
-      (λ i. (
-        Searches (length S.references),
+      (λ i. Ok (
+        length S.references,
         S.references,
         (number, S.candidate, count_pairs (vertices (path k)) S.pairs),
         placed (λ v. cond ((path k).is_open v) (mark_of 256 257 (S.status v)) 257) 256 B.skips i,

@@ -19,7 +19,9 @@ use Rattle.graph.specs.Opening.{empty_network}
 use Rattle.graph.specs.Updates.{Update, opens, joins}
 use Rattle.graph.specs.Cases as Graph
 use Rattle.map.specs.Memory.{base, network_of, yard_network, map_network}
-use Rattle.map.specs.Empty.{Done, empty_refusal, empty_given, empty_call}
+use Rattle.std.specs.Prelude.{Ok}
+use Rattle.outcome.specs.Answers.{numbered, unless}
+use Rattle.map.specs.Empty.{empty_record, empty_refusal, empty_call}
 use Rattle.map.specs.declared.Record.{Record}
 use Rattle.map.proofs.Theorems.{emptied_is_empty, base_shape}
 use Rattle.reckon.specs.ReckonCall.{reckon_call}
@@ -67,15 +69,15 @@ path_written : (k : ℕ) → k ≤ 256 → (members yards links : List ℕ)
     ≡ Graph.path k
 path_written k low = network_read base (Graph.path k) (path_held k low)
 
-module _ (rec : Record) (links pairs : List ℕ) (l : 1024 ≤ length links) (p : 1024 ≤ length pairs) where
-  emptied_done : (empty_call base rec links pairs).answer ≡ Done
-  unfolding empty_call empty_given empty_refusal first_of
+module _ (links pairs : List ℕ) (l : 1024 ≤ length links) (p : 1024 ≤ length pairs) where
+  emptied_done : (empty_call base links pairs).answer ≡ Ok (empty_record base.words)
+  unfolding empty_call unless numbered empty_refusal first_of
   emptied_done = rw (le-leb 1024 (length links) l, le-leb 1024 (length pairs) p)
 
-  emptied_path : (map_network base (empty_call base rec links pairs).after (empty_call base rec links pairs).links ≡ Graph.path 0) × ((empty_call base rec links pairs).after.number ≡ 0)
+  emptied_path : (map_network base (empty_record base.words) (empty_call base links pairs).lent.0 ≡ Graph.path 0) × ((empty_record base.words).number ≡ 0)
   unfolding network_of Graph.path
   emptied_path =
-      let e = emptied_is_empty base rec links pairs emptied_done in (
+      let e = emptied_is_empty base links pairs (empty_record base.words) emptied_done in (
         network_path
             (filter-ext _ (λ c. false) (range 256) (λ c m. e.closed c) ∙ filter_none (range 256))
             (λ c. e.closed c ∙ sym (none c))
@@ -139,11 +141,11 @@ text_holds = refl
 
 pub cases_hold : Cases (empty_call base) (reckon_call base) (update_call base)
 cases_hold = record {
-  empty = λ rec links B lent. path_result_lem 0 0 (lit≤ tt) (sym counted.0) rec links B lent ∙ empty_result_lem;
-  single = λ rec links B lent. path_result_lem 1 1 (lit≤ tt) (sym counted.1) rec links B lent ∙ single_result_lem;
-  seven = λ rec links B lent. path_result_lem 7 7 (lit≤ tt) (sym counted.2) rec links B lent ∙ seven_result_lem;
+  empty = λ rec links B lent. path_result_lem 0 0 (lit≤ tt) (sym counted.0) rec links B lent ∙ ap Ok empty_result_lem;
+  single = λ rec links B lent. path_result_lem 1 1 (lit≤ tt) (sym counted.1) rec links B lent ∙ ap Ok single_result_lem;
+  seven = λ rec links B lent. path_result_lem 7 7 (lit≤ tt) (sym counted.2) rec links B lent ∙ ap Ok seven_result_lem;
   written = path_written;
-  emptied = λ rec links pairs l p. let e = emptied_path rec links pairs l p in (emptied_done rec links pairs l p, e.0, e.1);
+  emptied = λ links pairs l p. let e = emptied_path links pairs l p in (empty_record base.words, emptied_done links pairs l p, e.0, e.1);
   stream = stream_holds;
   text = text_holds;
   pieces = λ s is ts out room used. pieces_alike s is ts out room ∙ ap transcript used ∙ text_holds;

@@ -1,6 +1,6 @@
 -- WHAT A CALL LEFT in lent memory, read as numbers and pairs: a reckoning's `Result`, and an
 -- opening's `Line`. Assumes nothing.
-use Rattle.std.specs.Prelude.{◌≡◌, true, ℕ, take}
+use Rattle.std.specs.Prelude.{◌≡◌, true, ℕ, take, Result as Answer, Ok, Err}
 use mathlib.Core.List.{List, [], ◌∷◌, Memᴰ}
 use Rattle.lists.specs.Lists.{range, mapl}
 use Rattle.rows.specs.Rows.{table_bit}
@@ -11,7 +11,8 @@ use Rattle.graph.specs.Cases.{pair_list}
 use Rattle.map.specs.Memory.{base, places, map_network}
 use Rattle.map.specs.declared.Record.{Record}
 use Rattle.map.specs.Room.{Lent, sizes_of, long_enough}
-use Rattle.reckon.specs.ReckonCall.{Reckoning, ReckonLeft}
+use Rattle.outcome.specs.Answers.{Left}
+use Rattle.reckon.specs.declared.Reckoned.{Reckoned}
 use Rattle.outcome.specs.Outcome as Outcome
 use Rattle.update.specs.UpdateCall.{UpdateLeft, Step}
 use Rattle.update.specs.Memory.{Memory}
@@ -37,21 +38,28 @@ pub record IsMapOf (G : Network) (number : ℕ) (rec : Record) (links : List ℕ
   pub counted : rec.number ≡ number
   pub long : long_enough base (sizes_of links B) ≡ true
 
--- the answer; the references, in order, by the rules; number, chain and pair count of the record;
+-- the searches; the references, in order, by the rules; number, chain and pair count of the record;
 -- the places of the skip table and of the bound table; the pairs
 abbrev pub Result : Type 0
-Result = Reckoning × List ℕ × (ℕ × ℕ × ℕ) × List ℕ × List ℕ × List (ℕ × ℕ)
+Result = ℕ × List ℕ × (ℕ × ℕ × ℕ) × List ℕ × List ℕ × List (ℕ × ℕ)
+
+-- of what a reckoning of the network G answered and left; or the number of its refusal
+unfoldable pub result_in : Network → Lent → Answer Reckoned ℕ → Answer Result ℕ
+result_in G B (Err k) = Err k
+result_in G B (Ok a) =
+    let references = (reckon (chart G)).references in
+    let skips = take (places base) B.skips in
+    let bounds = take (places base) B.bounds in
+    let figures : ℕ × ℕ × ℕ = (a.after.number, a.after.chain, a.after.count) in
+    Ok (a.searches, references, figures, skips, bounds, pairs_in B.pairs)
 
 -- of a program whose reckoning call is `step`
-unfoldable pub result_of : (Record → List ℕ → Lent → ReckonLeft) → Record → List ℕ → Lent → Result
+unfoldable pub result_of : (Record → List ℕ → Lent → Left Reckoned Lent)
+    → Record → List ℕ → Lent → Answer Result ℕ
+unfolding result_in
 result_of step rec links B =
     let l = step rec links B in
-    let after = l.reckoned.after in
-    let references = (reckon (chart (map_network base rec links))).references in
-    let skips = take (places base) l.lent.skips in
-    let bounds = take (places base) l.lent.bounds in
-    let pairs = pairs_in l.lent.pairs in
-    (l.reckoned.answer, references, (after.number, after.chain, after.count), skips, bounds, pairs)
+    result_in (map_network base rec links) l.lent l.answer
 
 -- ---- the stream's openings
 

@@ -2,16 +2,16 @@
 -- the seven stream lines, on any lent memory that is long enough, whatever scratch and longer
 -- buffers hold. `cases_hold` (proofs) says it of `empty_call base`, `reckon_call base` and
 -- `update_call base`, which the contracts cite, and of the stream's own calls. Assumes nothing.
-use Rattle.std.specs.Prelude.{◌≡◌, List, [], ◌∷◌, ◌++◌, ℕ, ◌≤◌, length}
+use Rattle.std.specs.Prelude.{◌≡◌, List, [], ◌∷◌, ◌++◌, ℕ, ◌≤◌, length, Ok}
 use Prim.Native.String.{String}
 use Rattle.lists.specs.Lists.{overwrite}
 use Rattle.rows.specs.Rows.{encode_row, encode_table}
 use Rattle.graph.specs.Cases.{path, seven_lines}
 use Rattle.map.specs.Memory.{base, places, table_words, yard_network, map_network}
-use Rattle.map.specs.Empty.{Done, EmptyLeft}
+use Rattle.outcome.specs.Answers.{Left}
 use Rattle.map.specs.declared.Record.{Record}
 use Rattle.map.specs.Room.{Lent}
-use Rattle.reckon.specs.ReckonCall.{Searches, ReckonLeft}
+use Rattle.reckon.specs.declared.Reckoned.{Reckoned}
 use Rattle.update.specs.Memory.{empty_memory}
 use Rattle.update.specs.UpdateCall.{Step}
 use Rattle.report.specs.Line.{buffer_limit}
@@ -25,16 +25,16 @@ use Rattle.cases.specs.Results.{repeated, IsMapOf, Result, result_of, Line, Lent
 
 -- the empty map, and the map of one depot
 abbrev pub empty_result : Result
-empty_result = (Searches 0, [], (0, 0, 0), repeated 256 257, repeated 256 65535, [])
+empty_result = (0, [], (0, 0, 0), repeated 256 257, repeated 256 65535, [])
 
 abbrev pub single_result : Result
 single_result =
-    (Searches 1, 0 ∷ [], (1, 0, 0), 256 ∷ repeated 255 257, 0 ∷ repeated 255 65535, [])
+    (1, 0 ∷ [], (1, 0, 0), 256 ∷ repeated 255 257, 0 ∷ repeated 255 65535, [])
 
 -- the path of seven (rule 5.6)
 abbrev pub seven_result : Result
 seven_result = (
-  Searches 6,
+  6,
   1 ∷ 2 ∷ 3 ∷ 5 ∷ 0 ∷ 6 ∷ [],
   (7, 6, 1),
   256 ∷ 256 ∷ 256 ∷ 256 ∷ 3 ∷ 256 ∷ 256 ∷ repeated 249 257,
@@ -66,15 +66,15 @@ seven_output =
 
 -- ---- THE TABLE, of a program with these three calls
 
-pub record Cases (emptying : Record → List ℕ → List ℕ → EmptyLeft)
-    (reckoning : Record → List ℕ → Lent → ReckonLeft) (opening : Step) : Type 0 where
+pub record Cases (emptying : List ℕ → List ℕ → Left Record (List ℕ × List ℕ))
+    (reckoning : Record → List ℕ → Lent → Left Reckoned Lent) (opening : Step) : Type 0 where
   -- reckoned, on any memory that means the map
   pub empty : (rec : Record) (links : List ℕ) (B : Lent)
-      → IsMapOf (path 0) 0 rec links B → result_of reckoning rec links B ≡ empty_result
+      → IsMapOf (path 0) 0 rec links B → result_of reckoning rec links B ≡ Ok empty_result
   pub single : (rec : Record) (links : List ℕ) (B : Lent)
-      → IsMapOf (path 1) 1 rec links B → result_of reckoning rec links B ≡ single_result
+      → IsMapOf (path 1) 1 rec links B → result_of reckoning rec links B ≡ Ok single_result
   pub seven : (rec : Record) (links : List ℕ) (B : Lent)
-      → IsMapOf (path 7) 7 rec links B → result_of reckoning rec links B ≡ seven_result
+      → IsMapOf (path 7) 7 rec links B → result_of reckoning rec links B ≡ Ok seven_result
   -- there is such memory: a path's words over whatever stood there; for the empty map, what an
   -- emptying leaves
   pub written : (k : ℕ) → k ≤ places base → (members yards links : List ℕ)
@@ -82,11 +82,11 @@ pub record Cases (emptying : Record → List ℕ → List ℕ → EmptyLeft)
       (overwrite (encode_row base.words (path k).is_yard) yards)
       (overwrite (encode_table base.words (path k).linked) links)
       ≡ path k
-  pub emptied : (rec : Record) (links pairs : List ℕ)
+  pub emptied : (links pairs : List ℕ)
       → table_words base ≤ length links → table_words base ≤ length pairs
-      → let left = emptying rec links pairs in
-      (left.answer ≡ Done) × (map_network base left.after left.links ≡ path 0)
-      × (left.after.number ≡ 0)
+      → let left = emptying links pairs in
+      (rec : Record) × (left.answer ≡ Ok rec) × (map_network base rec left.lent.0 ≡ path 0)
+      × (rec.number ≡ 0)
   -- opened from the empty map, each call lent the map as it stands after the one before, and any
   -- other memory that is long enough
   pub stream : (cs : List LentUpdate) → updates_of cs ≡ seven_lines → AllLong cs

@@ -19,7 +19,8 @@ use Rattle.graph.proofs.Yards.{no_yard_delivers}
 use Rattle.map.specs.Memory.{network_of, yard_network}
 use Rattle.checks.specs.Sound.{all_set, sound_links, sound_figures, AreLinksSound, AreFiguresSound}
 use Rattle.map.specs.Bits.{sound_link, sound_yards, sound_pair}
-use Rattle.map.specs.Empty.{EmptyLeft, IsEmpty}
+use Rattle.map.specs.declared.Record.{Record}
+use Rattle.map.specs.Empty.{IsEmpty}
 use Rattle.checks.proofs.Sets.{all_set_intro, all_set_elim}
 use Rattle.map.proofs.Theorems.{network_listed, network_once, network_yardless, network_yard_below, delivering_read, network_linked_below}
 
@@ -162,14 +163,14 @@ module _ (n : ℕ) (G : Network) (P : Pairs) (chain count : ℕ) where
 
 -- ---- AN EMPTY MAP IS SOUND
 
-pub empty_links_sound : (W : ℕ) (left : EmptyLeft) → IsEmpty W left
-    → sound_links (64 * W) (yard_network W left.after.members left.after.yards left.links) left.after.number ≡ true
-empty_links_sound W left e =
-    (sound_links_iff W left.after.members left.after.yards left.links left.after.number).1
+pub empty_links_sound : (W : ℕ) (rec : Record) (links pairs : List ℕ) → IsEmpty W rec links pairs
+    → sound_links (64 * W) (yard_network W rec.members rec.yards links) rec.number ≡ true
+empty_links_sound W rec links pairs e =
+    (sound_links_iff W rec.members rec.yards links rec.number).1
     (record {
       is_sound = record {
-        listed = network_listed W left.after.members left.links;
-        once = network_once W left.after.members left.links;
+        listed = network_listed W rec.members links;
+        once = network_once W rec.members links;
         yards = λ v t. absurd (false→not (e.yardless v) t);
         ends = λ u v l. absurd (false→not (e.unlinked u v) l);
         loopless = λ u v l. absurd (false→not (e.unlinked u v) l);
@@ -178,11 +179,11 @@ empty_links_sound W left e =
       counted = e.number ∙ sym (count_none _ _ (λ u m. e.closed u));
     })
 
-pub empty_figures_sound : (W : ℕ) (left : EmptyLeft) → 0 < W → IsEmpty W left
-    → sound_figures (64 * W) (yard_network W left.after.members left.after.yards left.links) (table_bit W left.pairs) left.after.chain left.after.count ≡ true
+pub empty_figures_sound : (W : ℕ) (rec : Record) (links pairs : List ℕ) → 0 < W → IsEmpty W rec links pairs
+    → sound_figures (64 * W) (yard_network W rec.members rec.yards links) (table_bit W pairs) rec.chain rec.count ≡ true
 unfolding count_pairs
-empty_figures_sound W left some e =
-    (sound_figures_iff (64 * W) (yard_network W left.after.members left.after.yards left.links) (table_bit W left.pairs) left.after.chain left.after.count).1
+empty_figures_sound W rec links pairs some e =
+    (sound_figures_iff (64 * W) (yard_network W rec.members rec.yards links) (table_bit W pairs) rec.chain rec.count).1
     (record {
       rising = λ u v l m p. absurd (false→not (e.unpaired u v) p);
       ends = λ u v l m p. absurd (false→not (e.unpaired u v) p);

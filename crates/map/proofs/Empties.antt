@@ -16,7 +16,9 @@ use Rattle.words.proofs.Bits.{bit_of_zero, word_of-none}
 use Rattle.rows.specs.Rows.{row_bit, table_bit, encode_row, encode_table}
 use Rattle.rows.proofs.Written.{row_in, row_past, table_read}
 use Rattle.map.specs.Memory.{Shape, table_words, base}
-use Rattle.map.specs.Empty.{zeros, empty_record, empty_refusal, empty_given, empty_call, Done, Refused}
+use Rattle.std.specs.Prelude.{Ok, Err}
+use Rattle.outcome.specs.Answers.{numbered, leaves, unless}
+use Rattle.map.specs.Empty.{zeros, empty_record, empty_refusal, empty_call}
 use Rattle.map.specs.declared.Record.{Record}
 
 -- ---- zeros
@@ -52,19 +54,19 @@ pub none_record : record { members = 0 ∷ 0 ∷ 0 ∷ 0 ∷ []; number = 0; cha
 unfolding empty_record zeros mapl range from
 none_record = refl
 
-module _ (K : Shape) (rec : Record) (links pairs : List ℕ) where
-  pub short_links : length links < table_words K → record { answer = Refused 1; after = rec; links = links; pairs = pairs } ≡ empty_call K rec links pairs
-  unfolding empty_call empty_given empty_refusal first_of
+module _ (K : Shape) (links pairs : List ℕ) where
+  pub short_links : length links < table_words K → leaves (Err 1) (links, pairs) ≡ empty_call K links pairs
+  unfolding empty_call unless numbered empty_refusal first_of
   short_links h = simp (lt-leb (table_words K) (length links) h)
 
-  pub short_pairs : length pairs < table_words K → record { answer = Refused 1; after = rec; links = links; pairs = pairs } ≡ empty_call K rec links pairs
-  unfolding empty_call empty_given empty_refusal first_of
+  pub short_pairs : length pairs < table_words K → leaves (Err 1) (links, pairs) ≡ empty_call K links pairs
+  unfolding empty_call unless numbered empty_refusal first_of
   short_pairs h = simp (lt-leb (table_words K) (length pairs) h, and-false)
 
   pub both_cleared : {none : Record} {l p : List ℕ} → table_words K ≤ length links → table_words K ≤ length pairs → none ≡ empty_record K.words
       → l ≡ overwrite (encode_row (table_words K) (λ v. false)) links → p ≡ overwrite (encode_row (table_words K) (λ v. false)) pairs
-      → record { answer = Done; after = none; links = l; pairs = p } ≡ empty_call K rec links pairs
-  unfolding empty_call empty_given empty_refusal first_of
+      → leaves (Ok none) (l, p) ≡ empty_call K links pairs
+  unfolding empty_call unless numbered empty_refusal first_of
   both_cleared h k n e f = rw (le-leb (table_words K) (length links) h, le-leb (table_words K) (length pairs) k, n, e, f, none-zeros (table_words K))
 
 -- what the code answers: where the one or the other table is short, and where both are cleared

@@ -11,7 +11,7 @@ use borrow.Author.Tests.{ltb-true, lt-ltb}
 use Rattle.std.proofs.lemmas.Bool.{and_parts, and_from}
 use Rattle.lists.specs.Lists.{range, filterb, allb, countb, memb, distinct, overwrite}
 use Rattle.lists.specs.Conditions.{IsShort}
-use Rattle.lists.proofs.Conditions.{decides_short, refuses_by}
+use Rattle.lists.proofs.Conditions.{decides_short}
 use Rattle.lists.proofs.Tests.{t→true, true→t, same_test}
 use Rattle.lists.proofs.Members.{length-filter, length-range, filter-ext, filter-twice}
 use Rattle.lists.proofs.Counts.{length_count}
@@ -24,8 +24,13 @@ use Rattle.graph.proofs.Delivers.{delivers_open}
 use Rattle.graph.proofs.Rising.{range_rising, filter_rising}
 use Rattle.rows.specs.Rows.{row_bit, table_bit, encode_row}
 use Rattle.rows.proofs.Written.{row_within}
-use Rattle.map.specs.Memory.{Shape, network_of, yard_network, IsShape, base}
-use Rattle.map.specs.Empty.{empty_record, empty_refusal, empty_given, empty_call, IsEmpty, emptying_number, empty_buffers, EmptyRefuses, LeavesEmpty, Done}
+use Rattle.map.specs.Memory.{Shape, table_words, network_of, yard_network, IsShape, base}
+use Rattle.std.specs.Prelude.{Option, Some, None, Ok}
+use Rattle.std.proofs.lemmas.Option.{none-some}
+use Rattle.std.proofs.lemmas.Result.{IfOk-at_ok}
+use Rattle.outcome.specs.Answers.{refusal_in, Left, leaves, unless}
+use Rattle.outcome.proofs.Answers.{refuses_by}
+use Rattle.map.specs.Empty.{zeros, empty_record, empty_refusal, empty_call, IsEmpty, EmptyRefuses, LeavesEmpty}
 use Rattle.map.specs.declared.Record.{Record}
 use Rattle.map.proofs.Empties.{row_zeros, table_zeros}
 
@@ -108,33 +113,25 @@ network_linked_below W members links u v l =
 
 -- ---- AN EMPTYING IS REFUSED ONLY WITH 1, and an emptied map is empty
 
--- the answer's number is the refusal, 0 where there is none
-pub emptying_numbered : (K : Shape) (rec : Record) (links pairs : List ℕ) → emptying_number (empty_call K rec links pairs).answer ≡ empty_refusal K links pairs
-unfolding empty_call empty_given
-emptying_numbered K rec links pairs = go (empty_refusal K links pairs)
-  where
-    go : (k : ℕ) → emptying_number (empty_given k K rec links pairs).answer ≡ k
-    go zero = refl
-    go (suc k) = refl
-
 -- refused if and only if a table is short, and then nothing changes
 pub empty_refusals : (K : Shape) → EmptyRefuses K (empty_call K)
-unfolding empty_call empty_refusal empty_given allb
-empty_refusals K rec links pairs =
-    refuses_by _ ((IsShort (empty_buffers K links pairs), 1) ∷ [])
-    (refl, rw and-with-true at (decides_short (empty_buffers K links pairs)), λ f. tt)
-    (λ k. empty_given k K rec links pairs) _ (λ l. emptying_number l.answer) numbered (λ k. refl)
-  where
-    numbered : (k : ℕ) → emptying_number (empty_given k K rec links pairs).answer ≡ k
-    numbered zero = refl
-    numbered (suc k) = refl
+unfolding empty_call empty_refusal allb
+empty_refusals K links pairs =
+    let buffers : List (ℕ × ℕ) = (table_words K, length links) ∷ (table_words K, length pairs) ∷ [] in
+    refuses_by _ ((IsShort buffers, 1) ∷ []) (refl, rw and-with-true at (decides_short buffers), λ f. tt) refl (links, pairs) _ refl
 
 pub emptied_is_empty : (K : Shape) → LeavesEmpty K (empty_call K)
-unfolding empty_call empty_given empty_record network_of
-emptied_is_empty K rec links pairs h = go (empty_refusal K links pairs) h
+unfolding empty_call unless empty_record network_of
+emptied_is_empty K links pairs rec h = go (empty_refusal K links pairs) h
   where
-    go : (k : ℕ) → (empty_given k K rec links pairs).answer ≡ Done → IsEmpty K.words (empty_given k K rec links pairs)
-    go zero e = record {
+    emptied : List ℕ → List ℕ
+    emptied = overwrite (zeros (table_words K))
+
+    done : Left Record (List ℕ × List ℕ)
+    done = leaves (Ok (empty_record K.words)) (emptied links, emptied pairs)
+
+    empty : IsEmpty K.words (empty_record K.words) (emptied links) (emptied pairs)
+    empty = record {
       closed = row_zeros K.words;
       yardless = row_zeros K.words;
       unlinked = table_zeros K.words links;
@@ -143,7 +140,10 @@ emptied_is_empty K rec links pairs h = go (empty_refusal K links pairs) h
       chain = refl;
       count = refl;
     }
-    go (suc k) e = let z : ◌≡◌ {A = ℕ} 0 1 = cc in absurd (omega arith)
+
+    go : (k : Option ℕ) → (unless k (links, pairs) done).answer ≡ Ok rec → IsEmpty K.words rec (unless k (links, pairs) done).lent.0 (unless k (links, pairs) done).lent.1
+    go None e = IfOk-at_ok (λ (r : Record). IsEmpty K.words r (emptied links) (emptied pairs)) e empty
+    go (Some k) e = absurd (none-some k (ap refusal_in (sym e)))
 
 -- ---- the shape of the rules is one
 

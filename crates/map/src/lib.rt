@@ -15,7 +15,8 @@ ghost use Rattle.map.specs.Room.{long_enough};
 ghost use Rattle.map.specs.Slices.{sizes_with, lengths_in, scratch_sizes, room_sizes};
 ghost use Rattle.map.specs.Bits.{IsLent, sound_link, sound_yards, sound_pair};
 ghost use Rattle.map.specs.Depots.{NextOpen, depots_left};
-ghost use Rattle.map.specs.Empty.{empty_record, empty_left, empty_call};
+ghost use Rattle.outcome.specs.Answers.{answer_of, leaves};
+ghost use Rattle.map.specs.Empty.{empty_record, empty_call};
 
 use outcome::Refusal;
 
@@ -275,7 +276,7 @@ pub fn empty_record() -> Record
 // A table is cleared as one row of 1,024 words.
 #[tactic(auto, using(crate::proofs::Empties::emptyings))]
 pub fn empty_map(rec: Record, links: &mut [u64], pairs: &mut [u64]) -> Result<Record, Refusal>
-    ensures { empty_left rec result links.new pairs.new ≡ empty_call base rec links.old pairs.old }
+    ensures { leaves (answer_of result) (links.new, pairs.new) ≡ empty_call base links.old pairs.old }
 {
     if links.len() < TABLE || pairs.len() < TABLE {
         return Err(Refusal::Short);

@@ -2,7 +2,7 @@
 use mathlib.Core.Path.{◌≡◌, refl, sym, ap, ◌∙◌, subst}
 use mathlib.Core.Bool.{true, false, Bool}
 use mathlib.Core.List.{List, []}
-use Prim.Native.Nat.{ℕ, zero, suc, ◌*◌, ◌≤◌}
+use Prim.Native.Nat.{ℕ, ◌*◌, ◌≤◌}
 use native.Mathlib.Omega.{arith}
 use lib.ListN.{length}
 use Rattle.lists.specs.Lists.{overwrite}
@@ -24,7 +24,13 @@ use Rattle.rounds.specs.Workspace.{Workspace, workspace, run_of, rounds_begun, r
 use Rattle.rounds.proofs.Holding.{Origin}
 use Rattle.rounds.proofs.Targets.{delivering_targets, delivering_network}
 use Rattle.rounds.proofs.Finish.{start_holds, start_running, run_is}
-use Rattle.reckon.specs.ReckonCall.{reckon_refusal, figured_by, reckon_left, reckon_given, reckon_call, Searches, Refused}
+use Rattle.std.specs.Prelude.{Option, Some, None, Ok, Err, Result}
+use Rattle.outcome.specs.Answers.{answer_of, refusal_in, numbered, leaves}
+use Rattle.outcome.specs.Refusals.{number_of, refused_by}
+use Rattle.outcome.specs.declared.Refusal.{Refusal}
+use Rattle.outcome.proofs.Answers.{none_is, some_is, number_is, refused_leaves, done_leaves}
+use Rattle.reckon.specs.declared.Reckoned.{Reckoned}
+use Rattle.reckon.specs.ReckonCall.{reckon_refusal, figured_by, reckon_call}
 use Rattle.map.proofs.Longs.{are_long_lem}
 use Rattle.lent_map.proofs.Passes.{IsPassed, lent-passed, passed_net}
 use Rattle.lent_map.specs.Faults.{lent_faults, lent_refusal}
@@ -36,26 +42,28 @@ module _ (K : Shape) (rec : Record) (links : List ℕ) (z : Sizes) where
   G = map_network K rec links
 
   -- what refuses the lent map
-  pub refused_map : {k : ℕ} {b : Bool} → b ≡ long_enough K z → k ≡ lent_refusal K b false rec links [] → k ≡ reckon_refusal K rec links z
-  unfolding reckon_refusal
-  refused_map q e = e ∙ ap (λ (b : Bool). lent_refusal K b false rec links []) q
+  pub refused_map : (r : Result Unit Refusal) {b : Bool} → b ≡ long_enough K z → refused_by r ≡ lent_refusal K b false rec links []
+      → refusal_in (answer_of r) ≡ reckon_refusal K rec links z
+  unfolding reckon_refusal numbered
+  refused_map (Ok x) q e = ap numbered (e ∙ ap (λ (b : Bool). lent_refusal K b false rec links []) q)
+  refused_map (Err k) q e = number_is k (e ∙ ap (λ (b : Bool). lent_refusal K b false rec links []) q)
 
   -- none holds: whole buffers, and a network that a map can hold
-  passed : reckon_refusal K rec links z ≡ 0 → IsPassed K (long_enough K z) false rec links [] []
+  passed : None ≡ reckon_refusal K rec links z → IsPassed K (long_enough K z) false rec links [] []
   unfolding reckon_refusal lent_refusal lent_faults
-  passed e = lent-passed K (long_enough K z) false rec links [] [] e
+  passed e = lent-passed K (long_enough K z) false rec links [] [] (none_is _ e)
 
-  pub granted_long : reckon_refusal K rec links z ≡ 0 → AreLong K z
+  pub granted_long : None ≡ reckon_refusal K rec links z → AreLong K z
   granted_long e = are_long_lem K z (passed e).whole
 
-  pub granted_tests : reckon_refusal K rec links z ≡ 0 → (sound_links (places K) (map_network K rec links) rec.number ≡ true) × (connected (map_network K rec links) ≡ true)
+  pub granted_tests : None ≡ reckon_refusal K rec links z → (sound_links (places K) (map_network K rec links) rec.number ≡ true) × (connected (map_network K rec links) ≡ true)
   granted_tests e = ((passed e).linked, (passed e).joined)
 
-  pub granted_net : IsShape K → reckon_refusal K rec links z ≡ 0 → IsNet (map_network K rec links)
+  pub granted_net : IsShape K → None ≡ reckon_refusal K rec links z → IsNet (map_network K rec links)
   granted_net shape e = passed_net K (long_enough K z) false rec links [] [] shape (passed e)
 
   -- and the depots that deliver as its targets
-  module _ (shape : IsShape K) (ok : reckon_refusal K rec links z ≡ 0) {targets : List ℕ} (size : K.words ≤ length rec.members) (long : K.words ≤ length targets)
+  module _ (shape : IsShape K) (ok : None ≡ reckon_refusal K rec links z) {targets : List ℕ} (size : K.words ≤ length rec.members) (long : K.words ≤ length targets)
       (kept : targets ≡ overwrite (encode_row K.words (delivers (map_network K rec []))) rec.members) where
     pub granted_targets : AreTargets K.words rec.members targets
     granted_targets = delivering_targets K.words rec.members rec.yards targets size long kept
@@ -87,6 +95,9 @@ module _ (K : Shape) (shape : IsShape K) (members targets links : List ℕ) (are
 
 -- ---- the call
 
+abbrev reckoned : ℕ → Record → Reckoned
+reckoned n after = record { searches = n; after = after }
+
 module _ (K : Shape) (shape : IsShape K) (rec : Record) (links p h b s x y : List ℕ) where
   abbrev B : Lent
   B = lent p (tables h x y) b s
@@ -94,20 +105,15 @@ module _ (K : Shape) (shape : IsShape K) (rec : Record) (links p h b s x y : Lis
   abbrev z : Sizes
   z = sizes (length links) (length p) (length h) (length b) (length s) (length x) (length y)
 
-  pub refused_call : (k : ℕ) → k ≡ reckon_refusal K rec links z → (k ≡ 0 → ⊥) → reckon_left (record { answer = Refused k; after = rec }) B ≡ reckon_call K rec links B
-  unfolding reckon_call reckon_given sizes_of
-  refused_call k e n = go k n ∙ ap (λ (m : ℕ). reckon_given m K rec links B) e
-    where
-      go : (k : ℕ) → (k ≡ 0 → ⊥) → reckon_left (record { answer = Refused k; after = rec }) B ≡ reckon_given k K rec links B
-      go zero n = absurd (n refl)
-      go (suc k) n = refl
+  pub refused_call : (k : ℕ) → Some k ≡ reckon_refusal K rec links z → leaves (Err k) B ≡ reckon_call K rec links B
+  unfolding reckon_call sizes_of
+  refused_call k e = refused_leaves B _ e
 
   -- of the network without the yards among its targets, which is the map's
-  pub accepted_call : 0 ≡ reckon_refusal K rec links z → (N : Network) → N ≡ map_network K rec links → (B' : Lent) (c n k : ℕ) → ran B' c n k ≡ ran_by K N (reckon (chart N)) B
-      → reckon_left (record { answer = Searches k; after = record { members = rec.members; number = rec.number; chain = c; count = n; yards = rec.yards } }) B'
-      ≡ reckon_call K rec links B
-  unfolding reckon_call reckon_given ran_by figured_by sizes_of
+  pub accepted_call : None ≡ reckon_refusal K rec links z → (N : Network) → N ≡ map_network K rec links → (B' : Lent) (c n k : ℕ) → ran B' c n k ≡ ran_by K N (reckon (chart N)) B
+      → leaves (Ok (reckoned k (record { members = rec.members; number = rec.number; chain = c; count = n; yards = rec.yards }))) B' ≡ reckon_call K rec links B
+  unfolding reckon_call ran_by figured_by sizes_of
   accepted_call q N same B' c n k e =
-      ap (λ (r : Ran). reckon_left (record { answer = Searches r.searches; after = record { members = rec.members; number = rec.number; chain = r.chain; count = r.count; yards = rec.yards } }) r.lent)
+      ap (λ (r : Ran). leaves (Ok (reckoned r.searches (record { members = rec.members; number = rec.number; chain = r.chain; count = r.count; yards = rec.yards }))) r.lent)
       (e ∙ ap (λ (N : Network). ran_by K N (reckon (chart N)) B) same)
-      ∙ ap (λ (m : ℕ). reckon_given m K rec links B) q
+      ∙ done_leaves B _ q

@@ -7,8 +7,8 @@ use Prim.Native.Nat.{ℕ, zero, suc, ◌<◌}
 use native.Mathlib.Omega.{arith}
 use lib.Dec.{T}
 use lib.ListN.{length}
-use Rattle.lists.specs.Lists.{range}
-use Rattle.lists.proofs.Conditions.{decides_short, refuses_by}
+use Rattle.lists.specs.Lists.{range, allb}
+use Rattle.lists.proofs.Conditions.{decides_short}
 use Rattle.lists.proofs.Fills.{length_fill}
 use Rattle.graph.specs.Network.{Network, IsFarthest, delivers}
 use Rattle.graph.specs.Distance.{vertices}
@@ -26,7 +26,11 @@ use Rattle.map.proofs.Theorems.{network_open_below, network_length, base_shape}
 use Rattle.checks.proofs.Theorems.{sound_links_iff}
 use Rattle.search.proofs.Theorems.{over_keeps}
 use Rattle.rounds.specs.Leaves.{rounds_leave, search_after}
-use Rattle.reckon.specs.ReckonCall.{reckon_refusal, figured_by, reckon_given, reckon_call, reckoning_number, Refused}
+use Rattle.std.specs.Prelude.{Option, Some, None, Ok}
+use Rattle.outcome.specs.Answers.{refusal_in, Left, leaves, unless}
+use Rattle.outcome.proofs.Answers.{done_leaves, refuses_by}
+use Rattle.reckon.specs.declared.Reckoned.{Reckoned}
+use Rattle.reckon.specs.ReckonCall.{reckon_refusal, figured_by, reckon_call}
 use Rattle.reckon.specs.Refusals.{reckon_conditions, ReckonRefuses}
 use Rattle.reckon.specs.Correct.{IsReckoning, ReckonCorrect}
 use Rattle.reckon.proofs.Reckons.{granted_long, granted_tests, granted_net}
@@ -35,7 +39,7 @@ use Rattle.map.proofs.Longs.{long_is}
 use Rattle.lent_map.proofs.Refuses.{lent_tells}
 use Rattle.lent_map.specs.Faults.{lent_refusal, lent_faults}
 
-module _ (K : Shape) (shape : IsShape K) (rec : Record) (links : List ℕ) (B : Lent) (ok : reckon_refusal K rec links (sizes_of links B) ≡ 0) where
+module _ (K : Shape) (shape : IsShape K) (rec : Record) (links : List ℕ) (B : Lent) (ok : None ≡ reckon_refusal K rec links (sizes_of links B)) where
   abbrev G : Network
   G = map_network K rec links
 
@@ -70,8 +74,8 @@ module _ (K : Shape) (shape : IsShape K) (rec : Record) (links : List ℕ) (B : 
   ends : (u v : ℕ) → T (S.pairs u v) → T (G.is_open u) × T (G.is_open v)
   ends u v t = let f = (correct.figures.pairs u v).0 t in (delivers_open G u f.first, delivers_open G v f.second)
 
-  given_reckoning : IsReckoning K G rec B S.references (reckon_given zero K rec links B)
-  unfolding reckon_given figured_by rounds_leave sizes_of
+  given_reckoning : IsReckoning K G rec B S.references (record { searches = length S.references; after = figured_by K rec S }) (rounds_leave K G S B)
+  unfolding figured_by rounds_leave sizes_of
   given_reckoning = record {
     chain = correct.figures.chain;
     pairs = λ u v p q. subst (λ (b : Bool). T b ↔ IsFarthest G (delivers G) u v) (sym (table_at K.words S.pairs B.pairs u v p q)) (correct.figures.pairs u v);
@@ -79,7 +83,6 @@ module _ (K : Shape) (shape : IsShape K) (rec : Record) (links : List ℕ) (B : 
     members = refl;
     number = refl;
     yards = refl;
-    accepted = refl;
     marked = skips_counted K G S shape below correct.references net.sound B.skips;
     bounded = omega (arith, few_searches G S correct.references, number_is);
     marks = skip_marks K G S shape below correct.references B.skips;
@@ -95,45 +98,43 @@ module _ (K : Shape) (shape : IsShape K) (rec : Record) (links : List ℕ) (B : 
     skips_kept = over_keeps _ _ B.skips (length_fill _ (places K)) long.skips;
   }
 
-  call_reckoning : IsReckoning K (map_network K rec links) rec B (reckon (chart (map_network K rec links))).references (reckon_call K rec links B)
-  unfolding reckon_call
-  call_reckoning = subst (λ (k : ℕ). IsReckoning K G rec B S.references (reckon_given k K rec links B)) (sym ok) given_reckoning
-
--- ---- A REFUSED ONE changes nothing
-
-call_refused : (K : Shape) (rec : Record) (links : List ℕ) (B : Lent) (k : ℕ) → reckon_refusal K rec links (sizes_of links B) ≡ suc k
-    → reckon_call K rec links B ≡ record { reckoned = record { answer = Refused (suc k); after = rec }; lent = B }
-unfolding reckon_call reckon_given
-call_refused K rec links B k e = ap (λ (m : ℕ). reckon_given m K rec links B) e
-
--- ---- the answer's number is the refusal, 0 where there is none
-
-call_numbered : (K : Shape) (rec : Record) (links : List ℕ) (B : Lent) → reckoning_number (reckon_call K rec links B).reckoned.answer ≡ reckon_refusal K rec links (sizes_of links B)
-unfolding reckon_call reckon_given
-call_numbered K rec links B = go (reckon_refusal K rec links (sizes_of links B))
-  where
-    go : (k : ℕ) → reckoning_number (reckon_given k K rec links B).reckoned.answer ≡ k
-    go zero = refl
-    go (suc k) = refl
-
 -- ---- WHICH REFUSAL
 
 pub reckon_refusals : (K : Shape) → IsShape K → ReckonRefuses K (reckon_call K)
-unfolding reckon_call reckon_refusal lent_refusal lent_faults reckon_given
+unfolding reckon_call reckon_refusal lent_refusal lent_faults allb
 reckon_refusals K shape rec links B =
     refuses_by _ (reckon_conditions K rec links B)
     (lent_tells K shape (long_enough K (sizes_of links B)) false (rounds_buffers K links B) (rw (← long_is K links B) at (decides_short (rounds_buffers K links B)))
     rec links [] [] [] tt)
-    (λ k. reckon_given k K rec links B) _ (λ l. reckoning_number l.reckoned.answer) numbered (λ k. refl)
-  where
-    numbered : (k : ℕ) → reckoning_number (reckon_given k K rec links B).reckoned.answer ≡ k
-    numbered zero = refl
-    numbered (suc k) = refl
+    refl B _ refl
 
 -- ---- WHAT A CALL GIVES
 
+-- the answer's number is the refusal
+numbered_as : (r : Option ℕ) {A M : Type 0} (old : M) (x : A) (new : M) → refusal_in (unless r old (leaves (Ok x) new)).answer ≡ r
+unfolding unless
+numbered_as None old x new = refl
+numbered_as (Some k) old x new = refl
+
 pub reckon_correct : (K : Shape) → IsShape K → ReckonCorrect K (reckon_call K)
-reckon_correct K shape = record { numbered = call_numbered K; accepted = call_reckoning K shape; refused = call_refused K }
+unfolding reckon_call
+reckon_correct K shape = record { numbered = call_numbered; accepted = call_reckoning }
+  where
+    call_numbered : (rec : Record) (links : List ℕ) (B : Lent)
+        → refusal_in (reckon_call K rec links B).answer ≡ reckon_refusal K rec links (sizes_of links B)
+    call_numbered rec links B = numbered_as (reckon_refusal K rec links (sizes_of links B)) B _ _
+
+    call_reckoning : (rec : Record) (links : List ℕ) (B : Lent) → reckon_refusal K rec links (sizes_of links B) ≡ None
+        → let G = map_network K rec links in
+        let left = reckon_call K rec links B in
+        (a : Reckoned) × (left.answer ≡ Ok a) × IsReckoning K G rec B (reckon (chart G)).references a left.lent
+    call_reckoning rec links B z =
+        let G = map_network K rec links in
+        let S = reckon (chart G) in
+        let a : Reckoned = record { searches = length S.references; after = figured_by K rec S } in
+        subst (λ (l : Left Reckoned Lent). (a : Reckoned) × (l.answer ≡ Ok a) × IsReckoning K G rec B S.references a l.lent)
+        (done_leaves B (leaves (Ok a) (rounds_leave K G S B)) (sym z))
+        (a, refl, given_reckoning K shape rec links B (sym z))
 
 -- of the rules' map
 pub reckon_correct_base : ReckonCorrect base (reckon_call base)

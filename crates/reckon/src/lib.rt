@@ -9,12 +9,12 @@ ghost use Rattle.graph.specs.Chart.{chart};
 ghost use Rattle.graph.specs.Rounds.{reckon};
 ghost use Rattle.graph.specs.Correct.{IsNet};
 ghost use Rattle.map.specs.Memory.{base};
-ghost use Rattle.outcome.specs.Refusals.{refused_by};
+ghost use Rattle.outcome.specs.Answers.{answer_of, refusal_in, leaves};
 ghost use Rattle.rounds.specs.Leaves.{ran, ran_by};
 ghost use Rattle.rounds.specs.Slices.{plan_network};
 ghost use Rattle.map.specs.Room.{AreLong};
 ghost use Rattle.map.specs.Slices.{lent_in, room_sizes, IsSameRoom};
-ghost use Rattle.reckon.specs.ReckonCall.{reckon_refusal, reckoned_of, reckon_left, reckon_call};
+ghost use Rattle.reckon.specs.ReckonCall.{reckon_refusal, reckon_call};
 
 use bounds::Marks;
 use map::{Record, Room};
@@ -30,7 +30,7 @@ pub struct Reckoned {
 
 // The first refusal of a reckoning that holds. It only reads, and looks at no figures.
 fn reckon_refusal(rec: Record, links: &[u64], room: &Room<'_>) -> Result<(), Refusal>
-    ensures { refused_by result ≡ reckon_refusal base rec links.now (room_sizes (length links.now) room.now) }
+    ensures { refusal_in (answer_of result) ≡ reckon_refusal base rec links.now (room_sizes (length links.now) room.now) }
 {
     lent_map::map_refusal(rec, links, None, room.is_long(links.len()))
 }
@@ -90,7 +90,7 @@ fn reckon_map(plan: Plan<'_>, room: &mut Room<'_>) -> RoundFigures
 // The whole reckoning: chain, pairs and pair count afresh, whatever figures stood there; or the first refusal that holds, and then nothing is changed.
 pub fn reckon_all(rec: Record, links: &[u64], room: &mut Room<'_>) -> Result<Reckoned, Refusal>
     ensures same { IsSameRoom room.old room.new }
-    ensures left { reckon_left (reckoned_of rec result) (lent_in room.new) ≡ reckon_call base rec links.now (lent_in room.old) }
+    ensures left { leaves (answer_of result) (lent_in room.new) ≡ reckon_call base rec links.now (lent_in room.old) }
 {
     reckon_refusal(rec, links, &*room)?;
     let members = rec.members;

@@ -6,9 +6,14 @@ use lib.ListN.{length}
 use borrow.Author.Tests.{le-leb}
 use Rattle.lists.specs.Lists.{first_of}
 use Rattle.map.specs.Memory.{base, table_words}
-use Rattle.map.specs.Empty.{empty_refusal, empty_given, empty_call}
+use Rattle.std.specs.Prelude.{Ok, Result, Err}
+use Rattle.outcome.specs.Answers.{answer_of, numbered, Left, leaves, unless}
+use Rattle.outcome.specs.declared.Refusal.{Refusal}
+use Rattle.lists.specs.Lists.{overwrite}
+use Rattle.map.specs.Empty.{zeros, empty_record, empty_refusal, empty_call}
 use Rattle.map.specs.declared.Record.{Record}
 
-pub emptying : (rec : Record) (links pairs : List ℕ) → table_words base ≤ length links → table_words base ≤ length pairs → empty_call base rec links pairs ≡ empty_given 0 base rec links pairs
-unfolding empty_call empty_refusal first_of
-emptying rec links pairs l p = rw (le-leb (table_words base) (length links) l, le-leb (table_words base) (length pairs) p)
+pub emptying : (links pairs : List ℕ) → table_words base ≤ length links → table_words base ≤ length pairs
+    → empty_call base links pairs ≡ leaves (Ok (empty_record base.words)) (overwrite (zeros (table_words base)) links, overwrite (zeros (table_words base)) pairs)
+unfolding empty_call unless numbered empty_refusal first_of
+emptying links pairs l p = rw (le-leb (table_words base) (length links) l, le-leb (table_words base) (length pairs) p)

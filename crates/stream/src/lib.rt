@@ -39,7 +39,7 @@ pub struct Fed {
 }
 
 // Begins a stream: the map is emptied, and no line is read.
-#[tactic(auto, using(crate::proofs::Begins::emptying), unfolding(crate::specs::Feeding::begin_call, map::specs::Empty::empty_given))]
+#[tactic(auto, using(crate::proofs::Begins::emptying), unfolding(crate::specs::Feeding::begin_call))]
 pub fn begin(links: &mut [u64], pairs: &mut [u64]) -> Progress
     requires { (table_words base ≤ length links.old) × (table_words base ≤ length pairs.old) }
     ensures { (result, links.new, pairs.new) ≡ begin_call links.old pairs.old }

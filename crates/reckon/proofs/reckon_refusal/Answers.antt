@@ -12,4 +12,4 @@ map_refusal-requires c =
 
 pub returns : goal.returns
 returns c =
-    refused_map base _ _ _ c.is_long.ensures c.map_refusal.ensures
+    refused_map base _ _ _ _ c.is_long.ensures c.map_refusal.ensures
