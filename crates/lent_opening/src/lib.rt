@@ -5,13 +5,13 @@
 ghost use Rattle.std.specs.Prelude.{◌≡◌};
 ghost use Rattle.map.specs.Memory.{base};
 ghost use Rattle.map.specs.Slices.{lent_in, IsSameRoom};
-ghost use Rattle.update.specs.UpdateCall.{left_of, update_left, update_call};
+ghost use Rattle.update.specs.UpdateCall.{left_of, update_call};
 ghost use Rattle.opening.specs.Asked.{asked};
 
 use map::{Record, Room};
 use opening::Notice;
 use step::Asked;
-use update::{Report, Returned};
+use update::Report;
 
 // The opening of a depot, or of a yard, on a record that is lent, and is brought up to date (rule 4.1).
 pub fn open(rec: &mut Record, links: &mut [u64], room: &mut Room<'_>, notice: Notice<'_>) -> Report
@@ -22,20 +22,4 @@ pub fn open(rec: &mut Record, links: &mut [u64], room: &mut Room<'_>, notice: No
     let got = step::step(*rec, links, room, Asked::Opening(notice));
     *rec = got.after;
     got.report
-}
-
-// The way by value through `open`, for callers that keep the record in a variable.
-pub fn open_value(
-    rec: Record,
-    links: &mut [u64],
-    room: &mut Room<'_>,
-    notice: Notice<'_>,
-) -> Returned
-    ensures same { IsSameRoom room.old room.new }
-    ensures left { update_left result links.new (lent_in room.new)
-        ≡ update_call base rec links.old (lent_in room.old) (asked notice.entry) }
-{
-    let mut own = rec;
-    let report = open(&mut own, links, room, notice);
-    Returned { report, after: own }
 }

@@ -1,5 +1,5 @@
--- WHAT THE PARTS OF A LINK LEAVE, put together: with the link in place the memory holds the new network, whose figures the step asks for; and the step's
--- answer is the call's. Assumes nothing.
+-- WHAT THE PARTS OF A LINK LEAVE, put together: with the link in place the memory holds the new network, whose figures the step asks for.
+-- Assumes nothing.
 use mathlib.Core.Path.{◌≡◌, refl, sym, ap, ◌∙◌, subst}
 use mathlib.Core.Bool.{Bool, ◌&&◌, ◌||◌}
 use mathlib.Core.List.{List, []}
@@ -9,17 +9,17 @@ use native.Mathlib.Decide.{dec_le}
 use native.Mathlib.Omega.{arith}
 use lib.Dec.{T, eqb}
 use lib.ListN.{length}
-use Rattle.lists.specs.Lists.{range, overwrite, first_of}
+use Rattle.lists.specs.Lists.{range, overwrite}
 use Rattle.graph.specs.Network.{Network, IsSound, delivers}
 use Rattle.graph.specs.Distance.{vertices}
 use Rattle.graph.specs.Chart.{chart, count_pairs}
-use Rattle.graph.specs.Linking.{add_link, linking, linking_codes, link_faults}
+use Rattle.graph.specs.Linking.{add_link, linking, linking_codes}
 use Rattle.graph.specs.Correct.{IsNet}
 use Rattle.graph.specs.Updates.{joins, update_faults, applied, steps}
 use Rattle.graph.proofs.Linked.{IsLinkable, linkable_of}
 use Rattle.rows.specs.Rows.{row_bit, table_bit, encode_row, encode_table}
 use Rattle.rows.proofs.Written.{table_within}
-use Rattle.map.specs.Room.{tables, Lent, lent, Sizes, sizes, sizes_of}
+use Rattle.map.specs.Room.{tables, Lent, lent, Sizes, sizes}
 use Rattle.map.specs.Memory.{Shape, IsShape, places, network_of, map_network}
 use Rattle.map.specs.declared.Record.{Record}
 use Rattle.map.proofs.Theorems.{network_linked_below}
@@ -29,27 +29,12 @@ use Rattle.rounds.proofs.Targets.{delivering_targets, delivering_network}
 use Rattle.outcome.specs.declared.Change.{Change}
 use Rattle.outcome.specs.declared.Outcome.{Outcome}
 use Rattle.outcome.specs.declared.Outcome.TheVariants.{Accepted}
-use Rattle.admission.proofs.Links.{link_faults_any, link_is}
+use Rattle.admission.proofs.Links.{link_is}
 use Rattle.insertion.specs.Figured.{Figured, figured}
 use Rattle.relink.specs.Relinked.{relinked_by, IsRelinkable}
-use Rattle.update.specs.UpdateCall.{update_refusal, network_after, updated_by, UpdateLeft, update_given, update_call}
-use Rattle.update.specs.Steps.{map_refusal}
-use Rattle.update.proofs.Refuses.{refused_by_link}
+use Rattle.update.specs.UpdateCall.{update_refusal, network_after, updated_by, UpdateLeft, update_given}
 use Rattle.update.proofs.Memories.{IsHeld, network_path, number_is, open_below}
 use Rattle.update.proofs.Grants.{granted_links, granted_figures, granted_notice, held_after}
-
--- of a memory that nothing refuses, what refuses the codes refuses the call, whatever yards there are; and what the call leaves goes by it
-module _ (K : Shape) (rec : Record) (links p : List ℕ) (a d : ℕ) where
-  abbrev first : ℕ
-  first = first_of (link_faults (network_of K.words rec.members links) a d)
-
-  pub judged : (z : Sizes) → map_refusal K rec links p z ≡ 0 → update_refusal K rec links p z (joins a d) ≡ first
-  judged z e = sym (ap first_of (link_faults_any K.words rec.members rec.yards links a d) ∙ refused_by_link K rec links p z a d (sym e))
-
-  pub called : (h b s even odd : List ℕ) → map_refusal K rec links p (sizes (length links) (length p) (length h) (length b) (length s) (length even) (length odd)) ≡ 0
-      → update_call K rec links (lent p (tables h even odd) b s) (joins a d) ≡ update_given first K rec links (lent p (tables h even odd) b s) (joins a d)
-  unfolding update_call sizes_of
-  called h b s even odd e = ap (λ (k : ℕ). update_given k K rec links (lent p (tables h even odd) b s) (joins a d)) (judged _ e)
 
 -- what is left, of a number open, an outcome, a yard set and a state
 abbrev left_by : ℕ → Outcome → List ℕ → List ℕ → List ℕ → Ran → UpdateLeft

@@ -15,8 +15,7 @@ ghost use Rattle.rounds.specs.Leaves.{ran};
 ghost use Rattle.rounds.specs.Slices.{plan_network};
 ghost use Rattle.insertion.specs.Figured.{figured};
 ghost use Rattle.relink.specs.Relinked.{relinked_by, IsRelinkable};
-ghost use Rattle.update.specs.UpdateCall.{update_refusal, left_of, update_left, update_given, update_call};
-ghost use Rattle.update.specs.Steps.{map_refusal};
+ghost use Rattle.update.specs.UpdateCall.{update_refusal, update_left, update_given};
 
 use admission::Link;
 use insertion::Figures;
@@ -66,7 +65,7 @@ fn relink_codes(
 
 // A link that nothing refuses: put in place, then the figures, the lower code's search first. It is kept apart, as the opening of a notice is.
 #[inline(never)]
-fn link_map(
+pub fn link_map(
     rec: Record,
     links: &mut [u64],
     room: &mut Room<'_>,
@@ -101,50 +100,5 @@ fn link_map(
         outcome: Outcome::Accepted(got.change),
         searches: got.searches,
     };
-    Returned { report, after }
-}
-
-// The link for callers that hold a proved map, whose memory nothing refuses, on a record that is lent: the same answer without checking the memory again.
-// That is a fact of record, links and room together, which are lent apart. A refused call does not touch the record.
-#[tactic(auto, using(crate::proofs::Joined::judged, crate::proofs::Joined::called))]
-pub fn link_lent(
-    rec: &mut Record,
-    links: &mut [u64],
-    room: &mut Room<'_>,
-    likely: &mut [u64; map::WORDS],
-    link: Link,
-) -> Report
-    requires { let long = room_sizes (length links.old) room.old in
-        map_refusal base rec.old links.old room.old.pairs.now long ≡ 0 }
-    ensures same { IsSameRoom room.old room.new }
-    ensures left { left_of result rec.new links.new (lent_in room.new)
-        ≡ update_call base rec.old links.old (lent_in room.old) (joins link.first link.second) }
-{
-    match admission::link_refusal(&rec.members, &*links, map::WORDS, link) {
-        Ok(()) => {
-            let got = link_map(*rec, links, room, likely, link);
-            *rec = got.after;
-            got.report
-        }
-        Err(refusal) => update::refused(*rec, refusal.number()).report,
-    }
-}
-
-// The same by value.
-pub fn link_sound(
-    rec: Record,
-    links: &mut [u64],
-    room: &mut Room<'_>,
-    likely: &mut [u64; map::WORDS],
-    link: Link,
-) -> Returned
-    requires { let long = room_sizes (length links.old) room.old in
-        map_refusal base rec links.old room.old.pairs.now long ≡ 0 }
-    ensures same { IsSameRoom room.old room.new }
-    ensures left { update_left result links.new (lent_in room.new)
-        ≡ update_call base rec links.old (lent_in room.old) (joins link.first link.second) }
-{
-    let mut after = rec;
-    let report = link_lent(&mut after, links, room, likely, link);
     Returned { report, after }
 }

@@ -9,7 +9,7 @@ ghost use Rattle.graph.specs.Opening.{notice_of};
 ghost use Rattle.graph.specs.Updates.{opens};
 ghost use Rattle.map.specs.Memory.{base};
 ghost use Rattle.map.specs.Slices.{lent_in, room_sizes, IsSameRoom};
-ghost use Rattle.update.specs.UpdateCall.{update_refusal, left_of, update_left, update_given, update_call};
+ghost use Rattle.update.specs.UpdateCall.{update_refusal, update_left, update_given, update_call};
 ghost use Rattle.update.specs.Steps.{map_refusal};
 ghost use Rattle.opening.specs.Asked.{asked};
 
@@ -55,7 +55,7 @@ fn put_yard(yards: &mut [u64], yard: bool, code: u8)
 // sets up none of the memory that it works in. Of `likely`, the rows that are thought to have a pair, nothing is promised.
 #[tactic(auto, using(crate::proofs::Placed::room_for_one))]
 #[inline(never)]
-fn open_map(
+pub fn open_map(
     rec: Record,
     links: &mut [u64],
     room: &mut Room<'_>,
@@ -100,41 +100,10 @@ fn open_map(
     Returned { report, after }
 }
 
-// The opening for callers that hold a proved map, whose memory nothing refuses, on a record that is lent: the same answer without checking the memory
-// again. That is a fact of record, links and room together, which are lent apart. A refused call does not touch the record. Of `likely` nothing is promised.
+// The opening for callers that hold a proved map, whose memory nothing refuses: the same answer
+// without checking the memory again. That is a fact of record, links and room together, which are
+// lent apart. Of `likely` nothing is promised.
 #[tactic(auto, using(crate::proofs::Placed::judged, crate::proofs::Placed::called))]
-pub fn open_lent(
-    rec: &mut Record,
-    links: &mut [u64],
-    room: &mut Room<'_>,
-    likely: &mut [u64; map::WORDS],
-    notice: Notice<'_>,
-) -> Report
-    requires { let long = room_sizes (length links.old) room.old in
-        map_refusal base rec.old links.old room.old.pairs.now long ≡ 0 }
-    ensures same { IsSameRoom room.old room.new }
-    ensures left { left_of result rec.new links.new (lent_in room.new)
-        ≡ update_call base rec.old links.old (lent_in room.old) (asked notice.entry) }
-{
-    match admission::notice_refusal(&rec.members, map::WORDS, notice.code, notice.neighbours) {
-        Ok(()) => {
-            let got = open_map(
-                *rec,
-                links,
-                room,
-                likely,
-                notice.yard,
-                notice.code,
-                notice.neighbours,
-            );
-            *rec = got.after;
-            got.report
-        }
-        Err(refusal) => update::refused(*rec, refusal.number()).report,
-    }
-}
-
-// The same by value.
 pub fn open_sound(
     rec: Record,
     links: &mut [u64],
@@ -148,7 +117,17 @@ pub fn open_sound(
     ensures left { update_left result links.new (lent_in room.new)
         ≡ update_call base rec links.old (lent_in room.old) (asked notice.entry) }
 {
-    let mut after = rec;
-    let report = open_lent(&mut after, links, room, likely, notice);
-    Returned { report, after }
+    let members = rec.members;
+    match admission::notice_refusal(&members, map::WORDS, notice.code, notice.neighbours) {
+        Ok(()) => open_map(
+            rec,
+            links,
+            room,
+            likely,
+            notice.yard,
+            notice.code,
+            notice.neighbours,
+        ),
+        Err(refusal) => update::refused(rec, refusal.number()),
+    }
 }

@@ -91,9 +91,7 @@ impl Lent {
             code: notice.code,
             neighbours: notice.neighbours.items(),
         };
-        let got = lent_opening::open_value(self.rec, &mut self.links, &mut room, asked);
-        self.rec = got.after;
-        got.report
+        lent_opening::open(&mut self.rec, &mut self.links, &mut room, asked)
     }
 
     // A whole reckoning: the number of searches.

@@ -11,8 +11,7 @@ use Rattle.graph.specs.Network.{Network}
 use Rattle.graph.specs.Distance.{connected}
 use Rattle.graph.specs.Chart.{Pairs}
 use Rattle.graph.specs.Opening.{Notice, open_faults}
-use Rattle.graph.specs.Updates.{Update, opens, joins, update_faults}
-use Rattle.graph.specs.Linking.{link_faults}
+use Rattle.graph.specs.Updates.{Update, opens, update_faults}
 use Rattle.rows.specs.Rows.{table_bit}
 use Rattle.map.specs.Room.{tables, Lent, lent, Sizes, sizes, sizes_of, long_enough}
 use Rattle.map.specs.Memory.{Shape, places, map_network}
@@ -47,7 +46,7 @@ module _ (K : Shape) (rec : Record) (links pairs : List ℕ) (z : Sizes) where
   unfolding map_refusal update_refusal
   refused_by-map o k e n = lent_first K (long_enough K z) true rec links pairs (update_faults G o) e n
 
-  refused_by_update : (o : Update) → 0 ≡ map_refusal K rec links pairs z → first_of (update_faults G o) ≡ update_refusal K rec links pairs z o
+  pub refused_by_update : (o : Update) → 0 ≡ map_refusal K rec links pairs z → first_of (update_faults G o) ≡ update_refusal K rec links pairs z o
   unfolding map_refusal update_refusal
   refused_by_update o e = lent_then K (long_enough K z) true rec links pairs (update_faults G o) e
 
@@ -55,11 +54,6 @@ module _ (K : Shape) (rec : Record) (links pairs : List ℕ) (z : Sizes) where
   pub refused_by_notice : (o : Notice) → 0 ≡ map_refusal K rec links pairs z → first_of (open_faults G o) ≡ update_refusal K rec links pairs z (opens o)
   unfolding update_faults
   refused_by_notice o e = refused_by_update (opens o) e
-
-  -- of a link its codes'
-  pub refused_by_link : (a b : ℕ) → 0 ≡ map_refusal K rec links pairs z → first_of (link_faults G a b) ≡ update_refusal K rec links pairs z (joins a b)
-  unfolding update_faults
-  refused_by_link a b e = refused_by_update (joins a b) e
 
   -- a map that nothing refuses is lent whole
   pub map_long : map_refusal K rec links pairs z ≡ 0 → long_enough K z ≡ true

@@ -1,0 +1,2 @@
+-- What refuses a step on a map that nothing refuses.
+pub mod Judged
