@@ -17,6 +17,7 @@ pub mod Linked
 pub mod Connected
 pub mod Searched
 pub mod Skipped
+pub mod Tested
 pub mod Theorems
 pub mod SoundFigures
 pub mod Updates

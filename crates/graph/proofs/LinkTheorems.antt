@@ -1,7 +1,7 @@
 -- A LINK ADDED LATER IS CORRECT, by the published words: what an update owes, of every link that no refusal hits. Assumes nothing.
 use mathlib.Core.Path.{◌≡◌, ◌∙◌}
 use mathlib.Core.List.{[], ◌∷◌}
-use mathlib.Core.Bool.{Bool, true, false, ◌||◌}
+use mathlib.Core.Bool.{◌||◌}
 use Prim.Native.Nat.{ℕ, ◌+◌, ◌≤◌, max, min}
 use native.Mathlib.Omega.{arith}
 use lib.Dec.{eqb}
@@ -11,8 +11,8 @@ use Rattle.outcome.specs.declared.Change.TheVariants.{Grew}
 use Rattle.graph.specs.Network.{Network, IsDist, delivers, AreTrue}
 use Rattle.graph.specs.Distance.{vertices, unreached}
 use Rattle.graph.specs.Chart.{Chart, chart, Pairs}
-use Rattle.graph.specs.Opening.{any_pair}
-use Rattle.graph.specs.Linking.{add_link, link_faults, pairs_left, link_case, linking, linking_codes}
+use Rattle.graph.specs.Opening.{staying_pairs, any_pair}
+use Rattle.graph.specs.Linking.{add_link, link_faults, via_either, linking, linking_codes}
 use Rattle.graph.specs.Correct.{IsNet, IsSearched, IsSettled, IsOpened, AreSound}
 use Rattle.graph.proofs.Insertion.{insertion_both}
 use Rattle.graph.proofs.LinkingCases.{IsJoined, linking_right}
@@ -23,6 +23,7 @@ use Rattle.graph.proofs.Skipped.{settled_skipped, linking_first, linking-twice}
 use Rattle.graph.proofs.Theorems.{true_right, true_small, references_of_lem, cover_of}
 use Rattle.graph.proofs.SoundFigures.{ends_sound}
 use Rattle.graph.proofs.Updates.{sound_in, sound_out, sound_more, below_limit}
+use Rattle.graph.proofs.Tested.{by_test}
 
 -- With the link in place a distance is the least of the old one and the ways through both ends, in any network.
 pub link_distance : (G : Network) (a b : ℕ) {u v d x y z w : ℕ} → IsDist G u v d
@@ -32,12 +33,11 @@ link_distance G a b p q r s t = insertion_both G (add_link G a b) a b (grown_fir
 
 -- Kept or shrank, over any chart and whatever figures were stored.
 pub linking_never : (C : Chart) (a b D : ℕ) (P : Pairs) → (linking_codes C a b D P).change ≡ Grew → ⊥
-unfolding linking_codes linking link_case
-linking_never C a b D P = go (any_pair C.depots (pairs_left C (min a b) (max a b) D P) || eqb D 0)
-  where
-    go : (k : Bool) → (link_case k C (min a b) (max a b) D P).change ≡ Grew → ⊥
-    go true q = let z : ◌≡◌ {A = ℕ} 0 1 = cc in omega arith
-    go false q = let z : ◌≡◌ {A = ℕ} 0 1 = cc in omega arith
+unfolding linking_codes linking
+linking_never C a b D P =
+    by_test (λ o. o.change ≡ Grew → ⊥) (any_pair C.depots (staying_pairs (via_either C (min a b) (max a b)) D P) || eqb D 0)
+    (λ k q. let z : ◌≡◌ {A = ℕ} 0 1 = cc in omega arith)
+    (λ k q. let z : ◌≡◌ {A = ℕ} 0 1 = cc in omega arith)
 
 module _ (G : Network) (net : IsNet G) (a b : ℕ) (ok : first_of (link_faults G a b) ≡ 0) where
   abbrev H : Network

@@ -10,14 +10,14 @@ use native.Mathlib.Omega.{arith}
 use lib.Dec.{eqb, ltb}
 use lib.ListN.{length}
 use borrow.Author.Tests.{ltb-false, le-ltb, eqb-true, eqb-false, not-true}
-use Rattle.std.proofs.lemmas.Bool.{and_parts, and_from, or_cases, or_parts}
+use Rattle.std.proofs.lemmas.Bool.{cases_Bool, and_parts, and_from, or_cases, or_parts}
 use Rattle.lists.specs.Lists.{anyb}
 use Rattle.lists.proofs.Tests.{clash}
 use Rattle.lists.proofs.Members.{any_intro, any_elim}
 use Rattle.graph.specs.Chart.{Chart, greatest_ecc, Pairs}
 use Rattle.graph.specs.Rounds.{rounds}
 use Rattle.graph.specs.Opening.{staying_pairs, any_pair, shrunk_candidate}
-use Rattle.graph.specs.Linking.{via_either, pairs_left, searched_twice, first_two, link_case, linking}
+use Rattle.graph.specs.Linking.{via_either, searched_twice, first_two, linking}
 use Rattle.graph.proofs.Metric.{IsMetric}
 use Rattle.graph.proofs.Right.{IsFar, IsRight, greatest_ge, greatest_small, greatest_pair, right_below, settled}
 use Rattle.graph.proofs.Candidates.{candidate_le}
@@ -53,7 +53,7 @@ module _ (C₀ C : Chart) (metric : IsMetric C) (a b D : ℕ) (P : Pairs) (was :
       let f : C₀.distance u v ≡ D = p.far in
       omega arith
 
-  left→far : (u v : ℕ) → pairs_left C a b D P u v ≡ true → IsFar C D u v
+  left→far : (u v : ℕ) → staying_pairs (via_either C a b) D P u v ≡ true → IsFar C D u v
   unfolding staying_pairs
   left→far u v h =
       let k = and_parts (P u v) (not (ltb (via_either C a b u v) D)) h in
@@ -62,7 +62,7 @@ module _ (C₀ C : Chart) (metric : IsMetric C) (a b D : ℕ) (P : Pairs) (was :
       let s : C.distance u v ≡ min D (via_either C a b u v) = stored u v p in
       record { before = p.before; first = is_one u p.first; second = is_one v p.second; far = omega arith }
 
-  far→left : (u v : ℕ) → IsFar C D u v → pairs_left C a b D P u v ≡ true
+  far→left : (u v : ℕ) → IsFar C D u v → staying_pairs (via_either C a b) D P u v ≡ true
   unfolding staying_pairs
   far→left u v q =
       let tu = was_one u q.first in
@@ -79,22 +79,22 @@ module _ (C₀ C : Chart) (metric : IsMetric C) (a b D : ℕ) (P : Pairs) (was :
   -- ---- kept
 
   -- a pair is left, or D is 0: so D is attained
-  attained : (any_pair C.depots (pairs_left C a b D P) ≡ true) ⊎ (eqb D 0 ≡ true)
+  attained : (any_pair C.depots (staying_pairs (via_either C a b) D P) ≡ true) ⊎ (eqb D 0 ≡ true)
       → (D ≡ 0) ⊎ ((u v : ℕ) × (C.is_destination u ≡ true) × (C.is_destination v ≡ true) × (C.distance u v ≡ D))
   unfolding any_pair
   attained (inl h) =
-      let x = any_elim (λ u. anyb (λ v. pairs_left C a b D P u v) C.depots) C.depots h in
-      let y = any_elim (λ v. pairs_left C a b D P x.0 v) C.depots x.2 in
+      let x = any_elim (λ u. anyb (λ v. staying_pairs (via_either C a b) D P u v) C.depots) C.depots h in
+      let y = any_elim (λ v. staying_pairs (via_either C a b) D P x.0 v) C.depots x.2 in
       let p = left→far x.0 y.0 y.2 in
       inr (x.0, y.0, p.first, p.second, p.far)
   attained (inr h) = inl (eqb-true D 0 h)
 
-  case_kept : (any_pair C.depots (pairs_left C a b D P) || eqb D 0) ≡ true → IsRightAfter C D (link_case true C a b D P)
-  unfolding link_case searched_twice
-  case_kept h = record {
+  case_kept : (any_pair C.depots (staying_pairs (via_either C a b) D P) || eqb D 0) ≡ true → IsRightAfter C D (linking C a b D P)
+  unfolding linking searched_twice
+  case_kept h = rw h record {
     right = record {
       upper = between;
-      attained = attained (or_cases (any_pair C.depots (pairs_left C a b D P)) (eqb D 0) h);
+      attained = attained (or_cases (any_pair C.depots (staying_pairs (via_either C a b) D P)) (eqb D 0) h);
       is_far = left→far;
       is_pair = far→left;
     };
@@ -114,23 +114,23 @@ module _ (C₀ C : Chart) (metric : IsMetric C) (a b D : ℕ) (P : Pairs) (was :
           let k : C.distance u v ≤ greatest_ecc C = greatest_pair C metric u v (is_one u p.first) (is_one v p.second) in
           omega arith
 
-  none_left : any_pair C.depots (pairs_left C a b D P) ≡ false → (u v : ℕ) → IsFar C D u v → ⊥
+  none_left : any_pair C.depots (staying_pairs (via_either C a b) D P) ≡ false → (u v : ℕ) → IsFar C D u v → ⊥
   unfolding any_pair
   none_left h u v p =
       clash
-      (any_intro (λ u. anyb (λ v. pairs_left C a b D P u v) C.depots) C.depots (metric.inside u p.first)
-      (any_intro (λ v. pairs_left C a b D P u v) C.depots (metric.inside v p.second) (far→left u v p)))
+      (any_intro (λ u. anyb (λ v. staying_pairs (via_either C a b) D P u v) C.depots) C.depots (metric.inside u p.first)
+      (any_intro (λ v. staying_pairs (via_either C a b) D P u v) C.depots (metric.inside v p.second) (far→left u v p)))
       h
 
-  case_shrank : (any_pair C.depots (pairs_left C a b D P) || eqb D 0) ≡ false → IsRightAfter C D (link_case false C a b D P)
-  unfolding link_case
+  case_shrank : (any_pair C.depots (staying_pairs (via_either C a b) D P) || eqb D 0) ≡ false → IsRightAfter C D (linking C a b D P)
+  unfolding linking
   case_shrank h =
       let c = shrunk_candidate C.depots (via_either C a b) D P in
       let S = rounds C (length C.depots) (first_two C a b c) in
       let x = two_settled C metric (greatest_ecc C) (greatest_ge C metric) (greatest_small C metric) a b j.first j.second j.apart c link_candidate_le in
       let r = settled C metric S x.0 x.1 in
-      let k = or_parts (any_pair C.depots (pairs_left C a b D P)) (eqb D 0) h in
-      record { right = r; letter = right_below C metric S.candidate D S.pairs r (positive (dec_lt 0 D) k.1) between (none_left k.0) }
+      let k = or_parts (any_pair C.depots (staying_pairs (via_either C a b) D P)) (eqb D 0) h in
+      rw h record { right = r; letter = right_below C metric S.candidate D S.pairs r (positive (dec_lt 0 D) k.1) between (none_left k.0) }
     where
       positive : Dec (0 < D) → eqb D 0 ≡ false → 0 < D
       positive (yes l) n = l
@@ -138,9 +138,9 @@ module _ (C₀ C : Chart) (metric : IsMetric C) (a b D : ℕ) (P : Pairs) (was :
 
   -- THE LINK IS RIGHT
   pub linking_right : IsRightAfter C D (linking C a b D P)
-  unfolding linking
-  linking_right = go (any_pair C.depots (pairs_left C a b D P) || eqb D 0) refl
+  linking_right = go (cases_Bool (any_pair C.depots (staying_pairs (via_either C a b) D P) || eqb D 0))
     where
-      go : (k : Bool) → (any_pair C.depots (pairs_left C a b D P) || eqb D 0) ≡ k → IsRightAfter C D (link_case k C a b D P)
-      go true h = case_kept h
-      go false h = case_shrank h
+      go : ((any_pair C.depots (staying_pairs (via_either C a b) D P) || eqb D 0) ≡ true) ⊎ ((any_pair C.depots (staying_pairs (via_either C a b) D P) || eqb D 0) ≡ false)
+          → IsRightAfter C D (linking C a b D P)
+      go (inl h) = case_kept h
+      go (inr h) = case_shrank h

@@ -17,7 +17,7 @@ use Rattle.lists.proofs.Members.{any_intro, any_elim}
 use Rattle.lists.proofs.Counts.{count_le_length}
 use Rattle.graph.specs.Chart.{Chart, ecc, greatest_ecc, Pairs, own_pairs}
 use Rattle.graph.specs.Rounds.{is_waiting, State, round, rounds, start}
-use Rattle.graph.specs.Opening.{Opened, via, staying_pairs, any_pair, shrunk_candidate, searched_once, grows_by, kept_by, open_case, opening}
+use Rattle.graph.specs.Opening.{Opened, via, staying_pairs, any_pair, shrunk_candidate, searched_once, grows_by, kept_by, opening}
 use Rattle.graph.specs.Correct.{Moved}
 use Rattle.graph.proofs.Metric.{IsMetric, ecc_ge, ecc_at}
 use Rattle.graph.proofs.Round.{Invariant, own_is, own_left, own_right, round_keeps}
@@ -140,9 +140,9 @@ module _ (C₀ C : Chart) (metric : IsMetric C) (a D : ℕ) (P : Pairs) (was : I
 
   -- the four cases
 
-  case_grew' : (s k : Bool) → C.is_destination a ≡ true → D < e → IsRightAfter C D (open_case true s k C a D P)
-  unfolding open_case searched_once e
-  case_grew' s k new l = record {
+  case_grew : grows_by C a D ≡ true → C.is_destination a ≡ true → D < e → IsRightAfter C D (opening C a D P)
+  unfolding opening searched_once e
+  case_grew p new l = rw p record {
     right = record {
       upper = upper_by (ecc C a) (omega arith) (λ t. le_refl (ecc C a));
       attained = at (ecc_at C metric a);
@@ -164,9 +164,10 @@ module _ (C₀ C : Chart) (metric : IsMetric C) (a D : ℕ) (P : Pairs) (was : I
           absurd (lt_irrefl D (omega arith))
 
   -- a is a destination with e = D, or a yard where the chain was 0
-  case_same' : (k : Bool) → ((C.is_destination a ≡ true) × (e ≡ D)) ⊎ ((C.is_destination a ≡ false) × (D ≡ 0)) → IsRightAfter C D (open_case false true k C a D P)
-  unfolding open_case searched_once e
-  case_same' k q = record {
+  case_same : grows_by C a D ≡ false → kept_by C a D ≡ true → ((C.is_destination a ≡ true) × (e ≡ D)) ⊎ ((C.is_destination a ≡ false) × (D ≡ 0))
+      → IsRightAfter C D (opening C a D P)
+  unfolding opening searched_once e
+  case_same n k q = rw (n, k) record {
     right = record {
       upper = upper_by D (le_refl D) (most q);
       attained = attained q (ecc_at C metric a);
@@ -211,13 +212,14 @@ module _ (C₀ C : Chart) (metric : IsMetric C) (a D : ℕ) (P : Pairs) (was : I
           absurd (lt_irrefl D (omega arith))
       go (inr x) = far→left u v p x.0 x.1
 
-  case_left : (C.is_destination a ≡ true → e < D) → any_pair C.depots (staying_pairs (via C a) D P) ≡ true → IsRightAfter C D (open_case false false true C a D P)
-  unfolding open_case searched_once any_pair
-  case_left l h =
+  case_left : grows_by C a D ≡ false → kept_by C a D ≡ false → (C.is_destination a ≡ true → e < D) → any_pair C.depots (staying_pairs (via C a) D P) ≡ true
+      → IsRightAfter C D (opening C a D P)
+  unfolding opening searched_once any_pair
+  case_left n o l h =
       let x = any_elim (λ u. anyb (λ v. staying_pairs (via C a) D P u v) C.depots) C.depots h in
       let y = any_elim (λ v. staying_pairs (via C a) D P x.0 v) C.depots x.2 in
       let p = left→far x.0 y.0 y.2 in
-      record {
+      rw (n, o, h) record {
         right = record {
           upper = upper_by D (le_refl D) (λ t. le_of_lt (l t));
           attained = inr (x.0, y.0, p.first, p.second, p.far);
@@ -258,11 +260,12 @@ module _ (C₀ C : Chart) (metric : IsMetric C) (a D : ℕ) (P : Pairs) (was : I
       (any_intro (λ v. staying_pairs (via C a) D P u v) C.depots (metric.inside v p.second) (low_pair l u v p)))
       h
 
-  case_shrank : 0 < D → (C.is_destination a ≡ true → e < D) → any_pair C.depots (staying_pairs (via C a) D P) ≡ false → IsRightAfter C D (open_case false false false C a D P)
-  unfolding open_case shrunk
-  case_shrank n l h =
+  case_shrank : grows_by C a D ≡ false → kept_by C a D ≡ false → 0 < D → (C.is_destination a ≡ true → e < D)
+      → any_pair C.depots (staying_pairs (via C a) D P) ≡ false → IsRightAfter C D (opening C a D P)
+  unfolding opening shrunk
+  case_shrank m o n l h =
       let r = settled C metric shrunk shrunk_settled.0 shrunk_settled.1 in
-      record {
+      rw (m, o, h) record {
         right = r;
         letter = right_below C metric shrunk.candidate D shrunk.pairs r n (upper_by D (le_refl D) (λ t. le_of_lt (l t))) (no_left l h);
       }
@@ -296,11 +299,10 @@ module _ (C₀ C : Chart) (metric : IsMetric C) (a D : ℕ) (P : Pairs) (was : I
 
   -- THE OPENING IS RIGHT
   pub opening_right : IsRightAfter C D (opening C a D P)
-  unfolding opening e
   opening_right = go (grows_by C a D) (kept_by C a D) (any_pair C.depots (staying_pairs (via C a) D P)) refl refl refl
     where
-      go : (b s k : Bool) → grows_by C a D ≡ b → kept_by C a D ≡ s → any_pair C.depots (staying_pairs (via C a) D P) ≡ k → IsRightAfter C D (open_case b s k C a D P)
-      go true s k p q r = let h = grows_is p in case_grew' s k h.0 h.1
-      go false true k p q r = case_same' k (kept_is q)
-      go false false true p q r = case_left (low p q) r
-      go false false false p q r = case_shrank (positive p q) (low p q) r
+      go : (b s k : Bool) → grows_by C a D ≡ b → kept_by C a D ≡ s → any_pair C.depots (staying_pairs (via C a) D P) ≡ k → IsRightAfter C D (opening C a D P)
+      go true s k p q r = let h = grows_is p in case_grew p h.0 h.1
+      go false true k p q r = case_same p q (kept_is q)
+      go false false true p q r = case_left p q (low p q) r
+      go false false false p q r = case_shrank p q (positive p q) (low p q) r

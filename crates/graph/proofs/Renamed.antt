@@ -21,12 +21,13 @@ use Rattle.lists.proofs.Renamed.{map_append, map_filter, map_any, map-max}
 use Rattle.graph.specs.Distance.{unreached}
 use Rattle.graph.specs.Chart.{Chart, destinations, ecc, greatest_ecc, Pairs, own_pairs}
 use Rattle.graph.specs.Rounds.{Status, waiting, skipped, searched, is_waiting, State, offer, raise, join_pairs, round, better, pick, remaining, or_stop, rounds, start, reckon}
-use Rattle.graph.specs.Opening.{Opened, via, staying_pairs, any_pair, shrunk_candidate, searched_once, grows_by, kept_by, open_case, opening}
-use Rattle.graph.specs.Linking.{via_either, pairs_left, searched_twice, unskipped_round, first_two, link_case, linking}
+use Rattle.graph.specs.Opening.{Opened, via, staying_pairs, any_pair, shrunk_candidate, searched_once, grows_by, kept_by, opening}
+use Rattle.graph.specs.Linking.{via_either, searched_twice, unskipped_round, first_two, linking}
 use Rattle.graph.specs.Closing.{change_from, closing}
 use Rattle.graph.specs.Renaming.{either, Like}
 use Rattle.graph.proofs.Metric.{IsMetric, ecc_small}
 use Rattle.graph.proofs.Rounds.{pick_in_lem}
+use Rattle.graph.proofs.Tested.{both_by_test, both_by_tests}
 
 -- D is C with each depot v named f v, in the same order
 pub record IsRenamed (C D : Chart) (f : ℕ → ℕ) : Type 0 where
@@ -451,39 +452,45 @@ module _ (C D : Chart) (f : ℕ → ℕ) (re : IsRenamed C D f) where
           at v true = refl
           at v false = (refl, inl refl)
 
-      case_alike : (b s k : Bool) → OpenedAlike (open_case b s k C a m P) (open_case b s k D (f a) m Q)
-      unfolding open_case
-      case_alike true s k = record {
-        change = refl;
-        final = once_alike (ecc C a) (ecc D (f a)) (own_pairs C a (ecc C a)) (own_pairs D (f a) (ecc D (f a))) (ecc_renamed a ma) (le_of_lt (ecc_small C metric a ma))
-            (λ u v mu mv. ap (λ (n : ℕ). either (own_pairs D (f a) n) (f u) (f v)) (ecc_renamed a ma) ∙ own_renamed a (ecc C a) ma u v mu mv);
-      }
-      case_alike false true k = record {
-        change = refl;
-        final = once_alike m m (λ u v. staying_pairs (via C a) m P u v || own_pairs C a m u v) (λ u v. staying_pairs (via D (f a)) m Q u v || own_pairs D (f a) m u v) refl low
-            (or_renamed (staying_pairs (via C a) m P) (staying_pairs (via D (f a)) m Q) (own_pairs C a m) (own_pairs D (f a) m) staying_renamed (own_renamed a m ma));
-      }
-      case_alike false false true = record { change = refl; final = once_alike m m (staying_pairs (via C a) m P) (staying_pairs (via D (f a)) m Q) refl low staying_renamed }
-      case_alike false false false = record {
-        change = refl;
-        final = rounds_alike (round C a (start (shrunk_candidate C.depots (via C a) m P))) (round D (f a) (start (shrunk_candidate D.depots (via D (f a)) m Q)))
-            (round_alike a ma (start (shrunk_candidate C.depots (via C a) m P)) (start (shrunk_candidate D.depots (via D (f a)) m Q)) (start_alike (shrunk_candidate C.depots (via C a) m P) (shrunk_candidate D.depots (via D (f a)) m Q) shrunk_renamed shrunk_low));
-      }
+      grows_alike : grows_by D (f a) m ≡ grows_by C a m
+      unfolding grows_by
+      grows_alike = rw (re.destination a ma, ecc_renamed a ma)
 
-      opening_is : opening D (f a) m Q ≡ open_case (grows_by C a m) (kept_by C a m) (any_pair C.depots (staying_pairs (via C a) m P)) D (f a) m Q
-      unfolding opening grows_by kept_by
-      opening_is = rw (re.destination a ma, ecc_renamed a ma, any_renamed (staying_pairs (via C a) m P) (staying_pairs (via D (f a)) m Q) staying_renamed)
+      kept_alike : kept_by D (f a) m ≡ kept_by C a m
+      unfolding kept_by
+      kept_alike = rw (re.destination a ma, ecc_renamed a ma)
+
+      stays_alike : any_pair D.depots (staying_pairs (via D (f a)) m Q) ≡ any_pair C.depots (staying_pairs (via C a) m P)
+      stays_alike = any_renamed (staying_pairs (via C a) m P) (staying_pairs (via D (f a)) m Q) staying_renamed
 
       pub opening_alike : OpenedAlike (opening C a m P) (opening D (f a) m Q)
       unfolding opening
       opening_alike =
-          subst (λ (o : Opened). OpenedAlike (opening C a m P) o) (sym opening_is)
-          (case_alike (grows_by C a m) (kept_by C a m) (any_pair C.depots (staying_pairs (via C a) m P)))
+          let S = start (shrunk_candidate C.depots (via C a) m P) in
+          let R = start (shrunk_candidate D.depots (via D (f a)) m Q) in
+          rw (grows_alike, kept_alike, stays_alike)
+          (both_by_tests OpenedAlike (grows_by C a m) (kept_by C a m) (any_pair C.depots (staying_pairs (via C a) m P))
+          record {
+            change = refl;
+            final = once_alike (ecc C a) (ecc D (f a)) (own_pairs C a (ecc C a)) (own_pairs D (f a) (ecc D (f a))) (ecc_renamed a ma) (le_of_lt (ecc_small C metric a ma))
+                (λ u v mu mv. ap (λ (n : ℕ). either (own_pairs D (f a) n) (f u) (f v)) (ecc_renamed a ma) ∙ own_renamed a (ecc C a) ma u v mu mv);
+          }
+          record {
+            change = refl;
+            final = once_alike m m (λ u v. staying_pairs (via C a) m P u v || own_pairs C a m u v) (λ u v. staying_pairs (via D (f a)) m Q u v || own_pairs D (f a) m u v) refl low
+                (or_renamed (staying_pairs (via C a) m P) (staying_pairs (via D (f a)) m Q) (own_pairs C a m) (own_pairs D (f a) m) staying_renamed (own_renamed a m ma));
+          }
+          record { change = refl; final = once_alike m m (staying_pairs (via C a) m P) (staying_pairs (via D (f a)) m Q) refl low staying_renamed }
+          record {
+            change = refl;
+            final = rounds_alike (round C a S) (round D (f a) R)
+                (round_alike a ma S R (start_alike (shrunk_candidate C.depots (via C a) m P) (shrunk_candidate D.depots (via D (f a)) m Q) shrunk_renamed shrunk_low));
+          })
 
     -- ---- A LINK
 
     module _ (a b m : ℕ) (ma : In a) (mb : In b) (low : m ≤ unreached) (P Q : Pairs) (h : Same P Q) where
-      left_renamed : Same (pairs_left C a b m P) (pairs_left D (f a) (f b) m Q)
+      left_renamed : Same (staying_pairs (via_either C a b) m P) (staying_pairs (via_either D (f a) (f b)) m Q)
       unfolding staying_pairs
       left_renamed =
           sift_renamed (via_either C a b) (via_either D (f a) (f b)) m P Q (both_turn C a b) (both_turn D (f a) (f b)) (λ u v mu mv. both_renamed a b u v ma mb mu mv) h
@@ -521,16 +528,14 @@ module _ (C D : Chart) (f : ℕ → ℕ) (re : IsRenamed C D f) where
           let A = start_alike (shrunk_candidate C.depots (via_either C a b) m P) (shrunk_candidate D.depots (via_either D (f a) (f b)) m Q) link_renamed link_low in
           round_alike b mb (unskipped_round C a S) (unskipped_round D (f a) R) (unskipped_alike a ma S R A)
 
-      link_case_alike : (k : Bool) → OpenedAlike (link_case k C a b m P) (link_case k D (f a) (f b) m Q)
-      unfolding link_case
-      link_case_alike true = record { change = refl; final = twice_alike (pairs_left C a b m P) (pairs_left D (f a) (f b) m Q) left_renamed }
-      link_case_alike false = record { change = refl; final = rounds_alike (first_two C a b (shrunk_candidate C.depots (via_either C a b) m P)) (first_two D (f a) (f b) (shrunk_candidate D.depots (via_either D (f a) (f b)) m Q)) two_alike }
-
-      link_is : linking D (f a) (f b) m Q ≡ link_case (any_pair C.depots (pairs_left C a b m P) || eqb m 0) D (f a) (f b) m Q
-      unfolding linking
-      link_is = rw (any_renamed (pairs_left C a b m P) (pairs_left D (f a) (f b) m Q) left_renamed)
-
       pub linking_alike : OpenedAlike (linking C a b m P) (linking D (f a) (f b) m Q)
       unfolding linking
       linking_alike =
-          subst (λ (o : Opened). OpenedAlike (linking C a b m P) o) (sym link_is) (link_case_alike (any_pair C.depots (pairs_left C a b m P) || eqb m 0))
+          rw (any_renamed (staying_pairs (via_either C a b) m P) (staying_pairs (via_either D (f a) (f b)) m Q) left_renamed)
+          (both_by_test OpenedAlike (any_pair C.depots (staying_pairs (via_either C a b) m P) || eqb m 0)
+          record { change = refl; final = twice_alike (staying_pairs (via_either C a b) m P) (staying_pairs (via_either D (f a) (f b)) m Q) left_renamed }
+          record {
+            change = refl;
+            final = rounds_alike (first_two C a b (shrunk_candidate C.depots (via_either C a b) m P)) (first_two D (f a) (f b) (shrunk_candidate D.depots (via_either D (f a) (f b)) m Q))
+                two_alike;
+          })

@@ -17,8 +17,9 @@ use Rattle.lists.proofs.Distinct.{memb-range, distinct-range, count_either}
 use Rattle.graph.specs.Network.{Network, IsSound}
 use Rattle.graph.specs.Distance.{vertices}
 use Rattle.graph.specs.Chart.{Chart, chart, Pairs}
-use Rattle.graph.specs.Opening.{via, staying_pairs, any_pair, shrunk_candidate, grows_by, kept_by, open_case, opening}
+use Rattle.graph.specs.Opening.{via, staying_pairs, any_pair, shrunk_candidate, grows_by, kept_by, opening}
 use Rattle.outcome.specs.declared.Change.TheVariants.{Shrank}
+use Rattle.graph.proofs.Tested.{by_tests}
 
 -- rule 1.7: the degree is that of the whole row, with all neighbours, those that were searched or skipped included
 -- (n is a number above every open depot)
@@ -38,17 +39,14 @@ any_out p xs e x m = go (cases_Bool (p x))
 
 module _ (C : Chart) (a D : ℕ) (P : Pairs) where
   none_stays : (opening C a D P).change ≡ Shrank → any_pair C.depots (staying_pairs (via C a) D P) ≡ false
-  unfolding opening open_case
-  none_stays = go (grows_by C a D) (kept_by C a D) (any_pair C.depots (staying_pairs (via C a) D P))
+  unfolding opening
+  none_stays =
+      by_tests (λ o. o.change ≡ Shrank → any_pair C.depots (staying_pairs (via C a) D P) ≡ false) (grows_by C a D) (kept_by C a D)
+      (any_pair C.depots (staying_pairs (via C a) D P))
+      (λ p q. never (cc)) (λ p q r. never (cc)) (λ p q r s. never (cc)) (λ p q r s. r)
     where
       never : {A : Type 0} → ◌≡◌ {A = ℕ} 0 1 → A
       never z = absurd (lt_irrefl 0 (omega arith))
-
-      go : (b s k : Bool) → (open_case b s k C a D P).change ≡ Shrank → k ≡ false
-      go true s k q = never (cc)
-      go false true k q = never (cc)
-      go false false true q = never (cc)
-      go false false false q = refl
 
   dropped : (opening C a D P).change ≡ Shrank → (u v : ℕ) → Memᴰ u C.depots → Memᴰ v C.depots → P u v ≡ true → via C a u v < D
   unfolding any_pair staying_pairs

@@ -17,14 +17,15 @@ use Rattle.lists.proofs.Distinct.{IsCounted, counted_nil, counted_snoc}
 use Rattle.graph.specs.Distance.{unreached}
 use Rattle.graph.specs.Chart.{Chart, ecc, Pairs, own_pairs}
 use Rattle.graph.specs.Rounds.{Status, waiting, skipped, searched, is_waiting, State, round, rounds, start, reckon}
-use Rattle.graph.specs.Opening.{via, staying_pairs, any_pair, shrunk_candidate, searched_once, grows_by, kept_by, open_case, opening}
-use Rattle.graph.specs.Linking.{via_either, pairs_left, searched_twice, first_two, link_case, linking}
+use Rattle.graph.specs.Opening.{via, staying_pairs, any_pair, shrunk_candidate, searched_once, grows_by, kept_by, opening}
+use Rattle.graph.specs.Linking.{via_either, searched_twice, first_two, linking}
 use Rattle.outcome.specs.declared.Change.TheVariants.{Shrank}
 use Rattle.graph.proofs.Metric.{IsMetric, ecc_small}
 use Rattle.graph.proofs.Round.{Fine, Invariant, round_keeps}
 use Rattle.graph.proofs.Rounds.{waiting_count, rounds_right, final_cover, start_fine}
 use Rattle.graph.proofs.Candidates.{candidate_le_chain}
 use Rattle.graph.proofs.FirstTwo.{two_settled}
+use Rattle.graph.proofs.Tested.{by_test, by_tests}
 
 -- where a depot stands, against the references
 abbrev pub StandsIn : Chart → List ℕ → ℕ → Status → Type 0
@@ -119,29 +120,24 @@ module _ (C : Chart) (metric : IsMetric C) where
         go v false h = one_reference a v ∙ h
 
     pub opening_references : ReferencesIn C (opening C a D P).final
-    unfolding opening open_case shrunk
-    opening_references = go (grows_by C a D) (kept_by C a D) (any_pair C.depots (staying_pairs (via C a) D P))
-      where
-        go : (b s k : Bool) → ReferencesIn C (open_case b s k C a D P).final
-        go true s k = once_references (ecc C a) (own_pairs C a (ecc C a))
-        go false true k = once_references D (λ u v. staying_pairs (via C a) D P u v || own_pairs C a D u v)
-        go false false true = once_references D (staying_pairs (via C a) D P)
-        go false false false = settled_references shrunk shrunk_settled.0
+    unfolding opening shrunk
+    opening_references =
+        by_tests (λ o. ReferencesIn C o.final) (grows_by C a D) (kept_by C a D) (any_pair C.depots (staying_pairs (via C a) D P))
+        (λ p. once_references (ecc C a) (own_pairs C a (ecc C a)))
+        (λ p q. once_references D (λ u v. staying_pairs (via C a) D P u v || own_pairs C a D u v))
+        (λ p q r. once_references D (staying_pairs (via C a) D P))
+        (λ p q r. settled_references shrunk shrunk_settled.0)
 
     -- after a shrink the rounds have ended
     pub opening_settled : (opening C a D P).change ≡ Shrank → Invariant C metric unreached (opening C a D P).final × (waiting_count C metric (opening C a D P).final ≡ 0)
-    unfolding opening open_case shrunk
-    opening_settled = go (grows_by C a D) (kept_by C a D) (any_pair C.depots (staying_pairs (via C a) D P))
+    unfolding opening shrunk
+    opening_settled =
+        by_tests (λ o. o.change ≡ Shrank → Invariant C metric unreached o.final × (waiting_count C metric o.final ≡ 0)) (grows_by C a D) (kept_by C a D)
+        (any_pair C.depots (staying_pairs (via C a) D P))
+        (λ p q. never (cc)) (λ p q r. never (cc)) (λ p q r s. never (cc)) (λ p q r s. shrunk_settled)
       where
         never : {A : Type 0} → ◌≡◌ {A = ℕ} 0 1 → A
         never z = absurd (lt_irrefl 0 (omega arith))
-
-        go : (b s k : Bool) → (open_case b s k C a D P).change ≡ Shrank
-            → Invariant C metric unreached (open_case b s k C a D P).final × (waiting_count C metric (open_case b s k C a D P).final ≡ 0)
-        go true s k q = never (cc)
-        go false true k q = never (cc)
-        go false false true q = never (cc)
-        go false false false q = shrunk_settled
 
     pub opening_cover : (opening C a D P).change ≡ Shrank → CoveredIn C (opening C a D P).final
     opening_cover q = let s = opening_settled q in settled_cover (opening C a D P).final s.0 s.1
@@ -181,26 +177,23 @@ module _ (C : Chart) (metric : IsMetric C) where
         go v false false h k = two_references v ∙ rw (h, k)
 
     pub linking_references : ReferencesIn C (linking C a b D P).final
-    unfolding linking link_case shrunk_linked
-    linking_references = go (any_pair C.depots (pairs_left C a b D P) || eqb D 0)
-      where
-        go : (k : Bool) → ReferencesIn C (link_case k C a b D P).final
-        go true = twice_references D (pairs_left C a b D P)
-        go false = settled_references shrunk_linked linked_settled.0
+    unfolding linking shrunk_linked
+    linking_references =
+        by_test (λ o. ReferencesIn C o.final) (any_pair C.depots (staying_pairs (via_either C a b) D P) || eqb D 0)
+        (λ k. twice_references D (staying_pairs (via_either C a b) D P))
+        (λ k. settled_references shrunk_linked linked_settled.0)
 
     -- after a shrink the rounds have ended
     pub linking_settled : (linking C a b D P).change ≡ Shrank
         → Invariant C metric unreached (linking C a b D P).final × (waiting_count C metric (linking C a b D P).final ≡ 0)
-    unfolding linking link_case shrunk_linked
-    linking_settled = go (any_pair C.depots (pairs_left C a b D P) || eqb D 0)
+    unfolding linking shrunk_linked
+    linking_settled =
+        by_test (λ o. o.change ≡ Shrank → Invariant C metric unreached o.final × (waiting_count C metric o.final ≡ 0))
+        (any_pair C.depots (staying_pairs (via_either C a b) D P) || eqb D 0)
+        (λ k q. never (cc)) (λ k q. linked_settled)
       where
         never : {A : Type 0} → ◌≡◌ {A = ℕ} 0 1 → A
         never z = absurd (lt_irrefl 0 (omega arith))
-
-        go : (k : Bool) → (link_case k C a b D P).change ≡ Shrank
-            → Invariant C metric unreached (link_case k C a b D P).final × (waiting_count C metric (link_case k C a b D P).final ≡ 0)
-        go true q = never (cc)
-        go false q = linked_settled
 
     pub linking_cover : (linking C a b D P).change ≡ Shrank → CoveredIn C (linking C a b D P).final
     linking_cover q = let s = linking_settled q in settled_cover (linking C a b D P).final s.0 s.1

@@ -16,8 +16,8 @@ use Rattle.graph.specs.Network.{Network}
 use Rattle.graph.specs.Distance.{vertices, unreached}
 use Rattle.graph.specs.Chart.{Chart, chart, ecc, Pairs, own_pairs}
 use Rattle.graph.specs.Rounds.{Status, waiting, skipped, searched, is_waiting, State, round, pick, remaining, or_stop, rounds, start, reckon}
-use Rattle.graph.specs.Opening.{Notice, by_code, with_depot, open_faults, staying_pairs, any_pair, shrunk_candidate, searched_once, grows_by, kept_by, open_case, opening, via}
-use Rattle.graph.specs.Linking.{via_either, pairs_left, searched_twice, unskipped_round, first_two, link_case, linking}
+use Rattle.graph.specs.Opening.{Notice, by_code, with_depot, open_faults, staying_pairs, any_pair, shrunk_candidate, searched_once, grows_by, kept_by, opening, via}
+use Rattle.graph.specs.Linking.{via_either, searched_twice, unskipped_round, first_two, linking}
 use Rattle.outcome.specs.declared.Change.TheVariants.{Shrank}
 use Rattle.graph.specs.Correct.{IsNet, IsSkipped, AllSkipped, AreAlone, IsSettled}
 use Rattle.graph.proofs.Round.{Fine, Invariant}
@@ -25,6 +25,7 @@ use Rattle.graph.proofs.Rounds.{waiting_count}
 use Rattle.graph.proofs.Charts.{depot_in, depot_out, chart-dist, chart_metric, chart-ecc}
 use Rattle.graph.proofs.Opened.{admitted_of, opened_net, inserted}
 use Rattle.graph.proofs.Searched.{reckon_settled, opening_settled}
+use Rattle.graph.proofs.Tested.{by_test, by_tests}
 
 -- ---- rounds that have ended
 
@@ -77,14 +78,11 @@ module _ (C : Chart) where
 
   module _ (a D : ℕ) (P : Pairs) where
     pub opening_first : (rs : List ℕ) × ((opening C a D P).final.references ≡ a ∷ rs)
-    unfolding opening open_case searched_once round start
-    opening_first = go (grows_by C a D) (kept_by C a D) (any_pair C.depots (staying_pairs (via C a) D P))
-      where
-        go : (b s k : Bool) → (rs : List ℕ) × ((open_case b s k C a D P).final.references ≡ a ∷ rs)
-        go true s k = ([], refl)
-        go false true k = ([], refl)
-        go false false true = ([], refl)
-        go false false false = rounds_after (length C.depots) (round C a (start (shrunk_candidate C.depots (via C a) D P)))
+    unfolding opening searched_once round start
+    opening_first =
+        by_tests (λ o. (rs : List ℕ) × (o.final.references ≡ a ∷ rs)) (grows_by C a D) (kept_by C a D) (any_pair C.depots (staying_pairs (via C a) D P))
+        (λ p. ([], refl)) (λ p q. ([], refl)) (λ p q r. ([], refl))
+        (λ p q r. rounds_after (length C.depots) (round C a (start (shrunk_candidate C.depots (via C a) D P))))
 
     once : (c : ℕ) (Q : Pairs) → AreAlone (a ∷ []) (searched_once C a c Q)
     unfolding searched_once memb anyb
@@ -95,25 +93,24 @@ module _ (C : Chart) where
         go false n = tt
 
     pub opening_once : ((opening C a D P).change ≡ Shrank → ⊥) → AreAlone (a ∷ []) (opening C a D P).final
-    unfolding opening open_case
-    opening_once = go (grows_by C a D) (kept_by C a D) (any_pair C.depots (staying_pairs (via C a) D P))
-      where
-        go : (b s k : Bool) → ((open_case b s k C a D P).change ≡ Shrank → ⊥) → AreAlone (a ∷ []) (open_case b s k C a D P).final
-        go true s k n = once (ecc C a) (own_pairs C a (ecc C a))
-        go false true k n = once D (λ u v. staying_pairs (via C a) D P u v || own_pairs C a D u v)
-        go false false true n = once D (staying_pairs (via C a) D P)
-        go false false false n = absurd (n refl)
+    unfolding opening
+    opening_once =
+        by_tests (λ o. (o.change ≡ Shrank → ⊥) → AreAlone (a ∷ []) o.final) (grows_by C a D) (kept_by C a D)
+        (any_pair C.depots (staying_pairs (via C a) D P))
+        (λ p n. once (ecc C a) (own_pairs C a (ecc C a)))
+        (λ p q n. once D (λ u v. staying_pairs (via C a) D P u v || own_pairs C a D u v))
+        (λ p q r n. once D (staying_pairs (via C a) D P))
+        (λ p q r n. absurd (n refl))
 
   -- ---- a link
 
   module _ (a b D : ℕ) (P : Pairs) where
     pub linking_first : (rs : List ℕ) × ((linking C a b D P).final.references ≡ a ∷ b ∷ rs)
-    unfolding linking link_case searched_twice first_two round unskipped_round start
-    linking_first = go (any_pair C.depots (pairs_left C a b D P) || eqb D 0)
-      where
-        go : (k : Bool) → (rs : List ℕ) × ((link_case k C a b D P).final.references ≡ a ∷ b ∷ rs)
-        go true = ([], refl)
-        go false = rounds_after (length C.depots) (first_two C a b (shrunk_candidate C.depots (via_either C a b) D P))
+    unfolding linking searched_twice first_two round unskipped_round start
+    linking_first =
+        by_test (λ o. (rs : List ℕ) × (o.final.references ≡ a ∷ b ∷ rs)) (any_pair C.depots (staying_pairs (via_either C a b) D P) || eqb D 0)
+        (λ k. ([], refl))
+        (λ k. rounds_after (length C.depots) (first_two C a b (shrunk_candidate C.depots (via_either C a b) D P)))
 
     twice : (c : ℕ) (Q : Pairs) → AreAlone (a ∷ b ∷ []) (searched_twice C a b c Q)
     unfolding searched_twice memb anyb
@@ -125,12 +122,11 @@ module _ (C : Chart) where
         go false false n = tt
 
     pub linking-twice : ((linking C a b D P).change ≡ Shrank → ⊥) → AreAlone (a ∷ b ∷ []) (linking C a b D P).final
-    unfolding linking link_case
-    linking-twice = go (any_pair C.depots (pairs_left C a b D P) || eqb D 0)
-      where
-        go : (k : Bool) → ((link_case k C a b D P).change ≡ Shrank → ⊥) → AreAlone (a ∷ b ∷ []) (link_case k C a b D P).final
-        go true n = twice D (pairs_left C a b D P)
-        go false n = absurd (n refl)
+    unfolding linking
+    linking-twice =
+        by_test (λ o. (o.change ≡ Shrank → ⊥) → AreAlone (a ∷ b ∷ []) o.final) (any_pair C.depots (staying_pairs (via_either C a b) D P) || eqb D 0)
+        (λ k n. twice D (staying_pairs (via_either C a b) D P))
+        (λ k n. absurd (n refl))
 
 module _ (G : Network) (net : IsNet G) (o : Notice) (room : suc (length (vertices G)) < unreached) (ok : first_of (open_faults G o) ≡ 0)
     (D : ℕ) (small : D ≤ unreached) (P : Pairs) where

@@ -15,8 +15,8 @@ use Rattle.graph.specs.Network.{Network, IsDist, delivers}
 use Rattle.graph.specs.Distance.{vertices}
 use Rattle.graph.specs.Chart.{Chart, chart, ecc, Pairs, own_pairs}
 use Rattle.graph.specs.Rounds.{State, raise, join_pairs, round, pick, remaining, or_stop, rounds, start}
-use Rattle.graph.specs.Opening.{via, staying_pairs, any_pair, shrunk_candidate, searched_once, grows_by, kept_by, open_case, opening}
-use Rattle.graph.specs.Linking.{via_either, pairs_left, searched_twice, unskipped_round, first_two, link_case, linking}
+use Rattle.graph.specs.Opening.{via, staying_pairs, any_pair, shrunk_candidate, searched_once, grows_by, kept_by, opening}
+use Rattle.graph.specs.Linking.{via_either, searched_twice, unskipped_round, first_two, linking}
 use Rattle.graph.specs.Correct.{IsNet}
 use Rattle.graph.proofs.Delivers.{delivers_open}
 use Rattle.graph.proofs.Walks.{dist_self}
@@ -24,6 +24,7 @@ use Rattle.graph.proofs.Metric.{IsMetric}
 use Rattle.graph.proofs.Round.{own_is}
 use Rattle.graph.proofs.Candidates.{candidate_le_chain}
 use Rattle.graph.proofs.Theorems.{distance_below, eccentricity_is}
+use Rattle.graph.proofs.Tested.{by_test, by_tests}
 
 -- every pair joins two destinations u < v
 abbrev pub JoinRising : Chart → Pairs → Type 0
@@ -106,19 +107,17 @@ module _ (C : Chart) (metric : IsMetric C) where
 
     module _ (a D : ℕ) (P : Pairs) (were : SoundIn C limit D P) where
       pub opening_sound : SoundIn C limit (opening C a D P).final.candidate (opening C a D P).final.pairs
-      unfolding opening open_case searched_once
-      opening_sound = go (grows_by C a D) (kept_by C a D) (any_pair C.depots (staying_pairs (via C a) D P)) (grown_new a D)
-        where
-          go : (b s k : Bool) → (b ≡ true → C.is_destination a ≡ true) → SoundIn C limit (open_case b s k C a D P).final.candidate (open_case b s k C a D P).final.pairs
-          go true s k new = record { below = most a (new refl); pairs = own_rising a (ecc C a) }
-          go false true k new = record {
+      unfolding opening searched_once
+      opening_sound =
+          let S = start (shrunk_candidate C.depots (via C a) D P) in
+          by_tests (λ o. SoundIn C limit o.final.candidate o.final.pairs) (grows_by C a D) (kept_by C a D) (any_pair C.depots (staying_pairs (via C a) D P))
+          (λ p. record { below = most a (grown_new a D p); pairs = own_rising a (ecc C a) })
+          (λ p q. record {
             below = were.below;
             pairs = or_rising (staying_pairs (via C a) D P) (own_pairs C a D) (staying_rising (via C a) D P were.pairs) (own_rising a D);
-          }
-          go false false true new = record { below = were.below; pairs = staying_rising (via C a) D P were.pairs }
-          go false false false new =
-              let S = start (shrunk_candidate C.depots (via C a) D P) in
-              rounds_sound (length C.depots) (round C a S) (round_sound a S (shrunk_sound (via C a) D P were))
+          })
+          (λ p q r. record { below = were.below; pairs = staying_rising (via C a) D P were.pairs })
+          (λ p q r. rounds_sound (length C.depots) (round C a S) (round_sound a S (shrunk_sound (via C a) D P were)))
 
     -- ---- A LINK
 
@@ -136,12 +135,11 @@ module _ (C : Chart) (metric : IsMetric C) where
           round_sound b (unskipped_round C a S) (unskipped_sound a S (shrunk_sound (via_either C a b) D P were))
 
       pub ends_sound : SoundIn C limit (linking C a b D P).final.candidate (linking C a b D P).final.pairs
-      unfolding linking link_case searched_twice
-      ends_sound = go (any_pair C.depots (pairs_left C a b D P) || eqb D 0)
-        where
-          go : (k : Bool) → SoundIn C limit (link_case k C a b D P).final.candidate (link_case k C a b D P).final.pairs
-          go true = record { below = were.below; pairs = staying_rising (via_either C a b) D P were.pairs }
-          go false = rounds_sound (length C.depots) (first_two C a b (shrunk_candidate C.depots (via_either C a b) D P)) two_sound
+      unfolding linking searched_twice
+      ends_sound =
+          by_test (λ o. SoundIn C limit o.final.candidate o.final.pairs) (any_pair C.depots (staying_pairs (via_either C a b) D P) || eqb D 0)
+          (λ k. record { below = were.below; pairs = staying_rising (via_either C a b) D P were.pairs })
+          (λ k. rounds_sound (length C.depots) (first_two C a b (shrunk_candidate C.depots (via_either C a b) D P)) two_sound)
 
 -- an eccentricity is below the number of depots
 pub ecc_below : (G : Network) → IsNet G → (v : ℕ) → (chart G).is_destination v ≡ true → ecc (chart G) v < length (vertices G)

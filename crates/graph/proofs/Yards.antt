@@ -1,6 +1,6 @@
--- WHAT YARDS CHANGE IN THE STEPS, AND WHAT STANDS WHERE THERE ARE NONE. Assumes nothing.
-use mathlib.Core.Path.{◌≡◌, refl, sym, ap, ◌∙◌, fun_ext}
-use mathlib.Core.Logic.{◌⊎◌, inl, inr}
+-- WHAT YARDS CHANGE IN THE STEPS, AND WHERE THERE ARE NONE. Assumes nothing.
+use mathlib.Core.Path.{◌≡◌, refl, sym, ap, ◌∙◌}
+use mathlib.Core.Logic.{◌⊎◌, ◌↔◌, inl, inr}
 use mathlib.Core.Bool.{Bool, true, false, cond, not, ◌&&◌, ◌||◌}
 use mathlib.Core.List.{List, [], ◌∷◌}
 use Prim.Native.Nat.{ℕ}
@@ -9,16 +9,17 @@ use native.Mathlib.Omega.{arith}
 use lib.Dec.{eqb, ltb}
 use borrow.Author.Tests.{eqb-true, eq-eqb}
 use Rattle.std.proofs.lemmas.Bool.{cases_Bool, and_parts, or_cases}
-use Rattle.lists.proofs.Tests.{t→true, false→not, clash}
+use Rattle.lists.proofs.Tests.{false→not, clash}
 use Rattle.outcome.specs.declared.Change.TheVariants.{Grew, Kept}
 use Rattle.graph.specs.Network.{Network, with_yards, IsSound, Walk, stay, step, delivers, HasNoYard}
 use Rattle.graph.specs.Distance.{vertices, dist, reached_all, connected}
-use Rattle.graph.specs.Chart.{Chart, chart, ecc, Pairs, own_pairs}
+use Rattle.graph.specs.Chart.{Chart, ecc, Pairs, own_pairs}
 use Rattle.graph.specs.Rounds.{State, raise, join_pairs, round}
-use Rattle.graph.specs.Opening.{empty_network, add_depot, with_depot, Opened, via, staying_pairs, any_pair, searched_once, grows_by, kept_by, open_case, opening}
+use Rattle.graph.specs.Opening.{empty_network, add_depot, with_depot, via, staying_pairs, any_pair, searched_once, grows_by, kept_by, opening}
 use Rattle.graph.specs.Linking.{add_link}
 use Rattle.graph.specs.Updates.{Update, opens, joins, applied}
-use Rattle.graph.specs.Yards.{IsYardOpened, IsYardSearched, OpensNoYard, opening_by_ecc, StandsWithoutYards}
+use Rattle.graph.specs.Yards.{IsYardOpened, IsYardSearched, OpensNoYard}
+use Rattle.graph.proofs.Tested.{by_tests}
 
 or_none : (b c : Bool) → c ≡ false → (b || c) ≡ b
 or_none true c q = refl
@@ -67,55 +68,33 @@ module _ (C : Chart) (a : ℕ) (yard : C.is_destination a ≡ false) where
     abbrev stays : Bool
     stays = any_pair C.depots (staying_pairs (via C a) D P)
 
-    by_tests : opening C a D P ≡ open_case false (eqb D 0) stays C a D P
-    unfolding opening
-    by_tests = rw (grows_not, kept_zero) refl
-
     never : {A : Type 0} → ◌≡◌ {A = ℕ} 0 1 → A
     never z = absurd (lt_irrefl 0 (omega arith))
 
-    case_never : (s k : Bool) → (open_case false s k C a D P).change ≡ Grew → ⊥
-    unfolding open_case
-    case_never true k q = never (cc)
-    case_never false true q = never (cc)
-    case_never false false q = never (cc)
+    grows_never : {A : Type 0} → grows_by C a D ≡ true → A
+    grows_never p = absurd (clash p grows_not)
 
-    case_kept : (s k : Bool) → (open_case false s k C a D P).change ≡ Kept → (s ≡ true) ⊎ (k ≡ true)
-    unfolding open_case
-    case_kept true k q = inl refl
-    case_kept false true q = inr refl
-    case_kept false false q = never (cc)
-
-    case_keeps : (s k : Bool) → (s ≡ true) ⊎ (k ≡ true) → (open_case false s k C a D P).change ≡ Kept
-    unfolding open_case
-    case_keeps true k q = refl
-    case_keeps false true q = refl
-    case_keeps false false (inl q) = absurd (clash q refl)
-    case_keeps false false (inr q) = absurd (clash q refl)
-
-    case_pairs : (s k : Bool) → (open_case false s k C a D P).change ≡ Kept → (u v : ℕ) → (open_case false s k C a D P).final.pairs u v ≡ staying_pairs (via C a) D P u v
-    unfolding open_case searched_once
-    case_pairs true k q u v = or_none (staying_pairs (via C a) D P u v) (own_pairs C a D u v) (own_none D u v)
-    case_pairs false true q u v = refl
-    case_pairs false false q u v = never (cc)
+    -- what the test of rule 4.3 says of it
+    zero_of : kept_by C a D ≡ true → D ≡ 0
+    zero_of q = eqb-true D 0 (sym kept_zero ∙ q)
 
     pub yard_opened : IsYardOpened C a D P
+    unfolding opening searched_once
     yard_opened = record {
-      never = λ q. case_never (eqb D 0) stays (sym same ∙ q);
-      kept = (λ q. to (case_kept (eqb D 0) stays (sym same ∙ q)), λ q. same ∙ case_keeps (eqb D 0) stays (from q));
-      pairs = λ q u v. ap (λ (x : Opened). x.final.pairs u v) by_tests ∙ case_pairs (eqb D 0) stays (sym same ∙ q) u v;
+      never = by_tests (λ o. o.change ≡ Grew → ⊥) (grows_by C a D) (kept_by C a D) stays grows_never (λ p q g. never (cc)) (λ p q r g. never (cc)) (λ p q r g. never (cc));
+      kept = by_tests (λ o. (o.change ≡ Kept) ↔ ((D ≡ 0) ⊎ (stays ≡ true))) (grows_by C a D) (kept_by C a D) stays grows_never
+          (λ p q. (λ g. inl (zero_of q), λ g. refl))
+          (λ p q r. (λ g. inr r, λ g. refl))
+          (λ p q r. (λ g. never (cc), neither q r));
+      pairs = by_tests (λ o. o.change ≡ Kept → (u v : ℕ) → o.final.pairs u v ≡ staying_pairs (via C a) D P u v) (grows_by C a D) (kept_by C a D) stays grows_never
+          (λ p q g u v. or_none (staying_pairs (via C a) D P u v) (own_pairs C a D u v) (own_none D u v))
+          (λ p q r g u v. refl)
+          (λ p q r g u v. never (cc));
     }
       where
-        same : (opening C a D P).change ≡ (open_case false (eqb D 0) stays C a D P).change
-        same = ap (λ (x : Opened). x.change) by_tests
-
-        to : (eqb D 0 ≡ true) ⊎ (stays ≡ true) → (D ≡ 0) ⊎ (stays ≡ true)
-        to (inl z) = inl (eqb-true D 0 z)
-        to (inr k) = inr k
-
-        from : (D ≡ 0) ⊎ (stays ≡ true) → (eqb D 0 ≡ true) ⊎ (stays ≡ true)
-        from (inl z) = inl (eq-eqb D 0 z)
-        from (inr k) = inr k
+        neither : kept_by C a D ≡ false → stays ≡ false → {A : Type 0} → (D ≡ 0) ⊎ (stays ≡ true) → A
+        neither q r (inl z) = absurd (clash (kept_zero ∙ eq-eqb D 0 z) q)
+        neither q r (inr k) = absurd (clash k r)
 
 -- ---- the same network with other yards
 
@@ -162,19 +141,7 @@ pub no_yard_empty : HasNoYard empty_network
 unfolding empty_network
 no_yard_empty v = refl
 
-no_yard_after : (G : Network) → HasNoYard G → (u : Update) → OpensNoYard u → HasNoYard (applied G u)
+pub no_yard_after : (G : Network) → HasNoYard G → (u : Update) → OpensNoYard u → HasNoYard (applied G u)
 unfolding applied with_depot add_depot add_link
 no_yard_after G none (opens o) p v = rw (p, none v) refl
 no_yard_after G none (joins a b) p v = none v
-
-opening-by-ecc : (C : Chart) (a D : ℕ) (P : Pairs) → C.is_destination a ≡ true → opening C a D P ≡ opening_by_ecc C a D P
-unfolding opening grows_by kept_by opening_by_ecc
-opening-by-ecc C a D P t = rw t refl
-
-pub no_yard_stands : (G : Network) → HasNoYard G → StandsWithoutYards G
-unfolding chart
-no_yard_stands G none = record {
-  destinations = fun_ext (no_yard_delivers G none);
-  opening = λ a D P o. opening-by-ecc (chart G) a D P (no_yard_delivers G none a ∙ t→true (G.is_open a) o);
-  after = no_yard_after G none;
-}

@@ -1,8 +1,9 @@
--- A LINK ADDED LATER between two open depots, its ends, over the network itself: no word, no table. Chain and pairs move as in an opening (rules 4.3
--- and 4.4), by the ways through both ends. Proved in proofs/LinkTheorems: `linked_net`, `linking_correct`, `linking_covered`, `linking_sound`,
+-- A LINK ADDED LATER between two open depots, its ends, over the network itself: no word, no table.
+-- Chain and pairs move as in an opening (rules 4.3 and 4.4), by the ways through both ends. Proved
+-- in proofs/LinkTheorems: `linked_net`, `linking_correct`, `linking_covered`, `linking_sound`,
 -- `linking_never`, `linking-says`; `link_distance`; and `link_refusals` (proofs/Refusals).
 -- Assumes nothing.
-use Rattle.std.specs.Prelude.{Bool, true, false, cond, not, ◌&&◌, ◌||◌, List, [], ◌∷◌, ◌++◌, ℕ, ◌+◌, max, min, eqb, length}
+use Rattle.std.specs.Prelude.{Bool, cond, if◌then◌else◌, not, ◌&&◌, ◌||◌, List, [], ◌∷◌, ◌++◌, ℕ, ◌+◌, max, min, eqb, length}
 use Rattle.outcome.specs.Numbers.{absent_code, itself_linked, linked_already}
 use Rattle.outcome.specs.declared.Change.TheVariants.{Kept, Shrank}
 use Rattle.graph.specs.Network.{Network}
@@ -31,10 +32,6 @@ unfoldable pub via_either : Chart → ℕ → ℕ → ℕ → ℕ → ℕ
 unfolding via
 via_either C a b u v = min (via C a u v) (via C b u v)
 
--- the stored pairs that are left: those of which neither way is below D
-abbrev pub pairs_left : Chart → ℕ → ℕ → ℕ → Pairs → Pairs
-pairs_left C lo hi D P = staying_pairs (via_either C lo hi) D P
-
 -- a call that searched from the two ends alone, with the chain c and the pairs Q
 unfoldable pub searched_twice : Chart → ℕ → ℕ → ℕ → Pairs → State
 unfolding ecc
@@ -62,19 +59,17 @@ unfoldable pub first_two : Chart → ℕ → ℕ → ℕ → State
 unfolding round unskipped_round start
 first_two C lo hi c = round C hi (unskipped_round C lo (start c))
 
--- by one test: a pair is left, or the chain was 0. It never grew, and no eccentricity keeps it
-unfoldable pub link_case : Bool → Chart → ℕ → ℕ → ℕ → Pairs → Opened
-unfolding via_either staying_pairs shrunk_candidate searched_twice first_two rounds
-link_case true C lo hi D P = record { change = Kept; final = searched_twice C lo hi D (pairs_left C lo hi D P) }
-link_case false C lo hi D P = record {
-  change = Shrank;
-  final = rounds C (length C.depots) (first_two C lo hi (shrunk_candidate C.depots (via_either C lo hi) D P));
-}
-
--- Linking lo and hi, which are searched in this order: C is the chart with the link in place, D and P the chain and the pairs that were stored.
+-- Linking lo and hi, which are searched in this order: C is the chart with the link in place, D and
+-- P the chain and the pairs that were stored. By one test (rule 15.3): it never grew, and no
+-- eccentricity keeps it.
 unfoldable pub linking : Chart → ℕ → ℕ → ℕ → Pairs → Opened
-unfolding link_case any_pair via_either staying_pairs
-linking C lo hi D P = link_case (any_pair C.depots (pairs_left C lo hi D P) || eqb D 0) C lo hi D P
+unfolding any_pair via_either staying_pairs shrunk_candidate searched_twice first_two rounds
+linking C lo hi D P =
+    let left = staying_pairs (via_either C lo hi) D P in
+    let c = shrunk_candidate C.depots (via_either C lo hi) D P in
+    if any_pair C.depots left || eqb D 0
+    then record { change = Kept; final = searched_twice C lo hi D left }
+    else record { change = Shrank; final = rounds C (length C.depots) (first_two C lo hi c) }
 
 -- Linking the codes a and b, told in either order: the lower one is searched first.
 unfoldable pub linking_codes : Chart → ℕ → ℕ → ℕ → Pairs → Opened

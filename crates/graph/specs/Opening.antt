@@ -3,7 +3,7 @@
 -- "Real-Time Diameter Monitoring for Time-Evolving Graphs"; its Lemma 5 leaves out the premise that
 -- `grows_by` asks about (rule 4.5).
 -- Assumes nothing.
-use Rattle.std.specs.Prelude.{Bool, true, false, cond, not, ◌&&◌, ◌||◌, List, [], ◌∷◌, ℕ, ◌+◌, min, eqb, ltb, length}
+use Rattle.std.specs.Prelude.{Bool, true, false, cond, if◌then◌else◌, not, ◌&&◌, ◌||◌, List, [], ◌∷◌, ℕ, ◌+◌, min, eqb, ltb, length}
 use Rattle.lists.specs.Lists.{anyb, allb, max_of, memb, insert_by}
 use Rattle.outcome.specs.Numbers.{taken_code, lonely_depot, unsorted_neighbours, unknown_neighbour}
 use Rattle.outcome.specs.declared.Change.{Change}
@@ -72,7 +72,8 @@ open_faults G o = notice_faults G.is_open (length (vertices G)) o
 
 -- ---- what an accepted opening does
 
--- what an opening leaves: how the chain moved, and the rounds' state (chain, pairs, marks, references)
+-- what an opening leaves: how the chain moved, and the rounds' state (chain, pairs, marks,
+-- references)
 pub record Opened : Type 0 where
   pub change : Change
   pub final : State
@@ -109,20 +110,22 @@ unfoldable pub grows_by : Chart → ℕ → ℕ → Bool
 unfolding ecc
 grows_by C a D = C.is_destination a && ltb D (ecc C a)
 
--- whether it is kept whatever pairs stay: e(a) = D. A yard's eccentricity keeps nothing; with a yard it is a chain that was 0
+-- whether it is kept whatever pairs stay (rule 4.3): e(a) = D. A yard's eccentricity keeps nothing,
+-- and it has no own pairs: with a yard it is a chain that was 0
 unfoldable pub kept_by : Chart → ℕ → ℕ → Bool
 unfolding ecc
 kept_by C a D = cond (C.is_destination a) (eqb (ecc C a) D) (eqb D 0)
 
--- by three tests: the chain grows; it is kept whatever pairs stay; a stored pair stays (rule 4.3). A yard has no own pairs
-unfoldable pub open_case : Bool → Bool → Bool → Chart → ℕ → ℕ → Pairs → Opened
-unfolding ecc own_pairs via staying_pairs shrunk_candidate searched_once round rounds start
-open_case true same stays C a D P = record { change = Grew; final = searched_once C a (ecc C a) (own_pairs C a (ecc C a)) }
-open_case false true stays C a D P = record { change = Kept; final = searched_once C a D (λ u v. staying_pairs (via C a) D P u v || own_pairs C a D u v) }
-open_case false false true C a D P = record { change = Kept; final = searched_once C a D (staying_pairs (via C a) D P) }
-open_case false false false C a D P = record { change = Shrank; final = rounds C (length C.depots) (round C a (start (shrunk_candidate C.depots (via C a) D P))) }
-
--- Opening a: C is the chart with a in place, D and P the chain and the pairs that were stored.
+-- Opening a: C is the chart with a in place, D and P the chain and the pairs that were stored. The
+-- tests come in the order of rules 4.2 to 4.4, growth first (rule 4.5).
 unfoldable pub opening : Chart → ℕ → ℕ → Pairs → Opened
-unfolding open_case grows_by kept_by any_pair via staying_pairs
-opening C a D P = open_case (grows_by C a D) (kept_by C a D) (any_pair C.depots (staying_pairs (via C a) D P)) C a D P
+unfolding grows_by kept_by own_pairs any_pair via staying_pairs shrunk_candidate searched_once
+opening C a D P =
+    let e = ecc C a in
+    let left = staying_pairs (via C a) D P in
+    let c = shrunk_candidate C.depots (via C a) D P in
+    if grows_by C a D then record { change = Grew; final = searched_once C a e (own_pairs C a e) }
+    else if kept_by C a D then
+    record { change = Kept; final = searched_once C a D (λ u v. left u v || own_pairs C a D u v) }
+    else if any_pair C.depots left then record { change = Kept; final = searched_once C a D left }
+    else record { change = Shrank; final = rounds C (length C.depots) (round C a (start c)) }

@@ -16,7 +16,7 @@ use Rattle.graph.specs.Network.{Network, delivers}
 use Rattle.graph.specs.Distance.{dist}
 use Rattle.graph.specs.Chart.{Pairs, chart, ecc, own_pairs}
 use Rattle.graph.specs.Rounds.{join_pairs, round, rounds, start}
-use Rattle.graph.specs.Opening.{opening, open_case, grows_by, kept_by, staying_pairs, any_pair, via}
+use Rattle.graph.specs.Opening.{opening, grows_by, kept_by, staying_pairs, any_pair, via}
 use Rattle.graph.specs.Correct.{IsNet}
 use Rattle.graph.proofs.Charts.{chart_metric, depot_in}
 use Rattle.graph.proofs.Delivers.{delivers_open}
@@ -178,11 +178,6 @@ module _ (K : Shape) (members targets links : List ℕ) (B : Lent) (a D : ℕ) (
       go true q = rw q
       go false q = rw q (turned (cases_eq D 0))
 
-  by_tests : (x y z : Bool) → ltb D R.own ≡ x → eqb R.own D ≡ y → any_pair (chart G).depots Left ≡ z
-      → figured (open_case x y z (chart G) a D P).change (ran_by K G (open_case x y z (chart G) a D P).final B) ≡ figured_by K G a D B
-  unfolding figured_by opening
-  by_tests x y z p q r = rw (grows_own ∙ p, kept_own ∙ q, r)
-
   -- the marks of a join, as those of the network's eccentricity
   marks_are : (m m₀ : Marked) → m ≡ mark_once_in K a R.ecc m₀ → m ≡ mark_once_in K a (ecc (chart G) a) m₀
   marks_are m m₀ h = h ∙ ap (λ (x : ℕ). mark_once_in K a x m₀) I.spans.ecc_is
@@ -199,11 +194,11 @@ module _ (K : Shape) (members targets links : List ℕ) (B : Lent) (a D : ℕ) (
   pub grew_is : D < R.own → (count : ℕ) (p : List ℕ) (n : ℕ) (m : Marked)
       → joined (tally p n) m ≡ join_of K a R D (joined (tally B.pairs count) (marking B.bounds B.skips))
       → figured Grew (ran (lent p B.searched m.bounds m.skips) R.own n 1) ≡ figured_by K (target_network K.words members targets links) a D B
-  unfolding join_of open_case settle_of
+  unfolding join_of figured_by opening settle_of
   grew_is l count p n m h =
-      ap (λ (x : ℕ). figured Grew (ran (lent p B.searched m.bounds m.skips) x n 1)) (own_ecc l)
-      ∙ ap (figured Grew) (once_leaves K G a I.present (ecc (chart G) a) (own_pairs (chart G) a (ecc (chart G) a)) B p n m own (marks_are m (marking B.bounds B.skips) (ap (λ (J : Joined). J.marked) h)) I.stands)
-      ∙ by_tests true (eqb R.own D) (any_pair (chart G).depots Left) (lt-ltb D R.own l) refl refl
+      rw (grows_own ∙ lt-ltb D R.own l)
+      (ap (λ (x : ℕ). figured Grew (ran (lent p B.searched m.bounds m.skips) x n 1)) (own_ecc l)
+      ∙ ap (figured Grew) (once_leaves K G a I.present (ecc (chart G) a) (own_pairs (chart G) a (ecc (chart G) a)) B p n m own (marks_are m (marking B.bounds B.skips) (ap (λ (J : Joined). J.marked) h)) I.stands))
     where
       settled : settle_of K.words R.partners a R.own D (tally B.pairs count) ≡ tally_of K.words (pairs_with K.words R.partners a) B.pairs
       settled = rw (lt-ltb D R.own l)
@@ -241,10 +236,10 @@ module _ (K : Shape) (members targets links : List ℕ) (B : Lent) (a D : ℕ) (
     pub equal_is : R.own ≡ D → (p : List ℕ) (n : ℕ) (m : Marked)
         → joined (tally p n) m ≡ join_of K a R D (joined (tally t k) (marking B.bounds B.skips))
         → figured Kept (ran (lent p B.searched m.bounds m.skips) D n 1) ≡ figured_by K (target_network K.words members targets links) a D B
-    unfolding join_of open_case tally_of
+    unfolding join_of figured_by opening tally_of
     equal_is q p n m h =
-        ap (figured Kept) (once_leaves K G a I.present D (λ u v. Left u v || own_pairs (chart G) a D u v) B p n m both (marks_are m (marking B.bounds B.skips) (ap (λ (J : Joined). J.marked) h)) I.stands)
-        ∙ by_tests false true (any_pair (chart G).depots Left) not_above (eq-eqb R.own D q) refl
+        rw (grows_own ∙ not_above, kept_own ∙ eq-eqb R.own D q)
+        (ap (figured Kept) (once_leaves K G a I.present D (λ u v. Left u v || own_pairs (chart G) a D u v) B p n m both (marks_are m (marking B.bounds B.skips) (ap (λ (J : Joined). J.marked) h)) I.stands))
       where
         joins : (b : Bool) → delivers G a ≡ b → R.own ≡ cond b (ecc (chart G) a) 0 → (u v : ℕ)
             → join_pairs (chart G) a (ecc (chart G) a) D Left u v ≡ (Left u v || own_pairs (chart G) a D u v)
@@ -261,10 +256,13 @@ module _ (K : Shape) (members targets links : List ℕ) (B : Lent) (a D : ℕ) (
     -- it is below D, and a pair is left: KEPT
     pub kept_is : (R.own ≡ D → ⊥) → (k ≡ 0 → ⊥) → (m : Marked) → m ≡ mark_once_in K a R.ecc (marking B.bounds B.skips)
         → figured Kept (ran (lent t B.searched m.bounds m.skips) D k 1) ≡ figured_by K (target_network K.words members targets links) a D B
-    unfolding open_case
+    unfolding figured_by opening
     kept_is ne some m h =
-        ap (figured Kept) (once_leaves K G a I.present D Left B t k m tally_left (marks_are m (marking B.bounds B.skips) h) I.stands)
-        ∙ by_tests false false true not_above (ne_eqb R.own D ne) (some_left K.words G I.net below (way_by hops) (via (chart G) a) alike D B.pairs ends drops_by some)
+        rw (grows_own ∙ not_above, kept_own ∙ ne_eqb R.own D ne, left_some)
+        (ap (figured Kept) (once_leaves K G a I.present D Left B t k m tally_left (marks_are m (marking B.bounds B.skips) h) I.stands))
+      where
+        left_some : any_pair (chart G).depots Left ≡ true
+        left_some = some_left K.words G I.net below (way_by hops) (via (chart G) a) alike D B.pairs ends drops_by some
 
     -- no pair is left: SHRANK
     pub shrank_is : (R.own ≡ D → ⊥) → k ≡ 0 → (X : Ran)
@@ -272,8 +270,11 @@ module _ (K : Shape) (members targets links : List ℕ) (B : Lent) (a D : ℕ) (
         (rounds (chart (target_network K.words members targets links)) (length (chart (target_network K.words members targets links)).depots)
         (round (chart (target_network K.words members targets links)) a (start w))) (lent t B.searched B.bounds B.skips)
         → figured Shrank X ≡ figured_by K (target_network K.words members targets links) a D B
-    unfolding open_case
+    unfolding figured_by opening
     shrank_is ne z X h =
-        ap (figured Shrank) (h ∙ pairs_over K G (rounds (chart G) (length (chart G).depots) (round (chart G) a (start w))) Left B t table_left
-        ∙ ap (λ (c : ℕ). ran_by K G (rounds (chart G) (length (chart G).depots) (round (chart G) a (start c))) B) (candidate_is K.words G I.net below (way_by hops) (via (chart G) a) alike D B.pairs ends drops_by))
-        ∙ by_tests false false false not_above (ne_eqb R.own D ne) (none_left K.words G I.net below (way_by hops) (via (chart G) a) alike D B.pairs ends drops_by z)
+        rw (grows_own ∙ not_above, kept_own ∙ ne_eqb R.own D ne, left_none)
+        (ap (figured Shrank) (h ∙ pairs_over K G (rounds (chart G) (length (chart G).depots) (round (chart G) a (start w))) Left B t table_left
+        ∙ ap (λ (c : ℕ). ran_by K G (rounds (chart G) (length (chart G).depots) (round (chart G) a (start c))) B) (candidate_is K.words G I.net below (way_by hops) (via (chart G) a) alike D B.pairs ends drops_by)))
+      where
+        left_none : any_pair (chart G).depots Left ≡ false
+        left_none = none_left K.words G I.net below (way_by hops) (via (chart G) a) alike D B.pairs ends drops_by z

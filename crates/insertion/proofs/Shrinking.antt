@@ -11,7 +11,7 @@ use Rattle.graph.specs.Network.{Network}
 use Rattle.graph.specs.Distance.{unreached, dist}
 use Rattle.graph.specs.Chart.{chart, ecc, Pairs, own_pairs}
 use Rattle.graph.specs.Rounds.{State, round, rounds, pick, remaining, or_stop, start}
-use Rattle.graph.specs.Opening.{opening, open_case, grows_by, kept_by, searched_once, staying_pairs, shrunk_candidate, any_pair, via}
+use Rattle.graph.specs.Opening.{Opened, opening, grows_by, kept_by, searched_once, staying_pairs, shrunk_candidate, any_pair, via}
 use Rattle.graph.proofs.Charts.{depot_in}
 use Rattle.rows.specs.Rows.{table_bit, encode_table}
 use Rattle.map.specs.Room.{Tables, Lent, lent}
@@ -29,6 +29,7 @@ use Rattle.rounds.proofs.Finish.{start_holds, start_running, run_is}
 use Rattle.pairs.proofs.Tallies.{table_over}
 use Rattle.insertion.specs.Figured.{figured, figured_by}
 use Rattle.insertion.specs.Steps.{HoldsSearch}
+use Rattle.graph.proofs.Tested.{by_tests}
 
 -- the hop table of a search that stands in tables
 pub hop_stands : (K : Shape) (G : Network) (T : Tables) (a : ℕ) → T ≡ search_leaves K.words G a T → (v : ℕ) → v < places K → get_or T.hops v 0 ≡ dist G a v
@@ -125,19 +126,19 @@ module _ (K : Shape) (G : Network) (a : ℕ) (T : Tables) (p b s : List ℕ) whe
   unfolding searched_once search_after last_or
   once_over c Q = leaves_over K.words G a a T
 
-  case_over : (x y z : Bool) (D : ℕ) (P : Pairs)
-      → ran_by K G (open_case x y z (chart G) a D P).final (lent p (search_leaves K.words G a T) b s) ≡ ran_by K G (open_case x y z (chart G) a D P).final (lent p T b s)
-  unfolding open_case
-  case_over true y z D P = ran_over (searched_once (chart G) a (ecc (chart G) a) (own_pairs (chart G) a (ecc (chart G) a))) (once_over (ecc (chart G) a) (own_pairs (chart G) a (ecc (chart G) a)))
-  case_over false true z D P =
-      ran_over (searched_once (chart G) a D (λ u v. staying_pairs (via (chart G) a) D P u v || own_pairs (chart G) a D u v)) (once_over D (λ u v. staying_pairs (via (chart G) a) D P u v || own_pairs (chart G) a D u v))
-  case_over false false true D P = ran_over (searched_once (chart G) a D (staying_pairs (via (chart G) a) D P)) (once_over D (staying_pairs (via (chart G) a) D P))
-  case_over false false false D P =
-      ran_over (rounds (chart G) (length (chart G).depots) (round (chart G) a (start (shrunk_candidate (chart G).depots (via (chart G) a) D P))))
-      (rounds_over K.words G a T (length (chart G).depots) a (start (shrunk_candidate (chart G).depots (via (chart G) a) D P)))
+  case_over : (D : ℕ) (P : Pairs)
+      → ran_by K G (opening (chart G) a D P).final (lent p (search_leaves K.words G a T) b s) ≡ ran_by K G (opening (chart G) a D P).final (lent p T b s)
+  unfolding opening
+  case_over D P =
+      let left = staying_pairs (via (chart G) a) D P in
+      let S = start (shrunk_candidate (chart G).depots (via (chart G) a) D P) in
+      by_tests (λ o. ran_by K G o.final (lent p (search_leaves K.words G a T) b s) ≡ ran_by K G o.final (lent p T b s)) (grows_by (chart G) a D) (kept_by (chart G) a D)
+      (any_pair (chart G).depots left)
+      (λ x. let e = ecc (chart G) a in ran_over (searched_once (chart G) a e (own_pairs (chart G) a e)) (once_over e (own_pairs (chart G) a e)))
+      (λ x y. let Q : Pairs = λ u v. left u v || own_pairs (chart G) a D u v in ran_over (searched_once (chart G) a D Q) (once_over D Q))
+      (λ x y z. ran_over (searched_once (chart G) a D left) (once_over D left))
+      (λ x y z. ran_over (rounds (chart G) (length (chart G).depots) (round (chart G) a S)) (rounds_over K.words G a T (length (chart G).depots) a S))
 
   pub figured_over : (D : ℕ) → figured_by K G a D (lent p (search_leaves K.words G a T) b s) ≡ figured_by K G a D (lent p T b s)
-  unfolding figured_by opening
-  figured_over D =
-      ap (figured (opening (chart G) a D (table_bit K.words p)).change)
-      (case_over (grows_by (chart G) a D) (kept_by (chart G) a D) (any_pair (chart G).depots (staying_pairs (via (chart G) a) D (table_bit K.words p))) D (table_bit K.words p))
+  unfolding figured_by
+  figured_over D = ap (figured (opening (chart G) a D (table_bit K.words p)).change) (case_over D (table_bit K.words p))

@@ -12,8 +12,8 @@ use Rattle.lists.specs.Lists.{overwrite}
 use Rattle.graph.specs.Network.{Network, delivers}
 use Rattle.graph.specs.Chart.{Pairs, chart}
 use Rattle.graph.specs.Rounds.{rounds}
-use Rattle.graph.specs.Opening.{any_pair}
-use Rattle.graph.specs.Linking.{via_either, pairs_left, first_two, link_case, linking}
+use Rattle.graph.specs.Opening.{staying_pairs, any_pair}
+use Rattle.graph.specs.Linking.{via_either, first_two, linking}
 use Rattle.graph.specs.Correct.{IsNet}
 use Rattle.rows.specs.Rows.{table_bit, encode_table}
 use Rattle.map.specs.Room.{Tables, Lent, lent}
@@ -89,7 +89,7 @@ module _ (K : Shape) (members targets links near : List ℕ) (B : Lent) (lo : �
   P = table_bit K.words B.pairs
 
   abbrev Left : Pairs
-  Left = pairs_left (chart (target_network K.words members targets links)) lo hi D (table_bit K.words B.pairs)
+  Left = staying_pairs (via_either (chart (target_network K.words members targets links)) lo hi) D (table_bit K.words B.pairs)
 
   abbrev way : ℕ → ℕ → ℕ
   way = way_by_either near (search_leaves K.words (target_network K.words members targets links) hi B.searched).hops
@@ -110,11 +110,6 @@ module _ (K : Shape) (members targets links near : List ℕ) (B : Lent) (lo : �
   unfolding tally_of
   table_left = ap (λ (x : Tally). x.pairs) tally_left
 
-  by_test : (x : Bool) → (any_pair (chart G).depots Left || eqb D 0) ≡ x
-      → figured (link_case x (chart G) lo hi D P).change (ran_by K G (link_case x (chart G) lo hi D P).final B) ≡ relinked_by K G lo hi D B
-  unfolding relinked_by linking
-  by_test x q = rw q
-
   any_left : any_pair (chart G).depots Left ≡ not (eqb k 0)
   any_left = go (cases_eq k 0)
     where
@@ -130,20 +125,20 @@ module _ (K : Shape) (members targets links near : List ℕ) (B : Lent) (lo : �
   pub kept_is : (x : Bool) → x ≡ (not (eqb k 0) || eqb D 0) → x ≡ true → (m : Marked)
       → m ≡ mark_twice K.words K.searched_mark K.other_mark lo R.ecc hi Q.ecc (marking B.bounds B.skips)
       → figured Kept (ran (lent t B.searched m.bounds m.skips) D k 2) ≡ relinked_by K (target_network K.words members targets links) lo hi D B
-  unfolding link_case
+  unfolding relinked_by linking
   kept_is x h q m marked =
-      ap (figured Kept) (twice_leaves K G lo hi I.present I.higher.present D Left B t k m tally_left
+      rw (tested x true h q)
+      (ap (figured Kept) (twice_leaves K G lo hi I.present I.higher.present D Left B t k m tally_left
       (marked ∙ ap₂ (λ (y z : ℕ). mark_twice K.words K.searched_mark K.other_mark lo y hi z (marking B.bounds B.skips)) I.spans.ecc_is I.higher.spans.ecc_is)
-      I.higher.stands)
-      ∙ by_test true (tested x true h q)
+      I.higher.stands))
 
   -- neither: SHRANK
   pub shrank_is : (x : Bool) → x ≡ (not (eqb k 0) || eqb D 0) → x ≡ false → (X : Ran)
       → X ≡ ran_by K G (rounds (chart G) (length (chart G).depots) (first_two (chart G) lo hi w)) (lent t B.searched B.bounds B.skips)
       → figured Shrank X ≡ relinked_by K (target_network K.words members targets links) lo hi D B
-  unfolding link_case
+  unfolding relinked_by linking
   shrank_is x h q X rounded =
-      ap (figured Shrank) (rounded ∙ pairs_over K G (rounds (chart G) (length (chart G).depots) (first_two (chart G) lo hi w)) Left B t table_left
+      rw (tested x false h q)
+      (ap (figured Shrank) (rounded ∙ pairs_over K G (rounds (chart G) (length (chart G).depots) (first_two (chart G) lo hi w)) Left B t table_left
       ∙ ap (λ (c : ℕ). ran_by K G (rounds (chart G) (length (chart G).depots) (first_two (chart G) lo hi c)) B)
-      (candidate_is K.words G I.higher.net below way (via_either (chart G) lo hi) alike D B.pairs ends drops_by))
-      ∙ by_test false (tested x false h q)
+      (candidate_is K.words G I.higher.net below way (via_either (chart G) lo hi) alike D B.pairs ends drops_by)))

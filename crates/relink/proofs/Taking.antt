@@ -13,8 +13,8 @@ use Rattle.graph.specs.Network.{Network}
 use Rattle.graph.specs.Distance.{unreached}
 use Rattle.graph.specs.Chart.{chart, Pairs}
 use Rattle.graph.specs.Rounds.{State, round, rounds, start}
-use Rattle.graph.specs.Opening.{shrunk_candidate, any_pair}
-use Rattle.graph.specs.Linking.{via_either, pairs_left, searched_twice, unskipped_round, first_two, link_case, linking}
+use Rattle.graph.specs.Opening.{staying_pairs, shrunk_candidate, any_pair}
+use Rattle.graph.specs.Linking.{via_either, searched_twice, unskipped_round, first_two, linking}
 use Rattle.graph.proofs.Charts.{chart_metric, depot_in}
 use Rattle.graph.proofs.FirstTwo.{unskipped_keeps}
 use Rattle.rows.specs.Rows.{table_bit}
@@ -34,6 +34,7 @@ use Rattle.insertion.specs.Figured.{figured}
 use Rattle.insertion.proofs.Shrinking.{hop_stands, rounds_over, ran_over}
 use Rattle.relink.specs.Relinked.{relinked_by}
 use Rattle.relink.specs.Steps.{low_taken, both_taken, StandBoth}
+use Rattle.graph.proofs.Tested.{by_test}
 
 -- ---- the calls, one after the other
 
@@ -150,17 +151,17 @@ module _ (K : Shape) (G : Network) (lo hi : ℕ) (Y : Tables) (p b s : List ℕ)
   unfolding searched_twice search_after last_or
   twice_over c Q = leaves_over K.words G hi hi Y
 
-  case_over : (x : Bool) (D : ℕ) (P : Pairs)
-      → ran_by K G (link_case x (chart G) lo hi D P).final (lent p (search_leaves K.words G hi Y) b s) ≡ ran_by K G (link_case x (chart G) lo hi D P).final (lent p Y b s)
-  unfolding link_case first_two
-  case_over true D P = ran_over K G hi Y p b s (searched_twice (chart G) lo hi D (pairs_left (chart G) lo hi D P)) (twice_over D (pairs_left (chart G) lo hi D P))
-  case_over false D P =
+  case_over : (D : ℕ) (P : Pairs)
+      → ran_by K G (linking (chart G) lo hi D P).final (lent p (search_leaves K.words G hi Y) b s) ≡ ran_by K G (linking (chart G) lo hi D P).final (lent p Y b s)
+  unfolding linking first_two
+  case_over D P =
+      let left = staying_pairs (via_either (chart G) lo hi) D P in
       let c = shrunk_candidate (chart G).depots (via_either (chart G) lo hi) D P in
-      ran_over K G hi Y p b s (rounds (chart G) (length (chart G).depots) (first_two (chart G) lo hi c))
-      (rounds_over K.words G hi Y (length (chart G).depots) hi (unskipped_round (chart G) lo (start c)))
+      by_test (λ o. ran_by K G o.final (lent p (search_leaves K.words G hi Y) b s) ≡ ran_by K G o.final (lent p Y b s)) (any_pair (chart G).depots left || eqb D 0)
+      (λ x. ran_over K G hi Y p b s (searched_twice (chart G) lo hi D left) (twice_over D left))
+      (λ x. ran_over K G hi Y p b s (rounds (chart G) (length (chart G).depots) (first_two (chart G) lo hi c))
+      (rounds_over K.words G hi Y (length (chart G).depots) hi (unskipped_round (chart G) lo (start c))))
 
   pub relinked_over : (D : ℕ) → relinked_by K G lo hi D (lent p (search_leaves K.words G hi Y) b s) ≡ relinked_by K G lo hi D (lent p Y b s)
-  unfolding relinked_by linking
-  relinked_over D =
-      ap (figured (linking (chart G) lo hi D (table_bit K.words p)).change)
-      (case_over (any_pair (chart G).depots (pairs_left (chart G) lo hi D (table_bit K.words p)) || eqb D 0) D (table_bit K.words p))
+  unfolding relinked_by
+  relinked_over D = ap (figured (linking (chart G) lo hi D (table_bit K.words p)).change) (case_over D (table_bit K.words p))
