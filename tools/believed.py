@@ -31,6 +31,7 @@ GROUPS = [
     ('the table of cases', '', ['cases_hold']),
     ('stale pairs, in the midst of dropping', '', ['done_joined']),
     ('how far one notice moves the chain', '', ['opening_moves', 'linking_moves', 'map_moves', 'call_moves', 'histories_move']),
+    ('the greatest figures', '', ['greatest_figures']),
 ]
 
 USE = re.compile(r'^\s*(?:ghost )?use (\S+?)(?:\.\{(.*)\}| as (\S+));?$')

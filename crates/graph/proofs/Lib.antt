@@ -34,6 +34,7 @@ pub mod Nearby
 pub mod Paths
 pub mod NearCases
 pub mod Summary
+pub mod Greatest
 pub mod SummaryCases
 pub mod Closed
 pub mod Renamed

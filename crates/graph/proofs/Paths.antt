@@ -20,7 +20,7 @@ use Rattle.graph.proofs.Walks.{append, reverse}
 
 -- ---- its links
 
-linked_is : (k u v : ℕ) → T ((path k).linked u v) → (u < k) × (v < k) × ((suc u ≡ v) ⊎ (u ≡ suc v))
+pub linked_is : (k u v : ℕ) → T ((path k).linked u v) → (u < k) × (v < k) × ((suc u ≡ v) ⊎ (u ≡ suc v))
 unfolding path
 linked_is k u v h =
     let p = and_parts (ltb u k && ltb v k) (eqb (suc u) v || eqb u (suc v)) (t→true (ltb u k && ltb v k && (eqb (suc u) v || eqb u (suc v))) h) in
@@ -31,7 +31,7 @@ linked_is k u v h =
     go (inl e) = inl (eqb-true (suc u) v e)
     go (inr e) = inr (eqb-true u (suc v) e)
 
-linked_by_lem : (k u v : ℕ) → u < k → v < k → (suc u ≡ v) ⊎ (u ≡ suc v) → T ((path k).linked u v)
+pub linked_by_lem : (k u v : ℕ) → u < k → v < k → (suc u ≡ v) ⊎ (u ≡ suc v) → T ((path k).linked u v)
 unfolding path
 linked_by_lem k u v l m e = true→t (and_from _ _ (and_from _ _ (lt-ltb u k l) (lt-ltb v k m)) (go e))
   where
@@ -39,7 +39,7 @@ linked_by_lem k u v l m e = true→t (and_from _ _ (and_from _ _ (lt-ltb u k l) 
     go (inl e) = or_left _ (eqb u (suc v)) (eq-eqb (suc u) v e)
     go (inr e) = or_right (eqb (suc u) v) _ (eq-eqb u (suc v) e)
 
-open_is : (k u : ℕ) → T ((path k).is_open u) → u < k
+pub open_is : (k u : ℕ) → T ((path k).is_open u) → u < k
 unfolding path
 open_is k u o = ltb-true u k (t→true (ltb u k) o)
 
@@ -67,7 +67,7 @@ number_is k = length-range k
 
 -- ---- it is sound and connected
 
-path_sound : (k : ℕ) → IsSound (path k)
+pub path_sound : (k : ℕ) → IsSound (path k)
 path_sound k = record {
   listed = listed_is k;
   once = once_is k;

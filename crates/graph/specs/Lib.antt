@@ -61,3 +61,5 @@ pub mod Branch
 pub mod Groups
 -- 31. many searches in one sweep of the link table. No call gives it yet: nobody has to believe this file
 pub mod Sweep
+-- 32. the greatest figures: depots in a path, and depots all linked
+pub mod Greatest

@@ -5,6 +5,7 @@
 ghost use Rattle.graph.specs.Correct.{ReckonsRight};
 ghost use Rattle.graph.specs.Updates.{UpdatesLawful};
 ghost use Rattle.graph.specs.Movement.{OpeningMoves, LinkingMoves};
+ghost use Rattle.graph.specs.Greatest.{GreatestFigures};
 
 // A whole reckoning gives the diameter and the farthest pairs, and covers every depot that it did not search.
 #[tactic(auto, using(crate::proofs::Theorems::reckoning_correct))]
@@ -27,4 +28,10 @@ pub fn opening_movement()
 #[tactic(auto, using(crate::proofs::Movement::linking_moves))]
 pub fn linking_movement()
     ensures { LinkingMoves }
+{}
+
+// The greatest figures: the chain of depots in a path, the pairs of depots all linked.
+#[tactic(auto, using(crate::proofs::Greatest::greatest_figures))]
+pub fn greatest_figures()
+    ensures { GreatestFigures }
 {}
