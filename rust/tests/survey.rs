@@ -567,6 +567,8 @@ fn a_closed_pipe() {
     let fifo = folder.put_fifo("fifo");
     let mut child = folder.start(&["fifo", "pair.txt"]);
     drop(child.stdout.take());
+    // A process that another test is just starting may hold our end for a moment more.
+    thread::sleep(Duration::from_millis(500));
     feed(fifo, drop);
     let output = child.wait_with_output().expect("it ends");
     assert_eq!((output.status.code(), output.stderr.as_slice()), (Some(1), b"survey: standard output: Broken pipe\n".as_slice()));
