@@ -47,7 +47,7 @@ module _ (G : Network) (sound : IsSound G) (n : ℕ) (inside : (v : ℕ) → T (
   small : length (vertices G) < unreached
   small = lt_of_le_of_lt enough few
 
-  -- closed codes have no links, so that it is the same to cases_Bool for neighbours among all codes or among the open ones
+  -- closed codes have no links, so that it is the same to look for neighbours among all codes or among the open ones
   near_same : (h : ℕ → ℕ) (k v : ℕ) → anyb (λ w. eqb (h w) k && G.linked w v) (range n) ≡ anyb (λ w. eqb (h w) k && G.linked w v) (vertices G)
   near_same h k v = same_test (anyb p (range n)) (anyb p (vertices G)) to from
     where

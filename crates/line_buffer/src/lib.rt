@@ -84,7 +84,45 @@ fn copy_first(line: &mut [u8], text: &[u8], count: usize)
     requires { (count ≤ length line.old) × (count ≤ length text.now) }
     ensures { line.new ≡ overwrite (take count text.now) line.old }
 {
-    line[..count].copy_from_slice(&text[..count]);
+    copy_text(&mut line[..count], &text[..count]);
+}
+
+// Copies a text. Its length is no constant, so that std's copy would be a call of the C library,
+// which the archive for C is not to need more of: short texts go as words, long ones byte by byte,
+// which the compiler does many at a time.
+fn copy_text(to: &mut [u8], text: &[u8])
+    requires { length to.old ≡ length text.now }
+    ensures { to.new ≡ text.now }
+{
+    match text.len() {
+        4..=8 => copy_ends(to, text, 4),
+        9..=16 => copy_ends(to, text, 8),
+        17..=32 => copy_ends(to, text, 16),
+        _ => copy_bytes(to, text),
+    }
+}
+
+// Copies a text of k to twice k bytes: k at its start and k at its end, which are all of it. Each is
+// a word or two where k is a constant.
+#[inline]
+fn copy_ends(to: &mut [u8], text: &[u8], k: usize)
+    requires { (length to.old ≡ length text.now) × (k ≤ length text.now) × (length text.now ≤ k + k) }
+    ensures { to.new ≡ text.now }
+{
+    let end = text.len() - k;
+    to[..k].copy_from_slice(&text[..k]);
+    to[end..].copy_from_slice(&text[end..]);
+}
+
+// Copies a text byte by byte.
+#[tactic(auto, using(lists::proofs::Copies::copied_none))]
+fn copy_bytes(to: &mut [u8], text: &[u8])
+    requires { length to.old ≡ length text.now }
+    ensures { to.new ≡ text.now }
+{
+    for i in 0..text.len() {
+        to[i] = text[i];
+    }
 }
 
 // Takes the bytes of a piece up to the end of a line, or all that are left of it. A line's first bytes, as many as the longest has, decide how it reads, so

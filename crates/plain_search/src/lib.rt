@@ -40,7 +40,7 @@ pub enum Refusal {
 }
 
 // The plain list, a set of open codes and a set of links; and what a search from every depot finds on it.
-#[derive(Drop)]
+#[derive(Clone, Copy)]
 pub struct Sheet {
     // Whether a code is that of an open depot.
     pub depots: [bool; CODES],

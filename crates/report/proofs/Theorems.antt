@@ -157,16 +157,16 @@ report_refusals r buffer = subst (Refuses cs buffer) (same short) (refuses_by ts
     same true = refl
     same false = refl
 
--- ---- the part handed back: the line itself, and nothing exactly where the buffer is short
+-- ---- the part handed back, and the whole buffer: the line itself, with the rest as it was, and nothing exactly where the buffer is short
 
-abbrev part_of : Left ℕ (List ℕ) → List ℕ
-part_of left = take (result_unwrap_or left.answer 0) left.lent
+abbrev handed_back : Left ℕ (List ℕ) → List (List ℕ)
+handed_back left = take (result_unwrap_or left.answer 0) left.lent ∷ left.lent ∷ []
 
-pub part_written : (r : ReportFields) (buffer : List ℕ) → buffer_limit ≤ length buffer → part_of (report_call r buffer) ≡ report_line r
+pub part_written : (r : ReportFields) (buffer : List ℕ) → buffer_limit ≤ length buffer → handed_back (report_call r buffer) ≡ report_line r ∷ overwrite (report_line r) buffer ∷ []
 unfolding report_call
-part_written r buffer h = rw (le-ltb (length buffer) buffer_limit h) (overwrite_take (report_line r) buffer)
+part_written r buffer h = rw (le-ltb (length buffer) buffer_limit h) (ap (λ (part : List ℕ). part ∷ overwrite (report_line r) buffer ∷ []) (overwrite_take (report_line r) buffer))
 
-pub part_refused : (r : ReportFields) (buffer : List ℕ) → length buffer < buffer_limit → part_of (report_call r buffer) ≡ []
+pub part_refused : (r : ReportFields) (buffer : List ℕ) → length buffer < buffer_limit → handed_back (report_call r buffer) ≡ [] ∷ buffer ∷ []
 unfolding report_call
 part_refused r buffer h = rw (lt-ltb (length buffer) buffer_limit h) refl
 

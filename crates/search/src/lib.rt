@@ -160,7 +160,7 @@ pub fn last_layer<'a>(even: &'a [u64], odd: &'a [u64], depth: u16) -> &'a [u64]
 }
 
 // The answer of a search with its last layer, and what the two layer rows hold after it.
-#[derive(Drop)]
+#[derive(Clone, Copy)]
 pub struct Rows<'a> {
     pub found: Result<Reach, Refusal>,
     pub last: &'a [u64],
